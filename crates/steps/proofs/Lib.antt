@@ -1,0 +1,14 @@
+pub mod Signed
+pub mod Powers
+pub mod Entries
+pub mod Rule
+pub mod Slope
+pub mod Addends
+pub mod AddExp
+pub mod Marks
+pub mod Sums
+pub mod OneMinus
+pub mod Probs
+pub mod Casts
+pub mod Counting
+pub mod Samples

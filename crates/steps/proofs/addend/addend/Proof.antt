@@ -1,0 +1,72 @@
+-- `steps::addend::addend` meets its contract: the lent table's entries are the knots around d.
+-- Assumes nothing.
+use mathlib.Core.Path.{_≡_}
+use Prim.Native.Nat.{_+_, _/_}
+use native.Mathlib.Omega.{arith}
+use borrow.Author.Needs.{needs}
+use Rattle.steps.specs.Knots.{T}
+use Rattle.steps.specs.Addend as spec
+use Rattle.steps.proofs.Addends.{line, on-line, slope-of}
+use Rattle.steps.proofs.addend.addend.Statement.{statement}
+use Rattle.steps.proofs.addend.addend.Tie as tie
+
+near-requires : tie.Need-near-requires
+near-requires c κs = search needs
+
+mul-wide : tie.Need-mul-wide
+mul-wide c = search needs
+
+element-copy-out-wide : tie.Need-element-copy-out-wide
+element-copy-out-wide c = search needs
+
+wide-requires : tie.Need-wide-requires
+wide-requires c κs = search needs
+
+add-wide : tie.Need-add-wide
+add-wide c = search needs
+
+mul-wide-2 : tie.Need-mul-wide-2
+mul-wide-2 c = search needs
+
+element-copy-out-wide-2 : tie.Need-element-copy-out-wide-2
+element-copy-out-wide-2 c = search needs
+
+wide-requires-2 : tie.Need-wide-requires-2
+wide-requires-2 c κs = search needs
+
+-- the knots around the distance that is looked up
+x-is : (c : tie.After-wide2) → c .before .before .wide .result ≡ T (c .before .before .before .before .near .result / 32)
+unfolding T
+x-is c = cc
+
+y-is : (c : tie.After-wide2) → c .wide2 .result ≡ T (c .before .before .before .before .near .result / 32 + 1)
+unfolding T
+y-is c = cc
+
+line-requires : tie.Need-line-requires
+line-requires c κs =
+    let e = c .before .before .before .before .near in
+    let g = slope-of (e .result) (e .ensures .0) in
+    let x = x-is c in
+    let y = y-is c in (omega arith, omega arith, omega arith)
+
+returns : tie.Need-returns
+unfolding line
+returns c =
+    let e = c .before .before .before .before .before .near in
+    cc (x-is (c .before), y-is (c .before), on-line (e .result) (e .ensures .0))
+
+pub addend-spec : {M : Type 1} → statement M
+addend-spec =
+    tie.close
+    (tie.spec
+    near-requires
+    mul-wide
+    element-copy-out-wide
+    wide-requires
+    add-wide
+    mul-wide-2
+    element-copy-out-wide-2
+    wide-requires-2
+    line-requires
+    returns)

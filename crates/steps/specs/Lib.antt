@@ -1,0 +1,7 @@
+pub mod Table
+pub mod Knots
+pub mod Addend
+pub mod Logs
+pub mod OneMinus
+pub mod Probs
+pub mod Phred

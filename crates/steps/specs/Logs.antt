@@ -1,0 +1,55 @@
+-- 01, section 1: log probabilities. A finite one is a whole number of steps, 4,096 to a doubling; the mark is probability zero.
+-- Assumes nothing.
+use mathlib.Core.Bool.{Bool, false, cond}
+use mathlib.Core.List.{List, [], _∷_}
+use Prim.Native.Nat.{ℕ}
+use lib.Dec.{eqb}
+use lib.IntN.{ℤ, pos, negsuc, natAbs, _+ℤ_, _-ℤ_}
+use lib.Signed.{leZ}
+use Rattle.steps.specs.Addend.{addend}
+
+pub data Log : Type 0 where
+  mark : Log
+  steps : ℤ → Log
+
+unfoldable pub larger : ℤ → ℤ → ℤ
+larger a b = cond (leZ b a) a b
+
+unfoldable pub difference : ℤ → ℤ → ℕ
+difference a b = natAbs (a -ℤ b)
+
+-- ln_add_exp of two finite ones: the larger + A(difference)
+unfoldable pub addExp : ℤ → ℤ → ℤ
+addExp a b = larger a b +ℤ pos (addend (difference a b))
+
+-- ln_add_exp: the mark gives the other one
+unfoldable pub lnAddExp : Log → Log → Log
+lnAddExp mark b = b
+lnAddExp (steps a) mark = steps a
+lnAddExp (steps a) (steps b) = steps (addExp a b)
+
+-- ln_sum_exp adds from the left, starting at the mark
+unfoldable pub lnSumFrom : Log → List Log → Log
+lnSumFrom a [] = a
+lnSumFrom a (x ∷ xs) = lnSumFrom (lnAddExp a x) xs
+
+unfoldable pub lnSumExp : List Log → Log
+lnSumExp xs = lnSumFrom mark xs
+
+-- the same over finite ones, from the first of them: `sum-steps` of proofs/Sums.antt
+unfoldable pub sumExp : ℤ → List ℤ → ℤ
+sumExp a [] = a
+sumExp a (x ∷ xs) = sumExp (addExp a x) xs
+
+-- how an i64 of the code is read: the least one is the mark
+unfoldable pub isMark : ℤ → Bool
+isMark (pos n) = false
+isMark (negsuc n) = eqb n 9223372036854775807
+
+unfoldable pub logOf : ℤ → Log
+logOf z = cond (isMark z) mark (steps z)
+
+-- how far from 0 a log probability is; the mark, of which no sum is made, counts as 0
+unfoldable pub size : Log → ℕ
+size mark = 0
+size (steps z) = natAbs z

@@ -1,0 +1,273 @@
+#!/usr/bin/env python3
+"""Writes the recorded requests of the program and the answers that document 01 gives to them.
+
+Run at the repository's root: python3 tools/record.py
+It writes crates/condorbed/stdin and crates/condorbed/stdout. The answers come from tools/model.py, which is
+written from the document, so that the gate's comparison holds the proved program against a second reading.
+A change of the layout is a change of the strides in tools/model.py and a new run of this script.
+"""
+import random
+
+import model
+from model import Call, Case, Fragment, Layout, Refused, Variant, encode, pattern
+
+FILL = {"u8": 170, "i32": 77, "u32": 77, "i64": 77, "f64": pattern(77.0)}
+
+
+def slice_text(values):
+    return " ".join(map(str, [len(values)] + list(values)))
+
+
+def answer(refusal, fields, outputs):
+    first = "refused %d %d" % (refusal.number, refusal.place) if refusal else " ".join(["done"] + fields)
+    return "\n".join([first] + [" ".join(map(str, o)) for o in outputs]) + "\n"
+
+
+class Record:
+    """The requests and the answers, in order."""
+
+    def __init__(self):
+        self.requests, self.answers = [], []
+
+    def note(self, text):
+        self.requests.append("# %s\n" % text)
+
+    def add(self, request, reply):
+        self.requests.append(request + "\n")
+        self.answers.append(reply)
+
+    def check(self, words, bases):
+        try:
+            model.check(words, bases)
+            refusal = None
+        except Refused as r:
+            refusal = r
+        self.add("check\n%s\n%s" % (slice_text(words), slice_text(bases)), answer(refusal, [], []))
+
+    def filter(self, words, bases, quals, density_qual, dist, count, max_depth, room):
+        before = [FILL["u8"]] * room
+        try:
+            after, refusal = model.var_filter(words, bases, quals, density_qual, dist, count, max_depth, before), None
+        except Refused as r:
+            after, refusal = before, r
+        request = "filter\n%s\n%s\n%s\n%d %d %d %d\n%d" % (
+            slice_text(words), slice_text(bases), slice_text([pattern(q) for q in quals]),
+            pattern(density_qual), dist, count, max_depth, room)
+        self.add(request, answer(refusal, [], [after]))
+
+
+def sample():
+    """Four variants (a single base, three alleles, an indel, one allele) and five fragments."""
+    variants = [
+        Variant(10, 30, (0, 1), ["A", "G"]),
+        Variant(10, 0, (2, 0), ["C", "T", "CTT"]),
+        Variant(25, 7, (1, 1), ["ACG", "A"]),
+        Variant(90, 2147483647, (0, 0), ["T"]),
+    ]
+    fragments = [
+        Fragment(0, [Call(0, 1, -5796, -1700), Call(1, 2, -9000, -40), Call(3, 0, -2000, -1)]),
+        Fragment(1, [Call(1, 0, -262144, 0)]),
+        Fragment(0, []),
+        Fragment(1, [Call(0, 0, 0, -262144), Call(2, 1, -2001, -3)]),
+        Fragment(0, [Call(2, 0, -13607, -12), Call(3, 0, -13607, -12)]),
+    ]
+    return Case(variants, fragments, -2000)
+
+
+def with_word(words, i, value):
+    return words[:i] + [value] + words[i + 1:]
+
+
+def heads(rec):
+    rec.note("number 1: fewer than four words, each word out of its range, the length")
+    words, bases = encode(sample())
+    for short in range(4):
+        rec.check(words[:short], bases)
+    limits = [(-1, 1025), (-1, 4097), (-1, 16385), (-262145, 1)]
+    for i, pair in enumerate(limits):
+        for value in pair:
+            rec.check(with_word(words, i, value), bases)
+    rec.check(words[:-1], bases)
+    rec.check(words + [0], bases)
+    rec.check([1025, -1, 0, 1], [])
+    rec.check([0, 0, 0, -262144], [])
+    rec.check([0, 0, 0, 0], [])
+
+
+def variants(rec):
+    rec.note("number 2: each field of a variant record out of its range; a position that falls has the later one's place")
+    words, bases = encode(sample())
+    at = Layout(*words[:3])
+    faults = [(0, 0, -1), (2, 0, 9), (3, 0, 24), (1, 1, -1), (0, 2, -1), (0, 2, 2), (1, 3, 3), (3, 3, 1), (0, 4, 0), (1, 4, 4),
+              (2, 4, -1), (0, 5, 0), (1, 7, 65), (2, 7, 1), (3, 6, -1), (0, 7, 2147483647), (1, 0, -2147483648)]
+    for v, field, value in faults:
+        rec.check(with_word(words, at.variant(v) + field, value), bases)
+    two = with_word(with_word(words, at.variant(3) + 1, -1), at.variant(1) + 3, 9)
+    rec.check(two, bases)
+
+
+def alleles(rec):
+    rec.note("number 3: the length before any byte, then the first variant with a byte other than A, C, G, T")
+    words, bases = encode(sample())
+    rec.check(words, bases[:-1])
+    rec.check(words, bases + [65])
+    rec.check(words, [])
+    for place, byte in [(0, 97), (2, 0), (len(bases) - 1, 78), (7, 255)]:
+        rec.check(words, with_word(bases, place, byte))
+    rec.check(words, with_word(bases, 0, 1) + [65])
+    rec.check(words, with_word(with_word(bases, 8, 1), 3, 1))
+
+
+def calls(rec):
+    rec.note("number 4: the record's number, from 1")
+    words, bases = encode(sample())
+    at = Layout(*words[:3])
+    faults = [(1, 0, -1), (8, 0, 4), (1, 1, 2), (2, 1, 3), (3, 1, -1), (4, 2, -262145), (5, 2, 1), (6, 3, -262145), (8, 3, 1)]
+    for r, field, value in faults:
+        rec.check(with_word(words, at.call(r) + field, value), bases)
+    rec.check([0, 0, 1, 0, 0, 0, 0, 0, 0], [])
+
+
+def chains(rec):
+    rec.note("number 5: the fragment, the later one where a record is shared; F for a record that none reaches")
+    words, bases = encode(sample())
+    at = Layout(*words[:3])
+    for f, field, value in [(0, 0, -1), (1, 0, 9), (2, 0, 1), (2, 0, 2), (1, 1, 2), (4, 1, -1), (2, 0, -2147483648)]:
+        rec.check(with_word(words, at.fragment(f) + field, value), bases)
+    for r, value in [(1, 1), (2, 1), (4, 5), (3, 9), (8, -1), (7, 7), (6, 7), (5, 8), (1, 3)]:
+        rec.check(with_word(words, at.call(r) + 4, value), bases)
+    rec.check(with_word(words, at.call(2) + 0, 0), bases)
+    rec.check(with_word(words, at.fragment(3) + 0, 6), bases)
+    rec.check(with_word(words, at.fragment(4) + 0, 0), bases)
+    rec.check([1, 0, 1, 0, 0, 0, 0, 0, 1, 1, 0, 0, 0, 0, 0, 0, 0], [65])
+    shared = with_word(with_word(words, at.fragment(1) + 0, 1), at.fragment(0) + 1, 5)
+    rec.check(shared, bases)
+
+
+def order_of_numbers(rec):
+    rec.note("several faults at once: the lower number first")
+    words, bases = encode(sample())
+    at = Layout(*words[:3])
+    bad = with_word(words, at.call(5) + 4, 1)
+    rec.check(bad, bases)
+    bad = with_word(bad, at.call(8) + 2, 5)
+    rec.check(bad, bases)
+    rec.check(bad, with_word(bases, 9, 65 + 32))
+    bad = with_word(bad, at.variant(3) + 0, 1)
+    rec.check(bad, with_word(bases, 0, 97))
+    rec.check(with_word(bad, 3, 5), bases)
+
+
+def accepted(rec):
+    rec.note("accepted: the sample, other numberings of its records, the ends of every range")
+    words, bases = encode(sample())
+    rec.check(words, bases)
+    rec.check(*encode(sample(), [2, 5, 8, 1, 3, 4, 6, 7]))
+    wide = Case([Variant(0, 0, (0, 0), ["A" * 64, "C" * 64, "G" * 64]), Variant(2147483647, 2147483647, (2, 2), ["A", "A", "A"])],
+                [Fragment(1, [Call(0, 2, -262144, -262144), Call(1, 2, 0, 0)])], -262144)
+    rec.check(*encode(wide))
+
+
+def spread(positions, depths=None):
+    depths = depths or [0] * len(positions)
+    return Case([Variant(p, d, (0, 1), ["A", "C"]) for p, d in zip(positions, depths)], [], 0)
+
+
+def filters(rec):
+    rec.note("var_filter: density_count 2, three in reach mark none, four mark all")
+    nan, inf = float("nan"), float("inf")
+    big = 4294967295
+    three, four = encode(spread([5, 6, 7])), encode(spread([5, 6, 7, 8]))
+    rec.filter(*three, [50.0] * 3, 20.0, 10, 2, 100, 3)
+    rec.filter(*four, [50.0] * 4, 20.0, 10, 2, 100, 4)
+    rec.note("the edge of the reach, weak ones between, equality with density_qual, overlapping stretches")
+    rec.filter(*four, [50.0] * 4, 20.0, 3, 2, 100, 4)
+    rec.filter(*four, [50.0] * 4, 20.0, 2, 2, 100, 4)
+    seven = encode(spread([5, 6, 7, 8, 9, 10, 30], [0, 5, 6, 7, 0, 0, 9]))
+    rec.filter(*seven, [50.0, 1.0, 50.0, 1.0, 50.0, 50.0, 50.0], 50.0, 5, 2, 6, 7)
+    rec.filter(*seven, [50.0, 1.0, 50.0, 1.0, 50.0, 50.0, 50.0], 50.0, 5, 3, 5, 9)
+    rec.filter(*seven, [1.0, 50.0, 50.0, 50.0, 1.0, 50.0, 50.0], 49.5, 2, 1, 0, 7)
+    rec.filter(*seven, [50.0] * 7, 50.0, 0, 0, big, 7)
+    rec.filter(*encode(spread([4, 4, 4])), [1.0] * 3, 1.0, 0, 1, 0, 3)
+    rec.note("NaN and infinite qualities are not below; limits are any u32; the case's dp counts for depth")
+    rec.filter(*four, [nan, inf, -inf, nan], 20.0, 10, 1, 100, 4)
+    far = encode(spread([0, 2147483646, 2147483647], [2147483647, 0, 1]))
+    rec.filter(*far, [0.0] * 3, -1.0, big, 1, 2147483646, 3)
+    rec.filter(*far, [0.0] * 3, -1.0, 2147483648, big, 2147483648, 3)
+    rec.note("N = 0; longer slices; numbers 10 and 11 and their order")
+    rec.filter([0, 0, 0, 0], [], [], 0.0, 0, 0, 0, 0)
+    rec.filter([0, 0, 0, 0], [], [1.0], 0.0, 0, 0, 0, 2)
+    rec.filter(*four, [50.0] * 6, 20.0, 10, 2, 100, 9)
+    rec.filter(*four, [50.0] * 3, 20.0, 10, 2, 100, 4)
+    rec.filter(*four, [50.0] * 4, 20.0, 10, 2, 100, 3)
+    rec.filter(*four, [], inf, 10, 2, 100, 0)
+    for odd in (nan, inf, -inf):
+        rec.filter(*four, [50.0] * 4, odd, 10, 2, 100, 4)
+    words, bases = four
+    rec.filter(words[:-1], bases, [], nan, 0, 0, 0, 2)
+
+
+def random_case(rng, most=6):
+    n = rng.randrange(most)
+    pos0, variants = 0, []
+    for _ in range(n):
+        pos0 += rng.choice([0, 1, 1, 2, 7])
+        k = rng.randint(1, 3)
+        alleles = ["".join(rng.choice("ACGT") for _ in range(rng.choice([1, 1, 1, 2, 3]))) for _ in range(k)]
+        variants.append(Variant(pos0, rng.choice([0, 3, 9]), (rng.randrange(k), rng.randrange(k)), alleles))
+    fragments = []
+    for _ in range(rng.randrange(most)):
+        chosen = sorted(rng.sample(range(n), rng.randint(0, n)))
+        fragments.append(Fragment(rng.randrange(2), [
+            Call(v, rng.randrange(len(variants[v].alleles)), -rng.choice([0, 1, 1999, 2000, 2001, 262144]), -rng.choice([0, 5, 262144]))
+            for v in chosen]))
+    return Case(variants, fragments, -rng.choice([0, 2000, 262144]))
+
+
+def damaged(rec, rng, count):
+    rec.note("random small cases, whole and damaged")
+    for i in range(count):
+        case = random_case(rng)
+        total = sum(len(f.calls) for f in case.fragments)
+        places = sorted(range(1, total + 1), key=lambda _: rng.random())
+        by_fragment, start = [], 0
+        for f in case.fragments:
+            by_fragment += sorted(places[start:start + len(f.calls)])
+            start += len(f.calls)
+        words, bases = encode(case, by_fragment)
+        for _ in range(i % 3):
+            if words and rng.random() < 0.9:
+                at = rng.randrange(len(words))
+                words = with_word(words, at, rng.choice([words[at] + 1, words[at] - 1, 0, 1, -1, 2, 3, 65, -262145]))
+            elif bases:
+                bases = with_word(bases, rng.randrange(len(bases)), rng.randrange(256))
+        rec.check(words, bases)
+
+
+def random_filters(rec, rng, count):
+    rec.note("random filters")
+    for _ in range(count):
+        case = random_case(rng, 14)
+        n = len(case.variants)
+        quals = [rng.choice([1.0, 19.5, 20.0, 20.5, 500.0]) for _ in range(n)]
+        rec.filter(*encode(case), quals, 20.0, rng.randrange(12), rng.randrange(4), rng.choice([0, 2, 3, 8]), n + rng.randrange(2))
+
+
+def main():
+    rec, rng = Record(), random.Random(1)
+    for part in (accepted, heads, variants, alleles, calls, chains, order_of_numbers, filters):
+        part(rec)
+    damaged(rec, rng, 150)
+    random_filters(rec, rng, 60)
+    rec.note("an integer that does not fit its type ends the program")
+    rec.add("check 1 2147483648 0", "unreadable\n")
+    rec.requests.append("check 4 0 0 0 0 0\n")
+    with open("crates/condorbed/stdin", "w") as out:
+        out.write("# Written by tools/record.py.\n" + "".join(rec.requests))
+    with open("crates/condorbed/stdout", "w") as out:
+        out.write("".join(rec.answers))
+    print("%d requests" % len(rec.answers))
+
+
+if __name__ == "__main__":
+    main()
