@@ -1,0 +1,4 @@
+pub mod SplitMix
+pub mod Permutation
+pub mod Orders
+pub mod Answers

@@ -1,0 +1,201 @@
+-- The chains of an accepted case share no record, so that they have at most C records together: these are distinct numbers of 1..C.
+-- Assumes nothing.
+use mathlib.Core.Path.{_≡_, refl, _∙_, ap}
+use mathlib.Core.Bool.{Bool, true, false, not, cond, _&&_}
+use mathlib.Core.List.{List, [], _∷_}
+use Prim.Native.Nat.{ℕ, zero, suc, _+_, _≤_, _<_}
+use native.Mathlib.Nat.{le-refl}
+use native.Mathlib.Omega.{arith}
+use native.Mathlib.Decide.{decLt, ℕ-discrete}
+use borrow.Author.Tests.{leb-true, eq-eqb, ne-eqb}
+use lib.ListN.{length, length-append, length-map}
+use lib.IntN.{ℤ}
+use lib.Dec.{eqb, leb}
+use Rattle.variants_and_fragments.specs.declared.Sizes.{Sizes}
+use Rattle.variants_and_fragments.specs.Chain.{nextCallAt, firstCallAt, isRecord, linkOk, chainFrom, chainOf, memb, pushAll, reached, goodChain}
+use Rattle.variants_and_fragments.specs.Accepted.{CaseIn}
+use Rattle.variants_and_fragments.proofs.Bools.{both, or-off, or-right, not-on}
+use Rattle.variants_and_fragments.specs.Pile.{callsFrom}
+
+distinct : List ℕ → Bool
+distinct [] = true
+distinct (x ∷ xs) = not (memb x xs) && distinct xs
+
+without : ℕ → List ℕ → List ℕ
+without x [] = []
+without x (y ∷ ys) = cond (eqb x y) (without x ys) (y ∷ without x ys)
+
+without-in : (x y : ℕ) (ys : List ℕ) → x ≡ y → without x (y ∷ ys) ≡ without x ys
+unfolding without
+without-in x y ys e = simp (eq-eqb _ _ e)
+
+without-out : (x y : ℕ) (ys : List ℕ) → (x ≡ y → ⊥) → without x (y ∷ ys) ≡ y ∷ without x ys
+unfolding without
+without-out x y ys e = simp (ne-eqb _ _ e)
+
+-- x is not in l: nothing is taken out
+keeps : (x : ℕ) (l : List ℕ) → memb x l ≡ false → length l ≤ length (without x l)
+unfolding memb without
+keeps x [] h = le-refl 0
+keeps x (y ∷ ys) h = let o = or-off (eqb x y) (memb x ys) h in rw (o .0) (omega (arith, keeps x ys (o .1)))
+
+-- of a list with no doubles, one at most
+one-out : (x : ℕ) (l : List ℕ) → distinct l ≡ true → length l ≤ suc (length (without x l))
+unfolding distinct
+one-out x [] h = omega arith
+one-out x (y ∷ ys) h =
+    let d = both (not (memb y ys)) (distinct ys) h in
+    elim (ℕ-discrete x y) [
+      | yes e ↦ rw (without-in x y ys e) (let k : length ys ≤ length (without x ys) = keeps x ys (rw e (not-on _ (d .0))) in omega arith)
+      | no e ↦ rw (without-out x y ys e) (omega (arith, one-out x ys (d .1)))
+    ]
+
+memb-out : (y x : ℕ) (l : List ℕ) → memb y l ≡ false → memb y (without x l) ≡ false
+unfolding memb without
+memb-out y x [] h = refl
+memb-out y x (z ∷ zs) h =
+    let o = or-off (eqb y z) (memb y zs) h in
+    elim (ℕ-discrete x z) [
+      | yes e ↦ rw (without-in x z zs e) (memb-out y x zs (o .1))
+      | no e ↦ rw (without-out x z zs e, o .0) (memb-out y x zs (o .1))
+    ]
+
+distinct-out : (x : ℕ) (l : List ℕ) → distinct l ≡ true → distinct (without x l) ≡ true
+unfolding distinct without
+distinct-out x [] h = refl
+distinct-out x (y ∷ ys) h =
+    let d = both (not (memb y ys)) (distinct ys) h in
+    elim (ℕ-discrete x y) [
+      | yes e ↦ rw (without-in x y ys e) (distinct-out x ys (d .1))
+      | no e ↦ rw (without-out x y ys e, memb-out y x ys (not-on _ (d .0))) (distinct-out x ys (d .1))
+    ]
+
+-- all of l are in 1..c
+data Within (c : ℕ) : List ℕ → Type 0 where
+  none : Within c []
+  more : {x : ℕ} {xs : List ℕ} → 1 ≤ x → x ≤ c → Within c xs → Within c (x ∷ xs)
+
+within-out : (c : ℕ) (l : List ℕ) → Within (suc c) l → Within c (without (suc c) l)
+unfolding without
+within-out c [] none = none
+within-out c (y ∷ ys) (more a b r) = elim (ℕ-discrete (suc c) y) [
+  | yes e ↦ rw (without-in (suc c) y ys e) (within-out c ys r)
+  | no e ↦ rw (without-out (suc c) y ys e) (more a (omega arith) (within-out c ys r))
+]
+
+within-zero : (l : List ℕ) → Within 0 l → length l ≤ 0
+within-zero [] none = le-refl 0
+within-zero (y ∷ ys) (more a b r) = absurd (omega arith)
+
+pigeon : (c : ℕ) (l : List ℕ) → distinct l ≡ true → Within c l → length l ≤ c
+pigeon zero l d w = within-zero l w
+pigeon (suc c) l d w = omega (arith, one-out (suc c) l d, pigeon c (without (suc c) l) (distinct-out (suc c) l d) (within-out c l w))
+
+-- ---- chains
+good-distinct : (w : List ℤ) (s : Sizes) (rs l : List ℕ) → goodChain w s l rs ≡ true → distinct l ≡ true → distinct (pushAll rs l) ≡ true
+unfolding goodChain pushAll distinct
+good-distinct w s [] l h d = d
+good-distinct w s (r ∷ rs) l h d =
+    let a = both (not (memb r l)) (linkOk w s r && goodChain w s (r ∷ l) rs) h in
+    let b = both (linkOk w s r) (goodChain w s (r ∷ l) rs) (a .1) in
+    good-distinct w s rs (r ∷ l) (b .1) (rw (a .0) d)
+
+push-within : (w : List ℤ) (s : Sizes) (k r : ℕ) (l : List ℕ) → Within (s .c) l → Within (s .c) (pushAll (chainFrom w s k r) l)
+unfolding chainFrom pushAll
+push-within w s zero r l h = h
+push-within w s (suc k) r l h = go (isRecord s r) refl (λ m i. push-within w s k (nextCallAt w s r) m i)
+  where
+    go : (t : Bool) → isRecord s r ≡ t → ((m : List ℕ) → Within (s .c) m → Within (s .c) (pushAll (chainFrom w s k (nextCallAt w s r)) m)) → Within (s .c) (pushAll (cond t (r ∷ chainFrom w s k (nextCallAt w s r)) []) l)
+    go false e rec = h
+    go true e rec = let b = both (leb 1 r) (leb r (s .c)) e in rec (r ∷ l) (more (leb-true 1 r (b .0)) (leb-true r (s .c) (b .1)) h)
+
+reached-ok : (w : List ℤ) (s : Sizes) → CaseIn w s → (f : ℕ) → f ≤ s .f → (distinct (reached w s f) ≡ true) × Within (s .c) (reached w s f)
+unfolding reached chainOf distinct
+reached-ok w s k zero l = (refl, none)
+reached-ok w s k (suc f) l =
+    let i = reached-ok w s k f (omega arith) in
+    (good-distinct w s (chainOf w s f) (reached w s f) (k .frags f (omega arith) .right) (i .0), push-within w s (s .c) (firstCallAt w s f) (reached w s f) (i .1))
+
+push-length : (rs l : List ℕ) → length (pushAll rs l) ≡ length rs + length l
+unfolding pushAll
+push-length [] l = omega arith
+push-length (r ∷ rs) l = push-length rs (r ∷ l) ∙ omega arith
+
+-- how many records the chains of the fragments below f have together
+pub chainLengths : List ℤ → Sizes → ℕ → ℕ
+chainLengths w s zero = 0
+chainLengths w s (suc f) = length (chainOf w s f) + chainLengths w s f
+
+reached-length : (w : List ℤ) (s : Sizes) (f : ℕ) → length (reached w s f) ≡ chainLengths w s f
+unfolding reached chainLengths
+reached-length w s zero = refl
+reached-length w s (suc f) = push-length (chainOf w s f) (reached w s f) ∙ ap (λ (n : ℕ). length (chainOf w s f) + n) (reached-length w s f)
+
+-- the calls of all chains are at most C
+pub chains-top : (w : List ℤ) (s : Sizes) → CaseIn w s → (f : ℕ) → f ≤ s .f → chainLengths w s f ≤ s .c
+chains-top w s k f l =
+    let r = reached-ok w s k f l in
+    omega (arith, pigeon (s .c) (reached w s f) (r .0) (r .1), reached-length w s f)
+
+-- ---- a record lies in one chain at most
+push-keeps : (r : ℕ) (rs l : List ℕ) → memb r l ≡ true → memb r (pushAll rs l) ≡ true
+unfolding pushAll memb
+push-keeps r [] l h = h
+push-keeps r (x ∷ rs) l h = push-keeps r rs (x ∷ l) (or-right (eqb r x) (memb r l) h)
+
+push-has : (r : ℕ) (rs l : List ℕ) → memb r rs ≡ true → memb r (pushAll rs l) ≡ true
+unfolding pushAll memb
+push-has r [] l h = let z : _≡_ {A = ℕ} 0 1 = cc in absurd (omega arith)
+push-has r (x ∷ rs) l h = elim (ℕ-discrete r x) [
+  | yes e ↦ push-keeps r rs (x ∷ l) (rw (eq-eqb r x e))
+  | no e ↦ push-has r rs (x ∷ l) (rw (ne-eqb r x e) at h)
+]
+
+reached-has : (w : List ℤ) (s : Sizes) (r f g : ℕ) → f < g → memb r (chainOf w s f) ≡ true → memb r (reached w s g) ≡ true
+unfolding reached
+reached-has w s r f zero l h = absurd (omega arith)
+reached-has w s r f (suc g) l h = elim (ℕ-discrete f g) [
+  | yes e ↦ push-has r (chainOf w s g) (reached w s g) (rw e at h)
+  | no e ↦ push-keeps r (chainOf w s g) (reached w s g) (reached-has w s r f g (omega arith) h)
+]
+
+good-fresh : (w : List ℤ) (s : Sizes) (r : ℕ) (rs l : List ℕ) → goodChain w s l rs ≡ true → memb r rs ≡ true → memb r l ≡ false
+unfolding goodChain memb
+good-fresh w s r [] l g h = let z : _≡_ {A = ℕ} 0 1 = cc in absurd (omega arith)
+good-fresh w s r (x ∷ rs) l g h =
+    let a = both (not (memb x l)) (linkOk w s x && goodChain w s (x ∷ l) rs) g in
+    let b = both (linkOk w s x) (goodChain w s (x ∷ l) rs) (a .1) in
+    elim (ℕ-discrete r x) [
+      | yes e ↦ rw e (not-on _ (a .0))
+      | no e ↦ or-off (eqb r x) (memb r l) (good-fresh w s r rs (x ∷ l) (b .1) (rw (ne-eqb r x e) at h)) .1
+    ]
+
+-- a record of fragment f's chain is in no later fragment's
+pub later-chain : (w : List ℤ) (s : Sizes) → CaseIn w s → (r f g : ℕ) → f < g → g < s .f → memb r (chainOf w s f) ≡ true → memb r (chainOf w s g) ≡ true → ⊥
+later-chain w s k r f g l m h i =
+    let a = reached-has w s r f g l h in
+    let b = good-fresh w s r (chainOf w s g) (reached w s g) (k .frags g m .right) i in
+    let z : _≡_ {A = ℕ} 0 1 = cc in omega arith
+
+-- two fragments whose chains have a record in common are the same
+pub one-chain : (w : List ℤ) (s : Sizes) → CaseIn w s → (r f g : ℕ) → f < s .f → g < s .f → memb r (chainOf w s f) ≡ true → memb r (chainOf w s g) ≡ true → f ≡ g
+one-chain w s k r f g l m h i = elim (decLt f g) [
+  | yes a ↦ absurd (later-chain w s k r f g a m h i)
+  | no a ↦ elim (decLt g f) [ yes b ↦ absurd (later-chain w s k r g f b l i h) | no b ↦ omega arith ]
+]
+
+-- ---- the same of the calls listed fragment by fragment
+count-calls : (w : List ℤ) (s : Sizes) (j f : ℕ) → length (reached w s (f + j)) ≡ length (reached w s f) + length (callsFrom w s j f)
+unfolding callsFrom reached
+count-calls w s zero f = let e : f + 0 ≡ f = omega arith in rw e (omega arith)
+count-calls w s (suc j) f =
+    let e : f + suc j ≡ suc f + j = omega arith in
+    rw e (count-calls w s j (suc f) ∙ rw (push-length, length-append, length-map) (omega arith))
+
+pub calls-top : (w : List ℤ) (s : Sizes) → CaseIn w s → length (callsFrom w s (s .f) 0) ≤ s .c
+unfolding reached
+calls-top w s k =
+    let r = reached-ok w s k (s .f) (le-refl _) in
+    let e : 0 + s .f ≡ s .f = omega arith in
+    let n : length (reached w s (s .f)) ≡ 0 + length (callsFrom w s (s .f) 0) = rw e at (count-calls w s (s .f) 0) in
+    omega (arith, pigeon (s .c) (reached w s (s .f)) (r .0) (r .1))

@@ -1,0 +1,73 @@
+-- Small cases with their outcomes, computed: an accepted one, and one for each kind of place in the table under 1 to 5.
+-- Assumes nothing.
+use mathlib.Core.Path.{_≡_, refl}
+use mathlib.Core.List.{List, [], _∷_, _++_}
+use Prim.Native.Nat.{ℕ}
+use lib.IntN.{ℤ, pos, negsuc, negℤ}
+use Rattle.variants_and_fragments.specs.First.{firstFail, firstFailFrom, firstFalse}
+use Rattle.variants_and_fragments.specs.Words.{within}
+use Rattle.variants_and_fragments.specs.Layout.{headFault, variantOk, callOk}
+use Rattle.variants_and_fragments.specs.Chain.{chainFrom, chainOf, memb, pushAll, reached, linkTest, goodChain, fragmentTest, isReached, chainFaultAt}
+use Rattle.variants_and_fragments.specs.Alleles.{allelesStart, allelesOk, allelesFaultAt}
+use Rattle.variants_and_fragments.specs.Refusals.{refused, done, stop}
+use Rattle.variants_and_fragments.specs.Check.{caseOf}
+
+head : ℕ → ℕ → ℕ → ℕ → List ℤ
+head n f c cut = pos n ∷ pos f ∷ pos c ∷ negℤ (pos cut) ∷ []
+
+-- an A/G variant at a position, called (0,1)
+snv : ℕ → List ℤ
+snv p = pos p ∷ pos 5 ∷ pos 0 ∷ pos 1 ∷ pos 2 ∷ pos 1 ∷ pos 1 ∷ pos 0 ∷ []
+
+fragment : ℕ → ℕ → List ℤ
+fragment first strand = pos first ∷ pos strand ∷ []
+
+call : ℕ → ℕ → ℕ → List ℤ
+call variant allele next = pos variant ∷ pos allele ∷ negℤ (pos 5796) ∷ negℤ (pos 1700) ∷ pos next ∷ []
+
+ag : List ℕ
+ag = 65 ∷ 71 ∷ []
+
+record Places : Type 0 where
+  accepted : caseOf (head 1 1 1 2000 ++ snv 10 ++ fragment 1 0 ++ call 0 1 0) ag ≡ done (record { n = 1; f = 1; c = 1; cut = 2000 })
+  -- 1: under four words; a negative count; a cutoff one too low; a word too many
+  few-words : caseOf (pos 0 ∷ pos 0 ∷ pos 0 ∷ []) [] ≡ refused 1 0
+  negative-count : caseOf (pos 0 ∷ negsuc 0 ∷ pos 0 ∷ pos 0 ∷ []) [] ≡ refused 1 1
+  low-cutoff : caseOf (head 0 0 0 262145) [] ≡ refused 1 3
+  long-case : caseOf (head 0 0 0 0 ++ (pos 0 ∷ [])) [] ≡ refused 1 4
+  -- 2: pos0 falls at the later one
+  falling : caseOf (head 2 0 0 0 ++ snv 10 ++ snv 9) (ag ++ ag) ≡ refused 2 1
+  level : caseOf (head 2 0 0 0 ++ snv 10 ++ snv 10) (ag ++ ag) ≡ done (record { n = 2; f = 0; c = 0; cut = 0 })
+  -- 3: the wrong length comes before a wrong byte
+  wrong-byte : caseOf (head 2 0 0 0 ++ snv 10 ++ snv 11) (65 ∷ 71 ∷ 65 ∷ 103 ∷ []) ≡ refused 3 1
+  wrong-length : caseOf (head 2 0 0 0 ++ snv 10 ++ snv 11) (103 ∷ []) ≡ refused 3 2
+  -- 4: records are numbered from 1
+  wrong-allele : caseOf (head 1 1 1 0 ++ snv 10 ++ fragment 1 0 ++ call 0 2 0) ag ≡ refused 4 1
+  no-variant : caseOf (head 0 1 1 0 ++ fragment 1 0 ++ call 0 0 0) [] ≡ refused 4 1
+  -- 5: the strand; the later of two that share a record; a variant that does not rise; a record that none reaches
+  wrong-strand : caseOf (head 1 1 1 0 ++ snv 10 ++ fragment 1 2 ++ call 0 1 0) ag ≡ refused 5 0
+  shared : caseOf (head 1 2 1 0 ++ snv 10 ++ fragment 1 0 ++ fragment 1 0 ++ call 0 1 0) ag ≡ refused 5 1
+  not-rising : caseOf (head 1 1 2 0 ++ snv 10 ++ fragment 1 0 ++ call 0 1 2 ++ call 0 1 0) ag ≡ refused 5 0
+  unreached : caseOf (head 1 2 2 0 ++ snv 10 ++ fragment 1 0 ++ fragment 0 0 ++ call 0 1 0 ++ call 0 1 0) ag ≡ refused 5 2
+  no-fragment : caseOf (head 1 0 1 0 ++ snv 10 ++ call 0 1 0) ag ≡ refused 5 0
+
+places : Places
+unfolding head snv fragment call ag caseOf stop headFault firstFalse within firstFail firstFailFrom variantOk callOk allelesStart allelesOk allelesFaultAt chainFrom chainOf memb pushAll reached linkTest goodChain fragmentTest isReached chainFaultAt
+places = record {
+  accepted = refl;
+  few-words = refl;
+  negative-count = refl;
+  low-cutoff = refl;
+  long-case = refl;
+  falling = refl;
+  level = refl;
+  wrong-byte = refl;
+  wrong-length = refl;
+  wrong-allele = refl;
+  no-variant = refl;
+  wrong-strand = refl;
+  shared = refl;
+  not-rising = refl;
+  unreached = refl;
+  no-fragment = refl;
+}

@@ -1,0 +1,76 @@
+-- Sums over a list: along an append and a map, of equal terms, of numbers below 0, and as what a walk gathers.
+-- Assumes nothing.
+use mathlib.Core.Path.{_≡_, refl, sym, ap, _∙_}
+use mathlib.Core.List.{List, [], _∷_, _++_, map}
+use Prim.Native.Nat.{ℕ, zero, suc, _+_, _*_, _≤_, _<_}
+use native.Mathlib.Omega.{arith}
+use lib.IntN.{ℤ, pos, negℤ, _+ℤ_, +ℤ-idl, +ℤ-idr, +ℤ-assoc, negℤ-+ℤ}
+use lib.ListN.{length, getD}
+use Rattle.variants_and_fragments.specs.Case.{All, end, also}
+use Rattle.variants_and_fragments.specs.Fold.{fold}
+use Rattle.variants_and_fragments.specs.Sums.{sumOver, countOver}
+
+-- ---- of integers
+pub sum-append : {X : Type 0} (xs ys : List X) (g : X → ℤ) → sumOver (xs ++ ys) g ≡ sumOver xs g +ℤ sumOver ys g
+unfolding sumOver
+sum-append [] ys g = sym (+ℤ-idl (sumOver ys g))
+sum-append (x ∷ xs) ys g = ap (λ z. g x +ℤ z) (sum-append xs ys g) ∙ sym (+ℤ-assoc (g x) (sumOver xs g) (sumOver ys g))
+
+pub sum-map : {X Y : Type 0} (h : X → Y) (xs : List X) (g : Y → ℤ) → sumOver (map h xs) g ≡ sumOver xs (λ x. g (h x))
+unfolding sumOver
+sum-map h [] g = refl
+sum-map h (x ∷ xs) g = ap (λ z. g (h x) +ℤ z) (sum-map h xs g)
+
+pub sum-same : {X : Type 0} {xs : List X} {g h : X → ℤ} → All (λ x. g x ≡ h x) xs → sumOver xs g ≡ sumOver xs h
+unfolding sumOver
+sum-same end = refl
+sum-same (also e es) = rw (e, sum-same es)
+
+-- terms that lie n x below 0
+pub sum-debts : {X : Type 0} {xs : List X} {g : X → ℤ} (n : X → ℕ) → All (λ x. g x ≡ negℤ (pos (n x))) xs → sumOver xs g ≡ negℤ (pos (countOver xs n))
+unfolding sumOver countOver
+sum-debts n end = refl
+sum-debts n (also {x} {xs} e es) = rw (e, sum-debts n es) (sym (negℤ-+ℤ (pos (n x)) (pos (countOver xs n))))
+
+-- a walk that adds gathers the sum
+pub sum-fold : (step : ℤ → ℕ → ℤ) (g : ℕ → ℤ) → ((a : ℤ) (r : ℕ) → step a r ≡ a +ℤ g r) → (a : ℤ) (rs : List ℕ) → fold step a rs ≡ a +ℤ sumOver rs g
+unfolding fold sumOver
+sum-fold step g h a [] = sym (+ℤ-idr a)
+sum-fold step g h a (r ∷ rs) = sum-fold step g h (step a r) rs ∙ ap (λ z. z +ℤ sumOver rs g) (h a r) ∙ +ℤ-assoc a (g r) (sumOver rs g)
+
+-- ---- of whole numbers from 0 on
+pub count-append : {X : Type 0} (xs ys : List X) (n : X → ℕ) → countOver (xs ++ ys) n ≡ countOver xs n + countOver ys n
+unfolding countOver
+count-append [] ys n = omega arith
+count-append (x ∷ xs) ys n = omega (arith, count-append xs ys n)
+
+pub count-map : {X Y : Type 0} (h : X → Y) (xs : List X) (n : Y → ℕ) → countOver (map h xs) n ≡ countOver xs (λ x. n (h x))
+unfolding countOver
+count-map h [] n = refl
+count-map h (x ∷ xs) n = ap (λ m. n (h x) + m) (count-map h xs n)
+
+pub count-fold : (step : ℕ → ℕ → ℕ) (n : ℕ → ℕ) → ((a r : ℕ) → step a r ≡ a + n r) → (a : ℕ) (rs : List ℕ) → fold step a rs ≡ a + countOver rs n
+unfolding fold countOver
+count-fold step n h a [] = omega arith
+count-fold step n h a (r ∷ rs) = omega (arith, count-fold step n h (step a r) rs, h a r)
+
+pub count-same : {X : Type 0} (xs : List X) (m : ℕ) → countOver xs (λ _. m) ≡ m * length xs
+unfolding countOver
+count-same [] m = omega arith
+count-same (x ∷ xs) m = omega (arith, count-same xs m)
+
+pub count-times : {X : Type 0} (xs : List X) (m : ℕ) (n : X → ℕ) → countOver xs (λ x. m * n x) ≡ m * countOver xs n
+unfolding countOver
+count-times [] m n = omega arith
+count-times (x ∷ xs) m n = omega (arith, count-times xs m n)
+
+pub count-at : {X : Type 0} (xs : List X) (n : X → ℕ) (i : ℕ) (d : X) → i < length xs → n (getD xs i d) ≤ countOver xs n
+unfolding countOver
+count-at [] n i d h = absurd (omega arith)
+count-at (x ∷ xs) n zero d h = omega arith
+count-at (x ∷ xs) n (suc i) d h = omega (arith, count-at xs n i d (omega arith))
+
+pub count-le : {X : Type 0} (xs : List X) (n m : X → ℕ) → ((x : X) → n x ≤ m x) → countOver xs n ≤ countOver xs m
+unfolding countOver
+count-le [] n m h = omega arith
+count-le (x ∷ xs) n m h = omega (arith, h x, count-le xs n m h)

@@ -1,0 +1,66 @@
+-- The usable calls of a good case: they are some of its calls, and still rise.
+-- Assumes nothing.
+use mathlib.Core.Path.{_≡_, refl}
+use mathlib.Core.Bool.{Bool, true, false, cond}
+use mathlib.Core.List.{List, [], _∷_}
+use Prim.Native.Nat.{ℕ, suc, _≤_}
+use native.Mathlib.Omega.{arith}
+use borrow.Author.Tests.{le-leb, leb-true}
+use lib.Dec.{leb}
+use lib.IntN.{ℤ}
+use lib.ListN.{length}
+use Rattle.variants_and_fragments.proofs.Bools.{both}
+use Rattle.variants_and_fragments.specs.Case.{Variant, Fragment, Call, usable, risingFrom, rising, All, end, also, GoodCall, GoodFragment}
+use Rattle.variants_and_fragments.specs.Pileup.{only, usableCalls}
+
+-- ---- some of a list
+pub only-all : {X : Type 0} {P : X → Type 0} (p : X → Bool) (xs : List X) → All P xs → All P (only p xs)
+unfolding only
+only-all p [] end = end
+only-all {P = P} p (x ∷ xs) (also h hs) = go (p x) (only-all p xs hs)
+  where
+    go : (t : Bool) → All P (only p xs) → All P (cond t (x ∷ only p xs) (only p xs))
+    go true a = also h a
+    go false a = a
+
+pub only-length : {X : Type 0} (p : X → Bool) (xs : List X) → length (only p xs) ≤ length xs
+unfolding only
+only-length p [] = omega arith
+only-length p (x ∷ xs) = go (p x) (only-length p xs)
+  where
+    go : (t : Bool) → length (only p xs) ≤ length xs → length (cond t (x ∷ only p xs) (only p xs)) ≤ suc (length xs)
+    go true a = omega arith
+    go false a = omega arith
+
+rising-down : (a b : ℕ) (calls : List Call) → a ≤ b → risingFrom b calls ≡ true → risingFrom a calls ≡ true
+unfolding risingFrom
+rising-down a b [] h r = refl
+rising-down a b (call ∷ calls) h r =
+    let x = both (leb b (call .variant)) (risingFrom (suc (call .variant)) calls) r in
+    let l = leb-true b (call .variant) (x .0) in
+    rw (le-leb a (call .variant) (omega arith)) (x .1)
+
+pub only-rising : (p : Call → Bool) (b : ℕ) (calls : List Call) → risingFrom b calls ≡ true → risingFrom b (only p calls) ≡ true
+unfolding only risingFrom
+only-rising p b [] r = refl
+only-rising p b (call ∷ calls) r =
+    let x = both (leb b (call .variant)) (risingFrom (suc (call .variant)) calls) r in
+    go (p call) (x .0) (only-rising p (suc (call .variant)) calls (x .1))
+  where
+    go : (t : Bool) → leb b (call .variant) ≡ true → risingFrom (suc (call .variant)) (only p calls) ≡ true → risingFrom b (cond t (call ∷ only p calls) (only p calls)) ≡ true
+    go true l a = rw l a
+    go false l a = let m = leb-true b (call .variant) l in rising-down b (suc (call .variant)) (only p calls) (omega arith) a
+
+-- ---- the usable calls of a fragment
+pub usable-fewer : (cutoff : ℤ) (fragment : Fragment) → length (usableCalls cutoff fragment) ≤ length (fragment .calls)
+unfolding usableCalls
+usable-fewer cutoff fragment = only-length (usable cutoff fragment) (fragment .calls)
+
+module _ {variants : List Variant} {fragment : Fragment} (cutoff : ℤ) (good : GoodFragment variants fragment) where
+  pub usable-in : All (GoodCall variants) (usableCalls cutoff fragment)
+  unfolding usableCalls
+  usable-in = only-all (usable cutoff fragment) (fragment .calls) (good .calls-in)
+
+  pub usable-rises : rising (usableCalls cutoff fragment) ≡ true
+  unfolding usableCalls
+  usable-rises = only-rising (usable cutoff fragment) 0 (fragment .calls) (good .rises)

@@ -1,0 +1,160 @@
+-- The walk along a chain: what one step of it does to the definitions.
+-- Assumes nothing.
+use mathlib.Core.Path.{_≡_, refl, sym, _∙_, subst}
+use mathlib.Core.Bool.{Bool, true, false}
+use mathlib.Core.List.{List, [], _∷_}
+use Prim.Native.Nat.{ℕ, zero, suc, _+_, _-_, _≤_, _<_}
+use native.Mathlib.Omega.{arith}
+use native.Mathlib.Decide.{decLt, ℕ-discrete}
+use native.Mathlib.Nat.{sub-zero}
+use borrow.Author.Tests.{le-leb, lt-leb, eq-eqb, ne-eqb}
+use lib.ListN.{getD, set, replicate, length-set, length-replicate, getD-replicate}
+use lib.Seq.{getD-set-same, getD-set-other}
+use lib.IntN.{ℤ}
+use lib.Dec.{eqb}
+use Rattle.variants_and_fragments.specs.declared.Sizes.{Sizes}
+use Rattle.variants_and_fragments.specs.Chain.{firstCallAt, nextCallAt, Walked, linkTest, linkOk, chainFrom, chainOf, memb, pushAll, reached, goodChain, flag, Marked, markedAt, isReached}
+use Rattle.variants_and_fragments.proofs.Chain.{link-over}
+use Rattle.variants_and_fragments.specs.First.{firstFail}
+use Rattle.variants_and_fragments.proofs.First.{first-cong}
+
+-- ---- chainFrom
+pub chain-end : (w : List ℤ) (s : Sizes) (j r : ℕ) → r ≡ 0 → chainFrom w s j r ≡ []
+unfolding chainFrom
+chain-end w s zero r e = refl
+chain-end w s (suc j) r e = simp (lt-leb 1 r (omega arith))
+
+pub chain-none : (w : List ℤ) (s : Sizes) (j r : ℕ) → j ≡ 0 → chainFrom w s j r ≡ []
+unfolding chainFrom
+chain-none w s zero r e = refl
+chain-none w s (suc j) r e = absurd (omega arith)
+
+pub chain-step : (w : List ℤ) (s : Sizes) (k r : ℕ) → k < s .c → 1 ≤ r → r ≤ s .c
+    → chainFrom w s (s .c - k) r ≡ r ∷ chainFrom w s (s .c - (k + 1)) (nextCallAt w s r)
+unfolding chainFrom
+chain-step w s k r h lo hi = let e : s .c - k ≡ suc (s .c - (k + 1)) = omega arith in rw e (simp (le-leb 1 r lo, le-leb r (s .c) hi))
+
+-- ---- goodChain
+pub good-hit : (w : List ℤ) (s : Sizes) (l : List ℕ) (r : ℕ) (rs : List ℕ) → memb r l ≡ true → false ≡ goodChain w s l (r ∷ rs)
+unfolding goodChain
+good-hit w s l r rs h = simp h
+
+pub good-link : (w : List ℤ) (s : Sizes) (l : List ℕ) (r : ℕ) (rs : List ℕ) → memb r l ≡ false → linkOk w s r ≡ false → false ≡ goodChain w s l (r ∷ rs)
+unfolding goodChain
+good-link w s l r rs h k = simp (h, k)
+
+pub good-on : (w : List ℤ) (s : Sizes) (l : List ℕ) (r : ℕ) (rs : List ℕ) → memb r l ≡ false → linkOk w s r ≡ true → goodChain w s l (r ∷ rs) ≡ goodChain w s (r ∷ l) rs
+unfolding goodChain
+good-on w s l r rs h k = simp (h, k)
+
+pub link-top : (c r t v u : ℕ) → linkTest c r t v u ≡ true → t ≤ c
+unfolding linkTest
+link-top c r zero v u h = omega arith
+link-top c r (suc t) v u h = elim (decLt c (suc t)) [
+  | yes l ↦ let z : _≡_ {A = Bool} false true = link-over c r (suc t) v u (λ e. omega arith) l ∙ h in let z2 : _≡_ {A = ℕ} 0 1 = cc in absurd (omega arith)
+  | no l ↦ omega arith
+]
+
+-- ---- flags
+pub flag-off : (b : Bool) → flag b ≡ 0 → b ≡ false
+flag-off true e = absurd (omega arith)
+flag-off false e = refl
+
+pub flag-on : (b : Bool) → (flag b ≡ 0 → ⊥) → b ≡ true
+flag-on true e = refl
+flag-on false e = absurd (e refl)
+
+pub mark-more : {seen l : List ℕ} (r : ℕ) → r ≤ 16384 → Marked seen l → Marked (set seen r 1) (r ∷ l)
+unfolding memb
+mark-more {seen} {l} r h m = record {
+  long = simp length-set (m .long);
+  marks = λ x le. elim (ℕ-discrete x r) [
+    | yes e ↦ rw e (getD-set-same seen r 1 0 (omega (arith, m .long)) ∙ simp (eq-eqb r r refl))
+    | no n ↦ getD-set-other seen r x 1 0 n ∙ simp (ne-eqb x r n) (m .marks x le)
+  ];
+}
+
+-- ---- the loop's invariant
+pub record Walking (w : List ℤ) (s : Sizes) (f : ℕ) (seen : List ℕ) (r k : ℕ) : Type 0 where
+  pub acc : List ℕ
+  pub r-top : r ≤ s .c
+  pub k-top : k ≤ s .c
+  pub now-marked : Marked seen acc
+  pub good : goodChain w s (reached w s f) (chainOf w s f) ≡ goodChain w s acc (chainFrom w s (s .c - k) r)
+  pub pushed : reached w s (suc f) ≡ pushAll (chainFrom w s (s .c - k) r) acc
+
+pub walk-start : (w : List ℤ) (s : Sizes) (f : ℕ) (seen : List ℕ) (r : ℕ) → r ≡ firstCallAt w s f → firstCallAt w s f ≤ s .c → Marked seen (reached w s f) → Walking w s f seen r 0
+unfolding chainOf reached
+walk-start w s f seen r e h m = record {
+  acc = reached w s f;
+  r-top = omega arith;
+  k-top = omega arith;
+  now-marked = m;
+  good = rw (e, sub-zero);
+  pushed = rw (e, sub-zero);
+}
+
+module _ {w : List ℤ} {s : Sizes} {f : ℕ} {seen : List ℕ} {r k : ℕ} (c-top : s .c ≤ 16384) (i : Walking w s f seen r k) where
+  -- the chain ends
+  pub walk-done : chainFrom w s (s .c - k) r ≡ [] → Walked w s f seen true
+  unfolding goodChain pushAll
+  walk-done e = record { ok = sym (rw e at (i .good)); marked = λ _. rw (i .pushed, e) (i .now-marked) }
+
+  pub walk-end : r ≡ 0 → Walked w s f seen true
+  walk-end e = walk-done (chain-end w s (s .c - k) r e)
+
+  pub walk-out : s .c ≤ k → Walked w s f seen true
+  walk-out e = walk-done (chain-none w s (s .c - k) r (omega arith))
+
+  module _ (more : k < s .c) (some : r ≡ 0 → ⊥) where
+    lo : 1 ≤ r
+    lo = omega arith
+
+    step : chainFrom w s (s .c - k) r ≡ r ∷ chainFrom w s (s .c - (k + 1)) (nextCallAt w s r)
+    step = chain-step w s k r more lo (i .r-top)
+
+    flagged : getD seen r 0 ≡ flag (memb r (i .acc))
+    flagged = i .now-marked .marks r (omega (arith, i .r-top))
+
+    fails : goodChain w s (i .acc) (chainFrom w s (s .c - k) r) ≡ false → (seen2 : List ℕ) → Walked w s f seen2 false
+    fails e seen2 = record { ok = sym (i .good ∙ e); marked = λ z. let z2 : _≡_ {A = ℕ} 0 1 = cc in absurd (omega arith) }
+
+    pub walk-hit : (getD seen r 0 ≡ 0 → ⊥) → Walked w s f seen false
+    walk-hit h = fails (rw step (sym (good-hit w s (i .acc) r _ (flag-on _ (λ e. h (flagged ∙ e)))))) seen
+
+    module _ (free : getD seen r 0 ≡ 0) where
+      fresh : memb r (i .acc) ≡ false
+      fresh = flag-off _ (sym flagged ∙ free)
+
+      pub walk-link : linkOk w s r ≡ false → Walked w s f seen false
+      walk-link h = fails (rw step (sym (good-link w s (i .acc) r _ fresh h))) seen
+
+      pub walk-on : linkOk w s r ≡ true → (t : ℕ) → t ≡ nextCallAt w s r → Walking w s f (set seen r 1) t (k + 1)
+      unfolding pushAll
+      walk-on h t e = record {
+        acc = r ∷ i .acc;
+        r-top = rw e (link-top (s .c) r (nextCallAt w s r) _ _ h);
+        k-top = omega arith;
+        now-marked = mark-more r (omega (arith, i .r-top)) (i .now-marked);
+        good = i .good ∙ rw (step, e) (good-on w s (i .acc) r _ fresh h);
+        pushed = i .pushed ∙ rw (step, e);
+      }
+
+-- ---- after the walks
+pub reached-at : (w : List ℤ) (s : Sizes) (seen : List ℕ) (f g : ℕ) → f ≡ g → Marked seen (reached w s f) → Marked seen (reached w s g)
+reached-at w s seen f g e m = subst (λ (x : ℕ). Marked seen (reached w s x)) e m
+
+flag-eq : (b : Bool) → eqb (flag b) 1 ≡ b
+flag-eq true = refl
+flag-eq false = refl
+
+pub reached-first : (w : List ℤ) (s : Sizes) (seen : List ℕ) → s .c ≤ 16384 → Marked seen (reached w s (s .f)) → firstFail (markedAt seen) (s .c) ≡ firstFail (isReached w s) (s .c)
+unfolding isReached
+reached-first w s seen h m = first-cong _ _ _ (λ j l. rw (m .marks (j + 1) (omega arith)) (flag-eq _))
+
+the-zero : ℕ
+the-zero = 0
+
+pub clear-marked : Marked (replicate 16385 0) []
+unfolding memb the-zero
+clear-marked = record { long = omega (arith, length-replicate 16385 (the-zero)); marks = λ x h. getD-replicate 16385 x 0 0 (omega arith) }

@@ -1,0 +1,48 @@
+-- What an accepted case gives (proofs/Accepted: case-in, bases-in). That every record is reached stays inside the check.
+-- Assumes nothing.
+use mathlib.Core.Path.{_≡_}
+use mathlib.Core.Bool.{Bool, true, _&&_}
+use mathlib.Core.List.{List, [], _∷_}
+use Prim.Native.Nat.{ℕ, _+_, _≤_, _<_}
+use lib.ListN.{length, getD}
+use lib.IntN.{ℤ, pos}
+use Rattle.variants_and_fragments.specs.declared.Sizes.{Sizes}
+use Rattle.variants_and_fragments.specs.Words.{within, debtAt}
+use Rattle.variants_and_fragments.specs.Layout.{Sized, sizesOf, cutoffAt, lowestQuality, callAt, alleleCountAt, callVariantAt, calledAlleleAt, qualAt, oneMinusQualAt, callOk}
+use Rattle.variants_and_fragments.specs.Chain.{firstCallAt, strandAt, chainOf, goodChain, reached}
+use Rattle.variants_and_fragments.specs.Alleles.{VariantsIn, allelesStart, isBase}
+
+-- p holds of each
+unfoldable pub allb : (ℕ → Bool) → List ℕ → Bool
+allb p [] = true
+allb p (x ∷ xs) = p x && allb p xs
+
+-- a call record's ranges
+pub record CallIn (w : List ℤ) (s : Sizes) (r : ℕ) : Type 0 where
+  pub variant-in : callVariantAt w s r < s .n
+  pub allele-in : calledAlleleAt w s r < alleleCountAt w (callVariantAt w s r)
+  pub qual-in : debtAt w (callAt s r + 2) ≤ 262144
+  pub other-in : debtAt w (callAt s r + 3) ≤ 262144
+  pub qual-range : within lowestQuality (pos 0) (qualAt w s r) ≡ true
+  pub other-range : within lowestQuality (pos 0) (oneMinusQualAt w s r) ≡ true
+
+-- a fragment and its own chain
+pub record FragmentIn (w : List ℤ) (s : Sizes) (f : ℕ) : Type 0 where
+  pub strand-in : strandAt w s f ≤ 1
+  pub first-in : firstCallAt w s f ≤ s .c
+  pub right : goodChain w s (reached w s f) (chainOf w s f) ≡ true
+  pub calls : allb (callOk w s) (chainOf w s f) ≡ true
+
+-- a case
+pub record CaseIn (w : List ℤ) (s : Sizes) : Type 0 where
+  pub shape : s ≡ sizesOf w
+  pub sized : Sized w s
+  pub variants : VariantsIn w s
+  pub frags : (f : ℕ) → f < s .f → FragmentIn w s f
+  pub cut-in : s .cut ≤ 262144
+  pub cut-range : within lowestQuality (pos 0) (cutoffAt w) ≡ true
+
+-- its allele bytes
+pub record BasesIn (w : List ℤ) (s : Sizes) (b : List ℕ) : Type 0 where
+  pub size : length b ≡ allelesStart w (s .n)
+  pub each : (i : ℕ) → i < length b → isBase (getD b i 0) ≡ true

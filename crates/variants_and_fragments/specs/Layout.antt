@@ -1,0 +1,191 @@
+-- 01, section 2: the layout of a case, the one place that knows where a word stands; and under the numbers 1, 2 and 4 of
+-- "Refusals by number and place" what is asked of the head, of a variant record and of a call record. w is the words, s the sizes.
+-- Assumes nothing.
+use mathlib.Core.Path.{_≡_}
+use mathlib.Core.Bool.{Bool, true, cond, _&&_}
+use mathlib.Core.List.{List, [], _∷_}
+use Prim.Native.Nat.{ℕ, _+_, _*_, _-_, _≤_, _<_}
+use lib.ListN.{length}
+use lib.IntN.{ℤ, pos, negℤ}
+use lib.Signed.{leZ}
+use lib.Dec.{leb, ltb, eqb}
+use Rattle.variants_and_fragments.specs.declared.Sizes.{Sizes}
+use Rattle.variants_and_fragments.specs.Words.{word, within, natAt, debtAt}
+use Rattle.variants_and_fragments.specs.First.{firstFalse}
+
+-- ---- the numbers of section 2
+-- words of the head, of a variant, a fragment, a call
+abbrev pub headWords : ℕ
+headWords = 4
+
+abbrev pub variantWords : ℕ
+variantWords = 8
+
+abbrev pub fragmentWords : ℕ
+fragmentWords = 2
+
+abbrev pub callWords : ℕ
+callWords = 5
+
+-- the most variants, fragments and calls
+abbrev pub maxVariants : ℕ
+maxVariants = 1024
+
+abbrev pub maxFragments : ℕ
+maxFragments = 4096
+
+abbrev pub maxCalls : ℕ
+maxCalls = 16384
+
+-- the most alleles of a variant, and the most bases of an allele
+abbrev pub maxAlleles : ℕ
+maxAlleles = 3
+
+abbrev pub maxAlleleLength : ℕ
+maxAlleleLength = 64
+
+-- the cutoff and both qualities are in −262144..0
+abbrev pub lowestQuality : ℤ
+lowestQuality = negℤ (pos 262144)
+
+-- ---- where things stand
+-- what the head says: N, F, C, and how far the cutoff lies below 0
+abbrev pub sizesOf : List ℤ → Sizes
+sizesOf w = record { n = natAt w 0; f = natAt w 1; c = natAt w 2; cut = debtAt w 3 }
+
+abbrev pub cutoffAt : List ℤ → ℤ
+cutoffAt w = word w 3
+
+abbrev pub totalWords : Sizes → ℕ
+totalWords s = headWords + variantWords * (s .n) + fragmentWords * (s .f) + callWords * (s .c)
+
+-- where the record of variant v, of fragment f and of call r starts; calls are numbered from 1
+abbrev pub variantAt : ℕ → ℕ
+variantAt v = headWords + variantWords * v
+
+abbrev pub fragmentAt : Sizes → ℕ → ℕ
+fragmentAt s f = headWords + variantWords * (s .n) + fragmentWords * f
+
+abbrev pub callAt : Sizes → ℕ → ℕ
+callAt s r = headWords + variantWords * (s .n) + fragmentWords * (s .f) + callWords * (r - 1)
+
+-- the fields of variant v; the genotype's two alleles are i = 0 and 1, the allele lengths j = 0, 1 and 2
+abbrev pub pos0At : List ℤ → ℕ → ℕ
+pos0At w v = natAt w (variantAt v)
+
+abbrev pub depthAt : List ℤ → ℕ → ℕ
+depthAt w v = natAt w (variantAt v + 1)
+
+abbrev pub genotypeAt : List ℤ → ℕ → ℕ → ℕ
+genotypeAt w v i = natAt w (variantAt v + (2 + i))
+
+abbrev pub alleleCountAt : List ℤ → ℕ → ℕ
+alleleCountAt w v = natAt w (variantAt v + 4)
+
+abbrev pub lengthAt : List ℤ → ℕ → ℕ → ℕ
+lengthAt w v j = natAt w (variantAt v + (5 + j))
+
+-- the fields of fragment f
+abbrev pub firstCallAt : List ℤ → Sizes → ℕ → ℕ
+firstCallAt w s f = natAt w (fragmentAt s f)
+
+abbrev pub strandAt : List ℤ → Sizes → ℕ → ℕ
+strandAt w s f = natAt w (fragmentAt s f + 1)
+
+-- the fields of call r
+abbrev pub callVariantAt : List ℤ → Sizes → ℕ → ℕ
+callVariantAt w s r = natAt w (callAt s r)
+
+abbrev pub calledAlleleAt : List ℤ → Sizes → ℕ → ℕ
+calledAlleleAt w s r = natAt w (callAt s r + 1)
+
+abbrev pub qualAt : List ℤ → Sizes → ℕ → ℤ
+qualAt w s r = word w (callAt s r + 2)
+
+abbrev pub oneMinusQualAt : List ℤ → Sizes → ℕ → ℤ
+oneMinusQualAt w s r = word w (callAt s r + 3)
+
+abbrev pub nextCallAt : List ℤ → Sizes → ℕ → ℕ
+nextCallAt w s r = natAt w (callAt s r + 4)
+
+-- the words of w are laid out by s
+pub record Sized (w : List ℤ) (s : Sizes) : Type 0 where
+  pub size : length w ≡ totalWords s
+  pub n-top : s .n ≤ maxVariants
+  pub f-top : s .f ≤ maxFragments
+  pub c-top : s .c ≤ maxCalls
+
+-- ---- 1, the head: words 0 to 3, and at 4 the length
+abbrev pub headTests : List ℤ → List Bool
+headTests w =
+    leb (sizesOf w .n) maxVariants
+    ∷ leb (sizesOf w .f) maxFragments
+    ∷ leb (sizesOf w .c) maxCalls
+    ∷ within lowestQuality (pos 0) (cutoffAt w)
+    ∷ eqb (length w) (totalWords (sizesOf w))
+    ∷ []
+
+-- the place of the head's fault, 5 where there is none; under four words it is 0
+unfoldable pub headFault : List ℤ → ℕ
+unfolding firstFalse
+headFault w = cond (leb headWords (length w)) (firstFalse (headTests w)) 0
+
+-- ---- 2, a variant record
+-- the position that variant v's may not fall below
+abbrev pub priorPos0At : List ℤ → ℕ → ℕ
+priorPos0At w v = cond (eqb v 0) 0 (pos0At w (v - 1))
+
+-- the length x of allele j of k: 1..64 where present, 0 where absent
+abbrev pub lengthOk : ℕ → ℕ → ℕ → Bool
+lengthOk j k x = cond (ltb j k) (leb 1 x && leb x maxAlleleLength) (eqb x 0)
+
+-- all of some tests
+abbrev pub allOf : List Bool → Bool
+allOf [] = true
+allOf (b ∷ []) = b
+allOf (b ∷ c ∷ bs) = b && allOf (c ∷ bs)
+
+-- pos0 ≥ 0, not falling; dp ≥ 0; k in 1..3; genotype a, b, each in 0..k−1; three allele lengths
+abbrev pub variantTests : List ℤ → ℕ → List Bool
+variantTests w v =
+    leZ (pos 0) (word w (variantAt v))
+    ∷ leb (priorPos0At w v) (pos0At w v)
+    ∷ leZ (pos 0) (word w (variantAt v + 1))
+    ∷ leb 1 (alleleCountAt w v)
+    ∷ leb (alleleCountAt w v) maxAlleles
+    ∷ ltb (genotypeAt w v 0) (alleleCountAt w v)
+    ∷ ltb (genotypeAt w v 1) (alleleCountAt w v)
+    ∷ lengthOk 0 (alleleCountAt w v) (lengthAt w v 0)
+    ∷ lengthOk 1 (alleleCountAt w v) (lengthAt w v 1)
+    ∷ lengthOk 2 (alleleCountAt w v) (lengthAt w v 2)
+    ∷ []
+
+unfoldable pub variantOk : List ℤ → ℕ → Bool
+variantOk w v = allOf (variantTests w v)
+
+-- what the tests say; the lengths of alleles that are present are at least 1, the others 0
+pub record VariantIn (w : List ℤ) (v : ℕ) : Type 0 where
+  pub pos-in : leZ (pos 0) (word w (variantAt v)) ≡ true
+  pub rises : priorPos0At w v ≤ pos0At w v
+  pub dp-in : leZ (pos 0) (word w (variantAt v + 1)) ≡ true
+  pub k-low : 1 ≤ alleleCountAt w v
+  pub k-high : alleleCountAt w v ≤ maxAlleles
+  pub a-in : genotypeAt w v 0 < alleleCountAt w v
+  pub b-in : genotypeAt w v 1 < alleleCountAt w v
+  pub len0 : lengthAt w v 0 ≤ maxAlleleLength
+  pub len1 : lengthAt w v 1 ≤ maxAlleleLength
+  pub len2 : lengthAt w v 2 ≤ maxAlleleLength
+  pub present : (j : ℕ) → j < alleleCountAt w v → 1 ≤ lengthAt w v j
+  pub absent : (j : ℕ) → alleleCountAt w v ≤ j → j < maxAlleles → lengthAt w v j ≡ 0
+
+-- ---- 4, a call record
+-- its variant is one of the case, its allele below that variant's k, and both qualities are in −262144..0
+unfoldable pub callOk : List ℤ → Sizes → ℕ → Bool
+callOk w s r =
+    ltb (callVariantAt w s r) (s .n)
+    && (ltb (calledAlleleAt w s r) (alleleCountAt w (callVariantAt w s r))
+    && (within lowestQuality (pos 0) (qualAt w s r) && within lowestQuality (pos 0) (oneMinusQualAt w s r)))
+
+-- the calls, counted from 0
+abbrev pub callsOk : List ℤ → Sizes → ℕ → Bool
+callsOk w s i = callOk w s (i + 1)

@@ -1,0 +1,23 @@
+-- Sums over a list, and the range in which log probabilities and their sums lie. Every total of 01's sections 4 and 6 is such a sum.
+-- Assumes nothing.
+use mathlib.Core.Path.{_≡_}
+use mathlib.Core.Bool.{true}
+use mathlib.Core.List.{List, [], _∷_}
+use Prim.Native.Nat.{ℕ, _+_}
+use lib.IntN.{ℤ, pos, negℤ, _+ℤ_}
+use lib.Signed.{leZ}
+
+-- the sum of g x over the elements x of a list
+unfoldable pub sumOver : {X : Type 0} → List X → (X → ℤ) → ℤ
+sumOver [] g = pos 0
+sumOver (x ∷ xs) g = g x +ℤ sumOver xs g
+
+-- the same for whole numbers from 0 on
+unfoldable pub countOver : {X : Type 0} → List X → (X → ℕ) → ℕ
+countOver [] g = 0
+countOver (x ∷ xs) g = g x + countOver xs g
+
+-- z lies in −n..0
+pub record DownTo (n : ℕ) (z : ℤ) : Type 0 where
+  pub low : leZ (negℤ (pos n)) z ≡ true
+  pub high : leZ z (pos 0) ≡ true

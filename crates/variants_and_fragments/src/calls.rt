@@ -1,0 +1,45 @@
+ghost use mathlib.Core.Path.{_≡_};
+ghost use Prim.Native.Nat.{_≤_};
+ghost use Rattle.variants_and_fragments.specs.First.{firstFail};
+ghost use Rattle.variants_and_fragments.specs.Layout.{Sized, callOk, callsOk};
+use crate::Sizes;
+use crate::layout::allele_count;
+use crate::layout::call_at;
+use crate::layout::call_variant;
+use crate::layout::nat_at;
+use crate::layout::quality_ok;
+
+// Call r's record is right: its variant, its allele and both qualities are in range.
+pub fn call_ok(words: &[i32], s: Sizes, r: usize) -> bool
+    requires { ⌜ Sized (now words) s ⌝ }
+    requires { ⌜ (1 ≤ r) × (r ≤ s .c) ⌝ }
+    ensures { λ ok. ⌜ ok ≡ callOk (now (words .entry)) s r ⌝ }
+{
+    let n = s.n;
+    let v = call_variant(words, s, r);
+    if n <= v {
+        return false;
+    }
+    let k = allele_count(words, s, v);
+    let at = call_at(s, r);
+    let a = nat_at(words, at + 1);
+    let qual = quality_ok(words, at + 2);
+    let one_minus_qual = quality_ok(words, at + 3);
+    (a < k) & (qual & one_minus_qual)
+}
+
+// The first call whose record is wrong, counted from 0, or C. At the loop's head the records before i are right.
+pub fn first_bad_call(words: &[i32], s: Sizes) -> usize
+    requires { ⌜ Sized (now words) s ⌝ }
+    ensures { λ r. ⌜ r ≡ firstFail (callsOk (now (words .entry)) s) (s .c) ⌝ }
+{
+    let c = s.c;
+    let mut i = 0;
+    while i < c {
+        if !call_ok(words, s, i + 1) {
+            return i;
+        }
+        i += 1;
+    }
+    i
+}

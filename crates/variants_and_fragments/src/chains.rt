@@ -1,0 +1,131 @@
+ghost use mathlib.Core.Path.{_≡_};
+ghost use Prim.Native.Nat.{_<_, _≤_};
+ghost use lib.ListN.{length};
+ghost use Rattle.variants_and_fragments.specs.First.{firstFail};
+ghost use Rattle.variants_and_fragments.specs.Layout.{Sized};
+ghost use Rattle.variants_and_fragments.specs.Chain.{firstCallAt, linkOk, reached, Walked, FragmentChecked, FragmentsChecked, markedAt, chainFault, Marked};
+ghost use mathlib.Core.List.{[]};
+use crate::Sizes;
+use crate::layout::call_variant;
+use crate::layout::first_call;
+use crate::layout::next_call;
+use crate::layout::strand_of;
+
+// Record r's next is right: 0, or a larger record at a larger variant.
+pub fn link_ok(words: &[i32], s: Sizes, r: usize) -> bool
+    requires { ⌜ Sized (now words) s ⌝ }
+    requires { ⌜ (1 ≤ r) × (r ≤ s .c) ⌝ }
+    ensures { λ ok. ⌜ ok ≡ linkOk (now (words .entry)) s r ⌝ }
+{
+    let c = s.c;
+    let t = next_call(words, s, r);
+    if t == 0 {
+        return true;
+    }
+    if c < t {
+        return false;
+    }
+    let v = call_variant(words, s, r);
+    let u = call_variant(words, s, t);
+    (r < t) & (v < u)
+}
+
+// Fragment f's chain is right, where its first call is in 0..C; then seen marks its records too. At the loop's head the k records
+// before r are right and marked.
+pub fn walk_chain(words: &[i32], s: Sizes, f: usize, seen: &mut [u8]) -> bool
+    requires { ⌜ Sized (now words) s ⌝ }
+    requires { ⌜ f < s .f ⌝ }
+    requires { ⌜ firstCallAt (now words) s f ≤ s .c ⌝ }
+    requires { ⌜ Marked (now seen) (reached (now words) s f) ⌝ }
+    ensures { λ r. ⌜ Walked (now (words .entry)) s f (now (seen .exit)) r ⌝ }
+{
+    let c = s.c;
+    let mut r = first_call(words, s, f);
+    let mut k = 0;
+    while k < c {
+        if r == 0 {
+            return true;
+        }
+        if seen[r] != 0 {
+            return false;
+        }
+        if !link_ok(words, s, r) {
+            return false;
+        }
+        seen[r] = 1;
+        r = next_call(words, s, r);
+        k += 1;
+    }
+    true
+}
+
+// Fragment f is right; then seen marks its records too.
+pub fn fragment_ok(words: &[i32], s: Sizes, f: usize, seen: &mut [u8]) -> bool
+    requires { ⌜ Sized (now words) s ⌝ }
+    requires { ⌜ f < s .f ⌝ }
+    requires { ⌜ Marked (now seen) (reached (now words) s f) ⌝ }
+    ensures { λ r. ⌜ FragmentChecked (now (words .entry)) s f (now (seen .exit)) r ⌝ }
+{
+    let c = s.c;
+    let strand = strand_of(words, s, f);
+    if 1 < strand {
+        return false;
+    }
+    let first = first_call(words, s, f);
+    if c < first {
+        return false;
+    }
+    walk_chain(words, s, f, seen)
+}
+
+// The first fragment that is wrong, or F; then seen marks what is reached. At the loop's head the fragments before f are right and
+// their records marked.
+pub fn first_bad_fragment(words: &[i32], s: Sizes, seen: &mut [u8]) -> usize
+    requires { ⌜ Sized (now words) s ⌝ }
+    requires { ⌜ Marked (now seen) [] ⌝ }
+    ensures { λ r. ⌜ FragmentsChecked (now (words .entry)) s (now (seen .exit)) r ⌝ }
+{
+    let n = s.f;
+    let mut f = 0;
+    while f < n {
+        if !fragment_ok(words, s, f, seen) {
+            return f;
+        }
+        f += 1;
+    }
+    f
+}
+
+// The first record, counted from 0, that is not marked, or c. At the loop's head those before i are marked.
+pub fn first_unreached(seen: &[u8], c: usize) -> usize
+    requires { ⌜ (c ≤ 16384) × (16384 < length (now seen)) ⌝ }
+    ensures { λ r. ⌜ r ≡ firstFail (markedAt (now (seen .entry))) c ⌝ }
+{
+    let mut i = 0;
+    while i < c {
+        if seen[i + 1] != 1 {
+            return i;
+        }
+        i += 1;
+    }
+    i
+}
+
+// The place of a fault of the chains: the first fragment that is wrong, F where a record is not reached; F + 1 where there is none.
+pub fn chain_fault(words: &[i32], s: Sizes, seen: &mut [u8]) -> usize
+    requires { ⌜ Sized (now words) s ⌝ }
+    requires { ⌜ Marked (now seen) [] ⌝ }
+    ensures { λ r. ⌜ r ≡ chainFault (now (words .entry)) s ⌝ }
+{
+    let n = s.f;
+    let c = s.c;
+    let f = first_bad_fragment(words, s, seen);
+    if f < n {
+        return f;
+    }
+    let i = first_unreached(seen, c);
+    if i < c {
+        return n;
+    }
+    n + 1
+}

@@ -1,0 +1,81 @@
+ghost use mathlib.Core.Path.{_≡_};
+ghost use Rattle.variants_and_fragments.specs.Check.{outcomeOf, caseOf};
+use crate::alleles::alleles_fault;
+use crate::calls::first_bad_call;
+use crate::chains::chain_fault;
+use crate::head::head_fault;
+use crate::layout::read_sizes;
+use crate::variants::first_bad_variant;
+
+pub mod alleles;
+pub mod calls;
+pub mod chains;
+pub mod head;
+pub mod layout;
+pub mod pileup;
+pub mod reader;
+pub mod refusals;
+pub mod rows;
+pub mod variants;
+
+// What the head says: N, F, C, and how far the cutoff lies below 0.
+pub struct Sizes {
+    pub n: usize,
+    pub f: usize,
+    pub c: usize,
+    pub cut: usize,
+}
+
+// Why an operation turned its input down, with the place of the fault: document 01's table, number by number.
+pub enum Refusal {
+    Head(usize),
+    Variant(usize),
+    Alleles(usize),
+    Call(usize),
+    Chain(usize),
+    Rates(usize),
+    Phase(usize),
+    Orders(usize),
+    Limit(usize),
+    Short(usize),
+    DensityQual(usize),
+    Normalize(usize),
+}
+
+// The answer of the check.
+pub enum Checked {
+    Accepted(Sizes),
+    Refused(Refusal),
+}
+
+// The check of a case: numbers 1 to 5 of document 01's table, in order, or the sizes that the head gives.
+pub fn check_case(words: &[i32], bases: &[u8]) -> Checked
+    ensures { λ r. ⌜ outcomeOf r ≡ caseOf (now (words .entry)) (now (bases .entry)) ⌝ }
+{
+    let p = head_fault(words);
+    if p < 5 {
+        return Checked::Refused(Refusal::Head(p));
+    }
+    let s = read_sizes(words);
+    let n = s.n;
+    let c = s.c;
+    let m = s.f + 1;
+    let v = first_bad_variant(words, s);
+    if v < n {
+        return Checked::Refused(Refusal::Variant(v));
+    }
+    let b = alleles_fault(words, s, bases);
+    if b <= n {
+        return Checked::Refused(Refusal::Alleles(b));
+    }
+    let i = first_bad_call(words, s);
+    if i < c {
+        return Checked::Refused(Refusal::Call(i + 1));
+    }
+    let mut seen = [0u8; 16385];
+    let f = chain_fault(words, s, &mut seen);
+    if f < m {
+        return Checked::Refused(Refusal::Chain(f));
+    }
+    Checked::Accepted(s)
+}

@@ -1,0 +1,43 @@
+ghost use mathlib.Core.Path.{_≡_};
+ghost use Rattle.variants_and_fragments.specs.Refusals as refusals;
+use crate::Refusal;
+
+// A refusal's number in document 01's table.
+pub fn number(r: Refusal) -> usize
+    ensures { λ n. ⌜ n ≡ refusals.number r ⌝ }
+{
+    match r {
+        Refusal::Head(_) => 1,
+        Refusal::Variant(_) => 2,
+        Refusal::Alleles(_) => 3,
+        Refusal::Call(_) => 4,
+        Refusal::Chain(_) => 5,
+        Refusal::Rates(_) => 6,
+        Refusal::Phase(_) => 7,
+        Refusal::Orders(_) => 8,
+        Refusal::Limit(_) => 9,
+        Refusal::Short(_) => 10,
+        Refusal::DensityQual(_) => 11,
+        Refusal::Normalize(_) => 12,
+    }
+}
+
+// A refusal's place.
+pub fn place(r: Refusal) -> usize
+    ensures { λ p. ⌜ p ≡ refusals.place r ⌝ }
+{
+    match r {
+        Refusal::Head(p) => p,
+        Refusal::Variant(p) => p,
+        Refusal::Alleles(p) => p,
+        Refusal::Call(p) => p,
+        Refusal::Chain(p) => p,
+        Refusal::Rates(p) => p,
+        Refusal::Phase(p) => p,
+        Refusal::Orders(p) => p,
+        Refusal::Limit(p) => p,
+        Refusal::Short(p) => p,
+        Refusal::DensityQual(p) => p,
+        Refusal::Normalize(p) => p,
+    }
+}

@@ -1,0 +1,72 @@
+ghost use mathlib.Core.Path.{_≡_};
+ghost use Prim.Native.Nat.{_<_};
+ghost use Rattle.variants_and_fragments.specs.First.{firstFail};
+ghost use Rattle.variants_and_fragments.specs.Layout.{Sized, priorPos0At, lengthOk, variantOk};
+use crate::Sizes;
+use crate::layout::HEAD_WORDS;
+use crate::layout::MAX_ALLELE_LENGTH;
+use crate::layout::MAX_ALLELES;
+use crate::layout::VARIANT_WORDS;
+use crate::layout::nat_at;
+use crate::layout::not_negative;
+
+// The position that variant v's may not fall below.
+pub fn prior_pos0(words: &[i32], s: Sizes, v: usize) -> usize
+    requires { ⌜ Sized (now words) s ⌝ }
+    requires { ⌜ v < s .n ⌝ }
+    ensures { λ r. ⌜ r ≡ priorPos0At (now (words .entry)) v ⌝ }
+{
+    if v == 0 {
+        return 0;
+    }
+    nat_at(words, HEAD_WORDS + VARIANT_WORDS * (v - 1))
+}
+
+// The length x of allele j of k is right: 1..64 where present, 0 where absent.
+pub fn length_ok(j: usize, k: usize, x: usize) -> bool
+    ensures { λ r. ⌜ r ≡ lengthOk j k x ⌝ }
+{
+    if j < k {
+        return (1 <= x) & (x <= MAX_ALLELE_LENGTH);
+    }
+    x == 0
+}
+
+// Variant v's record is right.
+pub fn variant_ok(words: &[i32], s: Sizes, v: usize) -> bool
+    requires { ⌜ Sized (now words) s ⌝ }
+    requires { ⌜ v < s .n ⌝ }
+    ensures { λ r. ⌜ r ≡ variantOk (now (words .entry)) v ⌝ }
+{
+    let at = HEAD_WORDS + VARIANT_WORDS * v;
+    let p_low = not_negative(words, at);
+    let p = nat_at(words, at);
+    let q = prior_pos0(words, s, v);
+    let dp_low = not_negative(words, at + 1);
+    let a = nat_at(words, at + 2);
+    let b = nat_at(words, at + 3);
+    let k = nat_at(words, at + 4);
+    let l0 = length_ok(0, k, nat_at(words, at + 5));
+    let l1 = length_ok(1, k, nat_at(words, at + 6));
+    let l2 = length_ok(2, k, nat_at(words, at + 7));
+    p_low
+        & ((q <= p)
+            & (dp_low
+                & ((1 <= k) & ((k <= MAX_ALLELES) & ((a < k) & ((b < k) & (l0 & (l1 & l2))))))))
+}
+
+// The first variant whose record is wrong, or N. At the loop's head the records before v are right.
+pub fn first_bad_variant(words: &[i32], s: Sizes) -> usize
+    requires { ⌜ Sized (now words) s ⌝ }
+    ensures { λ r. ⌜ r ≡ firstFail (variantOk (now (words .entry))) (s .n) ⌝ }
+{
+    let n = s.n;
+    let mut v = 0;
+    while v < n {
+        if !variant_ok(words, s, v) {
+            return v;
+        }
+        v += 1;
+    }
+    v
+}
