@@ -17,3 +17,5 @@ pub mod Pileup
 pub mod Reader
 pub mod Rows
 pub mod Pile
+pub mod FilterWindow
+pub mod Filtered

@@ -117,25 +117,6 @@ pub fn call_at(s: Sizes, r: usize) -> usize
     HEAD_WORDS + VARIANT_WORDS * s.n + FRAGMENT_WORDS * s.f + CALL_WORDS * (r - 1)
 }
 
-// Variant v's position and its depth.
-pub fn pos0(words: &[i32], s: Sizes, v: usize) -> usize
-    requires { ⌜ Sized (now words) s ⌝ }
-    requires { ⌜ VariantsIn (now words) s ⌝ }
-    requires { ⌜ v < s .n ⌝ }
-    ensures { λ r. ⌜ (r ≡ pos0At (now (words .entry)) v) × (r < 2147483648) ⌝ }
-{
-    low_at(words, HEAD_WORDS + VARIANT_WORDS * v)
-}
-
-pub fn depth(words: &[i32], s: Sizes, v: usize) -> usize
-    requires { ⌜ Sized (now words) s ⌝ }
-    requires { ⌜ VariantsIn (now words) s ⌝ }
-    requires { ⌜ v < s .n ⌝ }
-    ensures { λ r. ⌜ (r ≡ depthAt (now (words .entry)) v) × (r < 2147483648) ⌝ }
-{
-    low_at(words, HEAD_WORDS + VARIANT_WORDS * v + 1)
-}
-
 // Variant v's number of alleles.
 pub fn allele_count(words: &[i32], s: Sizes, v: usize) -> usize
     requires { ⌜ Sized (now words) s ⌝ }
@@ -188,4 +169,23 @@ pub fn strand_of(words: &[i32], s: Sizes, f: usize) -> usize
         words,
         HEAD_WORDS + VARIANT_WORDS * s.n + FRAGMENT_WORDS * f + 1,
     )
+}
+
+// Variant v's position and its depth.
+pub fn pos0_of(words: &[i32], s: Sizes, v: usize) -> usize
+    requires { ⌜ Sized (now words) s ⌝ }
+    requires { ⌜ VariantsIn (now words) s ⌝ }
+    requires { ⌜ v < s .n ⌝ }
+    ensures { λ r. ⌜ (r ≡ pos0At (now (words .entry)) v) × (r < 2147483648) ⌝ }
+{
+    low_at(words, HEAD_WORDS + VARIANT_WORDS * v)
+}
+
+pub fn depth_of(words: &[i32], s: Sizes, v: usize) -> usize
+    requires { ⌜ Sized (now words) s ⌝ }
+    requires { ⌜ VariantsIn (now words) s ⌝ }
+    requires { ⌜ v < s .n ⌝ }
+    ensures { λ r. ⌜ (r ≡ depthAt (now (words .entry)) v) × (r < 2147483648) ⌝ }
+{
+    low_at(words, HEAD_WORDS + VARIANT_WORDS * v + 1)
 }

@@ -6,10 +6,12 @@ use crate::chains::chain_fault;
 use crate::head::head_fault;
 use crate::layout::read_sizes;
 use crate::variants::first_bad_variant;
+pub use filter::var_filter;
 
 pub mod alleles;
 pub mod calls;
 pub mod chains;
+pub mod filter;
 pub mod head;
 pub mod layout;
 pub mod pileup;
@@ -45,6 +47,31 @@ pub enum Refusal {
 // The answer of the check.
 pub enum Checked {
     Accepted(Sizes),
+    Refused(Refusal),
+}
+
+// When variants stand too close: more than n others of quality gq or more within len bases.
+pub struct DensityParameters {
+    pub n: u32,
+    pub len: u32,
+    pub gq: f64,
+}
+
+// The filters that a variant fails.
+pub enum VarFilter {
+    Pass,
+    Density,
+    Depth,
+    DensityAndDepth,
+    StrandBias,
+    DensityAndStrandBias,
+    DepthAndStrandBias,
+    DensityAndDepthAndStrandBias,
+}
+
+// The answer of var_filter.
+pub enum Filtered {
+    Done,
     Refused(Refusal),
 }
 

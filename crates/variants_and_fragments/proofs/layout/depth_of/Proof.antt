@@ -1,8 +1,8 @@
--- `layout::depth` meets its contract: of an accepted variant the word is not negative.
+-- `layout::depth_of` meets its contract: of an accepted variant the word is not negative.
 -- Assumes nothing.
 use borrow.Author.Needs.{needs}
-use Rattle.variants_and_fragments.proofs.layout.depth.Statement.{statement}
-use Rattle.variants_and_fragments.proofs.layout.depth.Tie as tie
+use Rattle.variants_and_fragments.proofs.layout.depth_of.Statement.{statement}
+use Rattle.variants_and_fragments.proofs.layout.depth_of.Tie as tie
 
 mul-low-at : tie.Need-mul-low-at
 mul-low-at c = search needs
@@ -19,5 +19,5 @@ low-at-requires c κs = (search needs, c .pre .1 .0 .each (c .args .v) (c .pre .
 returns : tie.Need-returns
 returns c = search needs
 
-pub depth-spec : {M : Type 1} → statement M
-depth-spec = tie.close (tie.spec mul-low-at add-low-at add-low-at-2 low-at-requires returns)
+pub depth-of-spec : {M : Type 1} → statement M
+depth-of-spec = tie.close (tie.spec mul-low-at add-low-at add-low-at-2 low-at-requires returns)
