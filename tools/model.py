@@ -194,3 +194,395 @@ def var_filter(words, bases, quals, density_qual, density_dist, density_count, m
         if case.variants[v].dp > max_depth:
             out[v] |= 2
     return out + list(filters[n:])
+
+
+# ---- 01, section 1: steps. None is the mark, probability zero.
+
+
+def _knots():
+    def root(k):
+        low, high = 0, 2**40 + 1
+        while high - low > 1:
+            middle = (low + high) // 2
+            if middle**128 << k <= 2**5120:
+                low = middle
+            else:
+                high = middle
+        return low
+
+    return [((2**40 + root(k))**4096).bit_length() - 1 - 163840 for k in range(1665)]
+
+
+_T = []
+
+
+def addend(d):
+    """A(d)."""
+    if not _T:
+        _T.extend(_knots())
+    if d >= 53248:
+        return 0
+    k, r = divmod(d, 32)
+    return _T[k] - (_T[k] - _T[k + 1]) * r // 32
+
+
+def ln_add_exp(a, b):
+    if a is None or b is None:
+        return b if a is None else a
+    return max(a, b) + addend(abs(a - b))
+
+
+def ln_sum_exp(values):
+    total = None
+    for x in values:
+        total = ln_add_exp(total, x)
+    return total
+
+
+def ln_one_minus_exp(p):
+    """The greatest q <= 0 with ln_add_exp(p, q) <= 0; of 0 the mark."""
+    if p == 0:
+        return None
+    if p is None:
+        return 0
+    low, high = -65536, 1
+    while high - low > 1:
+        middle = (low + high) // 2
+        if ln_add_exp(p, middle) <= 0:
+            low = middle
+        else:
+            high = middle
+    return low
+
+
+MAX_VCF_QUAL = 500.0
+
+
+def phred(p):
+    return MAX_VCF_QUAL if p is None else float(-p) * ((3.010299956639812 / 1048576) * 256)
+
+
+def capped_phred(p):
+    return min(phred(p), MAX_VCF_QUAL)
+
+
+def quality_byte(p):
+    return 33 + sum(1 for w in range(1, 94) if w <= phred(p))
+
+
+# ---- 01, section 3: priors. Rates: hom_snv, het_snv, hom_indel, het_indel, ts, tv.
+
+HALF, QUARTER = -4096, -8192
+
+
+def check_rates(rates):
+    for i, rate in enumerate(rates):
+        if not LOWEST_QUAL <= rate <= -1:
+            raise Refused(6, i)
+    if not ln_sum_exp(rates[:4]) < 0:
+        raise Refused(6, 6)
+
+
+def _letter(rates, same, snv, indel, base, letter):
+    if letter in "DI":
+        return indel + HALF + QUARTER
+    if letter == base:
+        return same
+    transition = base + letter in ("AG", "GA", "CT", "TC")
+    return snv + (rates[4] if transition else rates[5])
+
+
+def diploid(rates, base, first, second):
+    hom_snv, het_snv, hom_indel, het_indel = rates[:4]
+    if first == second:
+        return _letter(rates, ln_one_minus_exp(ln_sum_exp(rates[:4])), hom_snv, hom_indel, base, first)
+    same = ln_one_minus_exp(het_snv + het_indel)
+    return sum(_letter(rates, same, het_snv, het_indel, base, x) for x in (first, second))
+
+
+def _compared(reference, allele, base):
+    if len(allele) != len(reference):
+        return base, "I" if len(allele) > len(reference) else "D"
+    if allele[0] != base:
+        return base, allele[0]
+    stop = next((i for i in range(len(allele)) if allele[i] != reference[i]), len(allele) - 1)
+    return reference[stop], allele[stop]
+
+
+def get_prior(rates, variant, i, j):
+    reference = variant.alleles[0]
+    base, first = _compared(reference, variant.alleles[i], reference[0])
+    base, second = _compared(reference, variant.alleles[j], base)
+    return diploid(rates, base, first, second) + (HALF if first != second else 0)
+
+
+def pairs(variant):
+    k = len(variant.alleles)
+    return [(i, j) for i in range(k) for j in range(k)]
+
+
+def nine(values):
+    return values + [0] * (9 - len(values))
+
+
+def written(values, before):
+    return values + list(before[len(values):])
+
+
+def genotype_priors(words, bases, rates, priors):
+    """01, section 3: the priors' slice afterwards."""
+    case = check(words, bases)
+    check_rates(rates)
+    need(9 * len(case.variants), priors)
+    out = [x for v in case.variants for x in nine([get_prior(rates, v, i, j) for i, j in pairs(v)])]
+    return written(out, priors)
+
+
+# ---- 01, section 4: posteriors.
+
+
+def normalize(variant, scores):
+    """Scores of the pairs in row-major order, less the sum of row sums."""
+    k = len(variant.alleles)
+    total = ln_sum_exp([ln_sum_exp(scores[k * i:k * i + k]) for i in range(k)])
+    return [x - total for x in scores]
+
+
+def max_genotype_post(variant, posts, phased):
+    """The first row-major maximum (strict >), and its value, 0 where it is above."""
+    k = len(variant.alleles)
+    best, top = None, None
+    for i, j in pairs(variant):
+        score = posts[k * i + j]
+        if not phased and i != j:
+            score = ln_add_exp(score, posts[k * j + i])
+        if top is None or score > top:
+            best, top = (i, j), score
+    return best, min(top, 0)
+
+
+def calls_at(case, v):
+    return [(f, c) for f in case.fragments for c in f.calls if c.variant == v]
+
+
+def call_without_haplotypes(call, i, j):
+    matches = (i == call.allele) + (j == call.allele)
+    if matches == 2:
+        return call.one_minus_qual
+    if matches == 0:
+        return call.qual
+    return ln_add_exp(call.qual + HALF, call.one_minus_qual + HALF)
+
+
+def call_genotypes_no_haplotypes(words, bases, rates, variants, quals, gqs):
+    """01, section 4: the three slices afterwards (qualities as patterns)."""
+    case = check(words, bases)
+    check_rates(rates)
+    n = len(case.variants)
+    short = [c for c, s in ((13 * n, variants), (n, quals), (n, gqs)) if len(s) < c]
+    if short:
+        raise Refused(10, min(short))
+    out, qual, gq = [], [], []
+    for v, variant in enumerate(case.variants):
+        here = calls_at(case, v)
+        used = [(f, c) for f, c in here if case.usable(f, c)]
+        scores = [get_prior(rates, variant, i, j) + sum(call_without_haplotypes(c, i, j) for _, c in used) for i, j in pairs(variant)]
+        posts = normalize(variant, scores)
+        best, top = max_genotype_post(variant, posts, False)
+        forward = [sum(1 for f, c in used if c.allele == a and f.strand == 0) for a in range(3)]
+        reverse = [sum(1 for f, c in used if c.allele == a and f.strand == 1) for a in range(3)]
+        counts = [x + y for x, y in zip(forward, reverse)]
+        out += list(best) + counts + forward + reverse + [len(here) - len(used), max(variant.dp, len(here))]
+        qual.append(pattern(capped_phred(posts[0])))
+        gq.append(pattern(capped_phred(ln_one_minus_exp(top))))
+    return written(out, variants), written(qual, quals), written(gq, gqs)
+
+
+# ---- 01, section 5: the given phase.
+
+
+def phase_rule(variant):
+    """The phased rule without the byte."""
+    a = variant.alleles
+    return len(a) >= 2 and variant.genotype[0] != variant.genotype[1] and len(a[0]) == 1 and len(a[1]) == 1
+
+
+def check_phase(case, phase, sets):
+    n = len(case.variants)
+    if len(phase) != n or len(sets) != n:
+        raise Refused(7, n)
+    for v in range(n):
+        if sets[v] >= n:
+            raise Refused(7, v)
+
+
+def start_haplotypes(case, phase):
+    out = []
+    for variant, byte in zip(case.variants, phase):
+        low, high = sorted(variant.genotype)
+        out += {48: [low, high], 49: [high, low]}.get(byte, list(variant.genotype))
+    return out
+
+
+def given_phase(words, bases, phase, sets, haplotypes, phased, names):
+    case = check(words, bases)
+    check_phase(case, phase, sets)
+    n = len(case.variants)
+    short = [c for c, s in ((2 * n, haplotypes), (n, phased), (n, names)) if len(s) < c]
+    if short:
+        raise Refused(10, min(short))
+    flags = [int(phase_rule(v) and b in (48, 49)) for v, b in zip(case.variants, phase)]
+    name = []
+    for v in range(n):
+        if sets[v] < 0 or phase[v] not in (48, 49):
+            name.append(0)
+        else:
+            name.append(min(case.variants[u].pos0 for u in range(n) if sets[u] == sets[v]) + 1)
+    return written(start_haplotypes(case, phase), haplotypes), written(flags, phased), written(name, names)
+
+
+# ---- 01, section 6: sweeps.
+
+
+def check_orders(n, orders):
+    if n == 0:
+        if orders:
+            raise Refused(8, 0)
+        return [[]]
+    if not orders or len(orders) % n:
+        raise Refused(8, 0)
+    out = [orders[i:i + n] for i in range(0, len(orders), n)]
+    for i, order in enumerate(out):
+        if sorted(order) != list(range(n)):
+            raise Refused(8, i)
+    return out
+
+
+class Sweeps:
+    """The definitions of section 6 over a case, its priors and its phased flags."""
+
+    def __init__(self, case, rates, phased):
+        self.case, self.phased = case, phased
+        self.priors = [{(i, j): get_prior(rates, v, i, j) for i, j in pairs(v)} for v in case.variants]
+        self.reads = [[c for c in f.calls if case.usable(f, c)] for f in case.fragments]
+
+    def likelihood(self, calls, alleles, counts):
+        return sum(c.one_minus_qual if c.allele == alleles[c.variant] else c.qual for c in calls if counts(c.variant))
+
+    def share(self, calls, haps, counts):
+        two = [self.likelihood(calls, haps[h::2], counts) for h in (0, 1)]
+        return ln_add_exp(two[0] + HALF, two[1] + HALF)
+
+    def score(self, v, haps, i, j):
+        with_pair = haps[:2 * v] + [i, j] + haps[2 * v + 2:]
+        total = self.priors[v][i, j]
+        for calls in self.reads:
+            for c in calls:
+                if c.variant == v:
+                    total += self.share(calls, with_pair, lambda w: w == v or self.phased[w])
+        return total
+
+    def total(self, haps, counts):
+        priors = sum(self.priors[v][haps[2 * v], haps[2 * v + 1]] for v in range(len(self.priors)) if counts(v))
+        return priors + sum(self.share(calls, haps, counts) for calls in self.reads)
+
+    def run(self, haps, orders, limit):
+        posts = {}
+        for s in range(limit):
+            before = list(haps)
+            for v in orders[s % len(orders)]:
+                scores = [self.score(v, haps, i, j) for i, j in pairs(self.case.variants[v])]
+                best = scores.index(max(scores))
+                k = len(self.case.variants[v].alleles)
+                haps = haps[:2 * v] + [best // k, best % k] + haps[2 * v + 2:]
+                posts[v] = normalize(self.case.variants[v], scores)
+            if haps == before:
+                return s + 1, True, haps, posts
+        return limit, False, haps, posts
+
+
+def call_genotypes_with_haplotypes(words, bases, rates, phase, sets, orders, limit, haplotypes, likelihoods, posteriors, quals, gqs):
+    """01, sections 6 and 7: the returned fields and the five slices afterwards (qualities as patterns)."""
+    case = check(words, bases)
+    check_rates(rates)
+    check_phase(case, phase, sets)
+    n, f = len(case.variants), len(case.fragments)
+    lists = check_orders(n, orders)
+    if not 1 <= limit <= 1000000:
+        raise Refused(9, limit)
+    needs = ((2 * n, haplotypes), (2 * f, likelihoods), (9 * n, posteriors), (n, quals), (n, gqs))
+    short = [c for c, s in needs if len(s) < c]
+    if short:
+        raise Refused(10, min(short))
+    phased = [phase_rule(v) and b in (48, 49) for v, b in zip(case.variants, phase)]
+    sweeps = Sweeps(case, rates, phased)
+    start = start_haplotypes(case, phase)
+    count, settled, haps, posts = sweeps.run(start, lists, limit)
+
+    def in_phase(v):
+        return phased[v]
+
+    fields = [count, "settled" if settled else "unsettled", sweeps.total(start, in_phase), sweeps.total(haps, in_phase),
+              sweeps.total(haps, lambda v: True)]
+    liks = [sweeps.likelihood(calls, haps[h::2], in_phase) for calls in sweeps.reads for h in (0, 1)]
+    post, qual, gq = [], [], []
+    for v, variant in enumerate(case.variants):
+        mine = posts[v]
+        (i, j), _ = max_genotype_post(variant, mine, True)
+        k = len(variant.alleles)
+        others = [mine[k * a + b] for a, b in pairs(variant) if (a, b) not in ((i, j), (j, i))]
+        post += nine(mine)
+        qual.append(pattern(capped_phred(mine[0])))
+        gq.append(pattern(capped_phred(ln_sum_exp(others))))
+    slices = [written(new, old) for new, old in ((haps, haplotypes), (liks, likelihoods), (post, posteriors), (qual, quals), (gq, gqs))]
+    return fields, slices
+
+
+# ---- 01, section 7: fragment lines and orders.
+
+
+def generate_flist_buffer(words, bases, single_reads, buffer):
+    """Bytes and lines written, and the buffer afterwards."""
+    case = check(words, bases)
+    flags = [phase_rule(v) for v in case.variants]
+    text, lines = b"", 0
+    for fragment in case.fragments:
+        calls = [c for c in fragment.calls if flags[c.variant] and case.usable(fragment, c)]
+        if not calls or (len(calls) == 1 and not single_reads):
+            continue
+        blocks = []
+        for c in calls:
+            if blocks and c.variant == blocks[-1][-1].variant + 1:
+                blocks[-1].append(c)
+            else:
+                blocks.append([c])
+        parts = ["%d %d:%s" % (len(blocks), lines, "+" if fragment.strand else "-")]
+        parts += ["%d %s" % (b[0].variant + 1, "".join(str(c.allele) for c in b)) for b in blocks]
+        text += " ".join(parts).encode() + b" " + bytes(quality_byte(c.qual) for c in calls) + b"\0"
+        lines += 1
+    need(len(text), buffer)
+    return len(text), lines, written(list(text), buffer)
+
+
+def splitmix(state):
+    """The next state and its output."""
+    mask = 2**64 - 1
+    state = (state + 0x9E3779B97F4A7C15) & mask
+    z = ((state ^ (state >> 30)) * 0xBF58476D1CE4E5B9) & mask
+    z = ((z ^ (z >> 27)) * 0x94D049BB133111EB) & mask
+    return state, z ^ (z >> 31)
+
+
+def sweep_orders(words, bases, seed, orders):
+    n = len(check(words, bases).variants)
+    if (n == 0 and orders) or (n > 0 and (not orders or len(orders) % n)):
+        raise Refused(8, 0)
+    out, state = [], seed
+    for _ in range(len(orders) // n if n else 0):
+        order = list(range(n))
+        for i in range(n - 1, 0, -1):
+            state, z = splitmix(state)
+            j = z % (i + 1)
+            order[i], order[j] = order[j], order[i]
+        out += order
+    return out

@@ -56,6 +56,55 @@ class Record:
         self.add(request, answer(refusal, [], [after]))
 
 
+    def operation(self, word, parts, call, outputs):
+        """A request whose answer is `call(*befores)`: the fields, and the output slices afterwards. `outputs` gives
+        each output slice's element type and length."""
+        befores = [[FILL[kind]] * room for kind, room in outputs]
+        try:
+            (fields, afters), refusal = call(*befores), None
+        except Refused as r:
+            fields, afters, refusal = [], befores, r
+        text = "\n".join([word] + parts + [str(room) for _, room in outputs])
+        self.add(text, answer(refusal, [str(x) for x in fields], afters))
+
+    def priors(self, words, bases, rates, room):
+        self.operation("priors", [slice_text(words), slice_text(bases), rate_text(rates)],
+                       lambda out: ([], [model.genotype_priors(words, bases, rates, out)]), [("i64", room)])
+
+    def nohap(self, words, bases, rates, rooms):
+        self.operation("nohap", [slice_text(words), slice_text(bases), rate_text(rates)],
+                       lambda *out: ([], model.call_genotypes_no_haplotypes(words, bases, rates, *out)),
+                       list(zip(("i32", "f64", "f64"), rooms)))
+
+    def phase(self, words, bases, phase, sets, rooms):
+        self.operation("phase", [slice_text(words), slice_text(bases), slice_text(phase), slice_text(sets)],
+                       lambda *out: ([], model.given_phase(words, bases, phase, sets, *out)),
+                       list(zip(("u8", "u8", "u32"), rooms)))
+
+    def run(self, words, bases, rates, phase, sets, orders, limit, rooms):
+        self.operation("run", [slice_text(words), slice_text(bases), rate_text(rates), slice_text(phase), slice_text(sets),
+                               slice_text(orders), str(limit)],
+                       lambda *out: model.call_genotypes_with_haplotypes(words, bases, rates, phase, sets, orders, limit, *out),
+                       list(zip(("u8", "i64", "i64", "f64", "f64"), rooms)))
+
+    def flist(self, words, bases, single_reads, room):
+        def call(out):
+            size, lines, after = model.generate_flist_buffer(words, bases, bool(single_reads), out)
+            return [size, lines], [after]
+        self.operation("flist", [slice_text(words), slice_text(bases), str(single_reads)], call, [("u8", room)])
+
+    def orders(self, words, bases, seed, room):
+        self.operation("orders", [slice_text(words), slice_text(bases), str(seed)],
+                       lambda out: ([], [model.sweep_orders(words, bases, seed, out)]), [("u32", room)])
+
+
+def rate_text(rates):
+    return " ".join(map(str, rates))
+
+
+RATES = [-70000] * 4 + [-4096, -8192]
+
+
 def sample():
     """Four variants (a single base, three alleles, an indel, one allele) and five fragments."""
     variants = [
@@ -253,12 +302,158 @@ def random_filters(rec, rng, count):
         rec.filter(*encode(case), quals, 20.0, rng.randrange(12), rng.randrange(4), rng.choice([0, 2, 3, 8]), n + rng.randrange(2))
 
 
+def alone(alleles, genotype=(0, 0), reads=(), cutoff=-2000):
+    """One variant, and reads of one call each: (allele, qual, one_minus_qual, strand)."""
+    return Case([Variant(7, 3, genotype, alleles)], [Fragment(s, [Call(0, a, q, o)]) for a, q, o, s in reads], cutoff)
+
+
+def priors(rec, rng):
+    rec.note("priors: sample (g); AC/AG and AC/CA; A/A; one allele of two bases; indels; then refusals 6 and 10")
+    for alleles in (["A", "G"], ["AC", "AG"], ["AC", "CA"], ["A", "A"], ["AC"], ["C", "CA", "T"], ["GTT", "G", "GTTT"], ["ACGT", "ACGA", "ACCT"],
+                    ["A", "C", "T"], ["G", "A", "GA"], ["CT", "C", "CG"], ["TT", "TA", "AT"]):
+        rec.priors(*encode(alone(alleles)), RATES, 9)
+    words, bases = encode(sample())
+    rec.priors(words, bases, [-90000, -60000, -120001, -70001, -1000, -7777], 40)
+    for i in range(6):
+        for bad in (0, -262145, 5):
+            rec.priors(words, bases, RATES[:i] + [bad] + RATES[i + 1:], 36)
+    for first in ([-8192] * 4, [-8193] * 4, [-1] * 4, [-4096, -4097, -262144, -262144], [-4096, -4096, -262144, -262144]):
+        rec.priors(words, bases, first + [-1, -262144], 36)
+    rec.priors(words, bases, RATES, 35)
+    rec.priors(words, bases, [0] * 6, 0)
+    rec.priors([0, 0, 0, 0], [], RATES, 0)
+    rec.priors(words[:-1], bases, [0] * 6, 0)
+    for _ in range(25):
+        case = random_case(rng)
+        rec.priors(*encode(case), [-rng.randrange(20000, 262145) for _ in range(4)] + [-rng.randrange(1, 262145) for _ in range(2)], 9 * len(case.variants))
+
+
+def nohap(rec, rng):
+    rec.note("nohap: one allele (qual 0.0, gq 500.0), ties, strands, equality at the cutoff, refusals")
+    match, miss = -1700, -5796
+    rec.nohap(*encode(alone(["A"])), RATES, (13, 1, 1))
+    rec.nohap(*encode(alone(["A", "G"], (0, 1), [(1, miss, match, 0)])), RATES, (13, 1, 1))
+    rec.nohap(*encode(alone(["A", "G"], (0, 1), [(1, miss, match, s % 2) for s in range(30)] + [(0, miss, match, 1)] * 30)), RATES, (14, 2, 3))
+    rec.nohap(*encode(alone(["A", "G"], (0, 0), [(1, -2000, match, 0), (1, -2001, match, 1), (0, 0, -9, 0)])), RATES, (13, 1, 1))
+    rec.nohap(*encode(alone(["A", "A", "A"], (0, 0), [(2, -262144, 0, 0)] * 9)), RATES, (13, 1, 1))
+    words, bases = encode(sample())
+    rec.nohap(words, bases, RATES, (52, 4, 4))
+    for rooms in ((51, 4, 4), (52, 3, 4), (52, 4, 3), (0, 0, 0)):
+        rec.nohap(words, bases, RATES, rooms)
+    rec.nohap(words, bases, RATES[:5] + [0], (0, 0, 0))
+    rec.nohap([0, 0, 0, 0], [], RATES, (1, 1, 0))
+    for _ in range(25):
+        case = random_case(rng)
+        n = len(case.variants)
+        rec.nohap(*encode(case), [-rng.randrange(20000, 262145) for _ in range(4)] + [-rng.randrange(1, 30000) for _ in range(2)], (13 * n, n, n))
+
+
+def phase(rec, rng):
+    rec.note("phase: each byte orders every variant; names over all variants of a set; refusals 7 and 10")
+    words, bases = encode(sample())
+    rec.phase(words, bases, [48, 49, 48, 49], [0, 0, 1, 1], (8, 4, 4))
+    rec.phase(words, bases, [49, 48, 45, 0], [3, 3, 3, -1], (9, 5, 6))
+    rec.phase(words, bases, [45, 49, 49, 48], [2, 2, -2147483648, 0], (8, 4, 4))
+    two = encode(Case([Variant(3, 0, (1, 0), ["A", "C"]), Variant(9, 0, (2, 1), ["A", "C", "GG"]), Variant(9, 0, (0, 1), ["A", "CC"])], [], 0))
+    for byte in (48, 49, 50):
+        rec.phase(*two, [byte] * 3, [2, 1, 2], (6, 3, 3))
+    rec.phase(words, bases, [48] * 3, [0] * 4, (8, 4, 4))
+    rec.phase(words, bases, [48] * 4, [0] * 5, (8, 4, 4))
+    rec.phase(words, bases, [48] * 4, [0, 4, 9, 0], (8, 4, 4))
+    rec.phase(words, bases, [48] * 4, [0, 1, 2, 3], (7, 4, 4))
+    rec.phase(words, bases, [48] * 4, [0, 1, 2, 3], (7, 3, 4))
+    rec.phase(words, bases, [48] * 4, [0, 1, 2, 3], (8, 4, 3))
+    rec.phase([0, 0, 0, 0], [], [], [], (0, 1, 2))
+    for _ in range(25):
+        case = random_case(rng)
+        n = len(case.variants)
+        rec.phase(*encode(case), [rng.choice([48, 49, 45]) for _ in range(n)], [rng.randrange(-1, n) for _ in range(n)], (2 * n, n, n))
+
+
+def flist(rec, rng):
+    rec.note("flist: the sample of document 01, blocks, skipped fragments, reverse strands, refusal 10")
+    snv = [Variant(i, 0, (0, 1), ["A", "G", "CC"]) for i in range(12)]
+    line = Case(snv, [Fragment(0, [Call(0, 1, -13607, 0), Call(1, 0, -13607, 0), Call(3, 1, -13607, 0)])], -2000)
+    rec.flist(*encode(line), 0, 19)
+    rec.flist(*encode(line), 0, 24)
+    rec.flist(*encode(line), 1, 18)
+    many = Case(snv, [Fragment(1, [Call(9, 2, -262144, 0)]), Fragment(0, []), Fragment(1, [Call(8, 1, -2001, 0), Call(9, 2, -2000, 0), Call(10, 0, -5000, 0)]),
+                      Fragment(0, [Call(v, v % 3, -2001 - 1361 * v, 0) for v in range(12)])], -2000)
+    for single in (0, 1):
+        rec.flist(*encode(many), single, 120)
+    rec.flist(*encode(sample()), 1, 60)
+    rec.flist([0, 0, 0, 0], [], 0, 0)
+    for _ in range(25):
+        rec.flist(*encode(random_case(rng)), rng.randrange(2), 200)
+
+
+def orders(rec, rng):
+    rec.note("orders: seed 0 and others, several orders, refusal 8")
+    words, bases = encode(sample())
+    rec.orders(words, bases, 0, 12)
+    rec.orders(words, bases, 18446744073709551615, 4)
+    for room in (0, 3, 5, 13):
+        rec.orders(words, bases, 1, room)
+    rec.orders([0, 0, 0, 0], [], 5, 0)
+    rec.orders([0, 0, 0, 0], [], 5, 1)
+    for n in (1, 2, 3, 17):
+        rec.orders(*encode(spread(list(range(n)))), rng.randrange(2**64), 3 * n)
+
+
+def runs(rec, rng):
+    rec.note("run: samples (h) to (k); refusals 6 to 10")
+    read = {a: (a, -5796, -1700, 0) for a in (0, 1)}
+    snv = ["A", "G"]
+    rec.run(*encode(alone(snv, (0, 1), [read[1]])), RATES, [48], [0], [0], 10, (2, 2, 9, 1, 1))
+    for count in (112, 113):
+        for byte in (48, 49):
+            rec.run(*encode(alone(snv, (0, 1), [read[0]] * count + [read[1]] * count)), RATES, [byte], [0], [0], 1000000, (2, 4 * count, 9, 1, 1))
+    rec.run([0, 0, 0, 0], [], RATES, [], [], [], 1, (0, 0, 0, 0, 0))
+    words, bases = encode(sample())
+    full = (8, 10, 36, 4, 4)
+    order = [0, 1, 2, 3]
+    good = [words, bases, RATES, [48, 49, 48, 49], [0, 0, 1, 1], order, 5, full]
+    rec.run(*good)
+
+    def changed(i, value):
+        return good[:i] + [value] + good[i + 1:]
+
+    for limit in (0, 1000001, 4294967295, 1, 2):
+        rec.run(*changed(6, limit))
+    for bad in ([], [0, 1, 2], [0, 1, 2, 3, 0], [0, 1, 2, 2], order + [3, 2, 1, 4], order + order + [1, 0, 3, 3]):
+        rec.run(*changed(5, bad))
+    rec.run(*changed(3, [48] * 3))
+    rec.run(*changed(4, [0, 0, 4, 1]))
+    rec.run(*changed(2, RATES[:3] + [0] + RATES[4:]))
+    for i, room in enumerate(full):
+        rec.run(*changed(7, full[:i] + (room - 1,) + full[i + 1:]))
+    rec.run([0, 0, 0, 0], [], RATES, [], [], [0], 1, (0, 0, 0, 0, 0))
+    rec.note("random small runs: ties, unphased mixes, several orders, short limits")
+    for _ in range(60):
+        case = random_case(rng, 7)
+        n, f = len(case.variants), len(case.fragments)
+        if rng.random() < 0.5:
+            for x in case.fragments:
+                for c in x.calls:
+                    c.qual, c.one_minus_qual = rng.choice([(-5796, -1700), (-5796, -1700), (-4096, -4096)])
+        m = rng.randint(1, 3)
+        lists = [v for _ in range(m) for v in rng.sample(range(n), n)] if n else []
+        rec.run(*encode(case), RATES, [rng.choice([48, 49, 45]) for _ in range(n)], [rng.randrange(-1, n) for _ in range(n)],
+                lists, rng.choice([1, 2, 50]), (2 * n + rng.randrange(2), 2 * f, 9 * n, n, n))
+
+
+# The requests that the program has; a later operation joins the list with its library function.
+LATER = []
+
+
 def main():
     rec, rng = Record(), random.Random(1)
     for part in (accepted, heads, variants, alleles, calls, chains, order_of_numbers, filters):
         part(rec)
     damaged(rec, rng, 150)
     random_filters(rec, rng, 60)
+    for part in LATER:
+        part(rec, rng)
     rec.note("an integer that does not fit its type ends the program")
     rec.add("check 1 2147483648 0", "unreadable\n")
     rec.requests.append("check 4 0 0 0 0 0\n")
