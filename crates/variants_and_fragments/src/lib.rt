@@ -7,6 +7,8 @@ use crate::head::head_fault;
 use crate::layout::read_sizes;
 use crate::variants::first_bad_variant;
 pub use filter::var_filter;
+pub use refusals::number;
+pub use refusals::place;
 
 pub mod alleles;
 pub mod calls;

@@ -1,0 +1,10 @@
+pub mod Signs
+pub mod Readings
+pub mod Tokens
+pub mod Nans
+pub mod Magnitudes
+pub mod Decimal
+pub mod Reading
+pub mod Printed
+pub mod Words
+pub mod Samples

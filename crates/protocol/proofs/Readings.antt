@@ -1,0 +1,59 @@
+-- What a state reads as, by the tests that the code makes: the unsigned types by one law each for all of them. Assumes nothing.
+use mathlib.Core.Path.{_≡_, refl}
+use mathlib.Core.Bool.{Bool, true, false, _&&_, and-false, false≢true}
+use Prim.Native.Nat.{ℕ, _≤_, _<_, _^_}
+use lib.Dec.{leb}
+use borrow.Author.Tests.{lt-ltb, le-ltb, leb-true}
+use Rattle.protocol.specs.Text.{isDigit}
+use Rattle.protocol.specs.State.{grown, spoilt, natural, isNatural, isInteger, i32In, i32Sizes, withSign}
+use Rattle.protocol.specs.declared.number.Number.{Number}
+use Rattle.protocol.specs.declared.number.ReadI32.the-variants.{Value as I32·Value, Unreadable as I32·Unreadable}
+
+module _ {A : Type 0} (limit : ℕ) (value : ℕ → A) (unreadable : A) (s : Number) where
+  pub natural-value : isNatural s ≡ true → s .value < limit → value (s .value) ≡ natural limit value unreadable s
+  unfolding natural
+  natural-value h l = simp (h, lt-ltb (s .value) limit l)
+
+  pub natural-none : isNatural s ≡ false → unreadable ≡ natural limit value unreadable s
+  unfolding natural
+  natural-none h = simp h
+
+  pub natural-large : limit ≤ s .value → unreadable ≡ natural limit value unreadable s
+  unfolding natural
+  natural-large l = simp (le-ltb (s .value) limit l, and-false)
+
+module _ (s : Number) where
+  pub i32-none : isInteger s ≡ false → I32·Unreadable ≡ i32In s
+  unfolding i32In
+  i32-none h = simp h
+
+  pub i32-value : (n : Bool) → s .negative ≡ n → isInteger s ≡ true → s .value < i32Sizes n → I32·Value (withSign n (s .value)) ≡ i32In s
+  unfolding i32In
+  i32-value n e h l = simp (e, h, lt-ltb (s .value) (i32Sizes n) l)
+
+  pub i32-large : (n : Bool) → s .negative ≡ n → i32Sizes n ≤ s .value → I32·Unreadable ≡ i32In s
+  unfolding i32In
+  i32-large n e l = simp (e, le-ltb (s .value) (i32Sizes n) l, and-false)
+
+module _ (s : Number) (v : ℕ) where
+  pub grown-value : v < 2 ^ 64 → record { negative = s .negative; digits = true; bad = s .bad; value = v } ≡ grown s v
+  unfolding grown
+  grown-value h = simp (lt-ltb v (2 ^ 64) h)
+
+  pub grown-large : 2 ^ 64 ≤ v → spoilt s ≡ grown s v
+  unfolding grown
+  grown-large h = simp (le-ltb v (2 ^ 64) h)
+
+-- a digit's bounds
+pub both : (a b : Bool) → (a && b) ≡ true → (a ≡ true) × (b ≡ true)
+both true true h = (refl, refl)
+both true false h = absurd (false≢true h)
+both false b h = absurd (false≢true h)
+
+pub digit-low : (b : ℕ) → isDigit b ≡ true → 48 ≤ b
+unfolding isDigit
+digit-low b h = leb-true 48 b (both (leb 48 b) (leb b 57) h .0)
+
+pub digit-high : (b : ℕ) → isDigit b ≡ true → b ≤ 57
+unfolding isDigit
+digit-high b h = leb-true b 57 (both (leb 48 b) (leb b 57) h .1)

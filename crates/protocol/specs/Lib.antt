@@ -1,0 +1,5 @@
+pub mod Text
+pub mod State
+pub mod Print
+pub mod Input
+pub mod Word
