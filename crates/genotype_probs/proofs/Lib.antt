@@ -1,0 +1,9 @@
+pub mod Places
+pub mod Comparisons
+pub mod RateLaws
+pub mod PriorBounds
+pub mod AlleleLaws
+pub mod Maxima
+pub mod TableSums
+pub mod Outcomes
+pub mod Samples

@@ -1,0 +1,87 @@
+-- The search for the first maximum meets its statement, which one number alone meets.
+-- Assumes nothing.
+use mathlib.Core.Path.{_≡_, refl, sym, ap, subst, _∙_}
+use mathlib.Core.Bool.{Bool, true, false, cond}
+use mathlib.Core.List.{List}
+use Prim.Native.Nat.{ℕ, zero, suc, _+_, _*_, _≤_, _<_}
+use native.Mathlib.Nat.{le-antisymm}
+use native.Mathlib.Omega.{arith}
+use native.Mathlib.Numerals.{add-one}
+use native.Mathlib.Decide.{ℕ-discrete}
+use lib.IntN.{ℤ}
+use lib.Signed.{ltZ, _≤ℤ_, _<ℤ_}
+use Rattle.steps.proofs.Signed.{by-test, cases, zlin, true-lt, false-lt}
+use Rattle.genotype_probs.specs.Posteriors.{FirstMaximum, firstMaximum, postAt, maxGenotype}
+use Rattle.genotype_probs.proofs.TableSums.{place-in}
+
+self : (z : ℤ) → z ≤ℤ z
+self z = omega zlin
+
+module _ (f : ℕ → ℤ) where
+  -- one more number looked at
+  more : (n b : ℕ) → FirstMaximum f n b → FirstMaximum f (suc n) (cond (ltZ (f b) (f n)) n b)
+  more n b m =
+      let h = m .inside in
+      by-test (ltZ (f b) (f n))
+      (λ t.
+      let l = true-lt (f b) (f n) t in
+      rw t
+      (record {
+        inside = omega arith;
+        greatest = λ p k. elim (ℕ-discrete p n) [
+          | yes e ↦ subst (λ (q : ℕ). f q ≤ℤ f n) (sym e) (self (f n))
+          | no e ↦ let g = m .greatest p (omega arith) in omega zlin
+        ];
+        first = λ p k. let g = m .greatest p k in omega zlin;
+      }))
+      (λ t.
+      let l = false-lt (f b) (f n) t in
+      rw t
+      (record {
+        inside = omega arith;
+        greatest = λ p k. elim (ℕ-discrete p n) [
+          | yes e ↦ subst (λ (q : ℕ). f q ≤ℤ f b) (sym e) l
+          | no e ↦ m .greatest p (omega arith)
+        ];
+        first = m .first;
+      }))
+
+  one : FirstMaximum f 1 0
+  one =
+      record {
+        inside = omega arith;
+        greatest = λ p k. let e : p ≡ 0 = omega arith in subst (λ (q : ℕ). f q ≤ℤ f 0) (sym e) (self (f 0));
+        first = λ p k. absurd (omega arith);
+      }
+
+  pub maximum-one : _≡_ {A = ℕ} 0 (firstMaximum f 1)
+  unfolding firstMaximum
+  maximum-one = by-test (ltZ (f 0) (f 0)) (λ t. rw t) (λ t. rw t)
+
+  pub meets : (n : ℕ) → 0 < n → FirstMaximum f n (firstMaximum f n)
+  unfolding firstMaximum
+  meets zero h = absurd (omega arith)
+  meets (suc zero) h = subst (λ (r : ℕ). FirstMaximum f 1 r) maximum-one one
+  meets (suc (suc n)) h = more (suc n) (firstMaximum f (suc n)) (meets (suc n) (omega arith))
+
+  -- one number alone meets it
+  not-before : (n r s : ℕ) → FirstMaximum f n r → FirstMaximum f n s → r ≤ s
+  not-before n r s x y =
+      cases s r (λ h. let a = x .first s h in let b = y .greatest r (x .inside) in absurd (omega zlin)) (λ h. h)
+
+  pub one-maximum : (n r s : ℕ) → FirstMaximum f n r → FirstMaximum f n s → r ≡ s
+  one-maximum n r s x y = le-antisymm (not-before n r s x y) (not-before n s r y x)
+
+  -- a loop's turn: one more number looked at, and no greater one found or a greater one
+  pub maximum-more : (b n : ℕ) → b ≡ firstMaximum f n → ltZ (f b) (f n) ≡ true → n ≡ firstMaximum f (n + 1)
+  unfolding firstMaximum
+  maximum-more b n e t = rw (add-one, ← e, t)
+
+  pub maximum-kept : (b n : ℕ) → b ≡ firstMaximum f n → ltZ (f b) (f n) ≡ false → b ≡ firstMaximum f (n + 1)
+  unfolding firstMaximum
+  maximum-kept b n e t = rw (add-one, ← e, t)
+
+-- the genotype that is kept is the first maximum of its table
+pub genotype-maximum : (phased : Bool) (tab : List ℤ) (k : ℕ) → 1 ≤ k → FirstMaximum (postAt phased tab k) (k * k) (maxGenotype phased tab k)
+unfolding maxGenotype
+genotype-maximum phased tab k h = meets (postAt phased tab k) (k * k) (omega (arith, place-in 0 0 k h h))

@@ -1,0 +1,83 @@
+-- The outcomes of the operation, one law for each way that it ends; and what its code needs of an accepted case and of the table.
+-- Assumes nothing.
+use mathlib.Core.Path.{_≡_, refl, sym, ap, _∙_}
+use mathlib.Core.List.{List}
+use Prim.Native.Nat.{ℕ, _*_, _≤_, _<_}
+use native.Mathlib.Omega.{arith}
+use borrow.Author.Tests.{le-leb, lt-leb, lt-ltb, le-ltb}
+use lib.Dec.{leb}
+use lib.IntN.{ℤ, pos, natAbs}
+use lib.ListN.{length, getD}
+use Rattle.variants_and_fragments.specs.declared.Sizes.{Sizes}
+use Rattle.variants_and_fragments.specs.declared.Refusal.{Refusal}
+use Rattle.variants_and_fragments.specs.declared.Refusal.the-variants.{Rates as RatesAt, Short}
+use Rattle.variants_and_fragments.specs.declared.Checked.{Checked}
+use Rattle.variants_and_fragments.specs.declared.Checked.the-variants.{Accepted}
+use Rattle.variants_and_fragments.specs.Refusals.{number, place, Outcome, refused, done, andThen, unless, stop}
+use Rattle.variants_and_fragments.specs.Layout.{sizesOf}
+use Rattle.variants_and_fragments.specs.Check.{caseOf}
+use Rattle.variants_and_fragments.specs.Decode.{decode}
+use Rattle.variants_and_fragments.specs.Written.{written}
+use Rattle.variants_and_fragments.proofs.Outcomes.{stop-at, stop-on}
+use Rattle.variants_and_fragments.proofs.Accepted.{case-in, bases-in}
+use Rattle.variants_and_fragments.proofs.Decoded.{tabulate-length, tabulate-at, variant-count}
+use Rattle.genotype_probs.specs.declared.Rates.{Rates}
+use Rattle.genotype_probs.specs.declared.Priored.{Priored}
+use Rattle.genotype_probs.specs.declared.Priored.the-variants.{Done, Refused}
+use Rattle.genotype_probs.specs.Rates.{ratesFault}
+use Rattle.genotype_probs.specs.Priors.{tableEntry, priorTable, priorAt}
+use Rattle.genotype_probs.specs.Places.{TableIn, AllelesIn}
+use Rattle.genotype_probs.specs.Answers.{outcomeOf, prioredOf, priorsAfter, GenotypePriors}
+use Rattle.genotype_probs.proofs.RateLaws.{rates-in}
+use Rattle.genotype_probs.proofs.PriorBounds.{entry-down}
+
+-- ---- what the code needs
+pub alleles-in : (w : List ℤ) (b : List ℕ) (s : Sizes) → caseOf w b ≡ done s → AllelesIn w b s
+alleles-in w b s e =
+    let c = case-in w b s e in
+    record { sized = c .sized; variants = c .variants; bases = bases-in w b s e .size }
+
+pub table-in : (rates : Rates) → ratesFault rates ≡ 7 → TableIn (priorTable rates)
+unfolding priorTable
+table-in rates e =
+    record {
+      size = tabulate-length 144 (tableEntry rates);
+      small = λ i h. rw (tabulate-at 144 (tableEntry rates) i (pos 0) h) (entry-down rates (rates-in rates e) i .most);
+    }
+
+-- ---- the ways to end
+module _ (w : List ℤ) (b : List ℕ) (rates : Rates) (before : List ℤ) where
+  -- refused, whatever the number: the slice is as it was
+  pub refused-with : (x : Refusal) → refused (number x) (place x) ≡ prioredOf w b rates (length before) → GenotypePriors w b rates before (Refused x) before
+  unfolding outcomeOf priorsAfter
+  refused-with x q = record { answer = q; priors-after = rw (← q) }
+
+  -- numbers 1 to 5
+  pub case-refused : (x : Refusal) → refused (number x) (place x) ≡ caseOf w b → GenotypePriors w b rates before (Refused x) before
+  unfolding prioredOf andThen
+  case-refused x e = refused-with x (rw (← e))
+
+  module _ (s : Sizes) (e : caseOf w b ≡ done s) where
+    -- the outcome past the check of the case
+    past-case : prioredOf w b rates (length before) ≡ stop 6 (ratesFault rates) 7 (unless (leb (9 * (s .n)) (length before)) 10 (9 * (s .n)) (done tt))
+    unfolding prioredOf andThen
+    past-case = rw e
+
+    -- number 6
+    pub rates-refused : (p : ℕ) → p ≡ ratesFault rates → p < 7 → GenotypePriors w b rates before (Refused (RatesAt p)) before
+    rates-refused p q h =
+        refused-with (RatesAt p) (ap (refused 6) q ∙ stop-at 6 (ratesFault rates) 7 _ (omega arith) ∙ sym past-case)
+
+    -- number 10
+    pub short-refused : 7 ≤ ratesFault rates → length before < 9 * (s .n) → GenotypePriors w b rates before (Refused (Short (9 * (s .n)))) before
+    unfolding unless
+    short-refused h k =
+        refused-with (Short (9 * (s .n))) (sym (past-case ∙ sym (stop-on 6 (ratesFault rates) 7 _ h) ∙ rw (lt-leb (9 * (s .n)) (length before) k)))
+
+    -- done
+    pub all-written : (after : List ℤ) → 7 ≤ ratesFault rates → 9 * (s .n) ≤ length before → after ≡ written (priorAt (priorTable rates) (decode w b)) (9 * (s .n)) before → GenotypePriors w b rates before Done after
+    unfolding unless outcomeOf priorsAfter
+    all-written after h k q =
+        let d : prioredOf w b rates (length before) ≡ done tt = past-case ∙ sym (stop-on 6 (ratesFault rates) 7 _ h) ∙ rw (le-leb (9 * (s .n)) (length before) k) in
+        let n : length (decode w b .variants) ≡ s .n = variant-count w b ∙ ap (λ (z : Sizes). z .n) (sym (case-in w b s e .shape)) in
+        record { answer = sym d; priors-after = rw (d, n) q }

@@ -1,0 +1,148 @@
+-- Sums of tables: what a loop goes through, their sizes, and that the sum of row sums of a normalised table is 0, since ln_add_exp moves with
+-- a constant. Assumes nothing.
+use mathlib.Core.Path.{_≡_, refl, sym, ap, _∙_}
+use mathlib.Core.Bool.{true}
+use mathlib.Core.List.{List, [], _∷_, map}
+use Prim.Native.Nat.{ℕ, zero, suc, _+_, _*_, _-_, _/_, _%_, _≤_, _<_}
+use native.Mathlib.Nat.{mul-le-mul-right, suc-mul, div-lt-iff-lt-mul, mod-lt}
+use native.Mathlib.Numerals.{add-one}
+use native.Mathlib.Omega.{arith}
+use borrow.Author.Tests.{lt-ltb}
+use lib.IntN.{ℤ, pos, negℤ, natAbs, _+ℤ_, _-ℤ_}
+use lib.ListN.{length, getD, drop}
+use lib.Seq.{getD-drop}
+use Rattle.steps.specs.Logs.{addExp, sumExp}
+use Rattle.steps.proofs.Signed.{zlin, parts-minus, up-pos, dn-pos}
+use Rattle.steps.proofs.AddExp.{add-size}
+use Rattle.steps.proofs.Sums.{sum-shift}
+use Rattle.variants_and_fragments.specs.Decode.{tabulateFrom, tabulate}
+use Rattle.genotype_probs.specs.Places.{writtenFrom}
+use Rattle.genotype_probs.specs.Posteriors.{TableAt, sumOf, entryAt, rowSum, tableSum, normalized}
+use Rattle.genotype_probs.proofs.Places.{from-at}
+use Rattle.genotype_probs.proofs.AlleleLaws.{nine}
+
+-- ---- lists of a function's values
+from-cong : {X : Type 0} (f g : ℕ → X) (i k : ℕ) → ((j : ℕ) → j < i + k → f j ≡ g j) → tabulateFrom f i k ≡ tabulateFrom g i k
+unfolding tabulateFrom
+from-cong f g i zero h = refl
+from-cong f g i (suc k) h = rw (h i (omega arith), from-cong f g (suc i) k (λ j l. h j (omega arith)))
+
+pub tabulate-cong : {X : Type 0} (k : ℕ) (f g : ℕ → X) → ((j : ℕ) → j < k → f j ≡ g j) → tabulate k f ≡ tabulate k g
+tabulate-cong k f g h = from-cong f g 0 k (λ j l. h j (omega arith))
+
+from-shift : (f : ℕ → ℤ) (c : ℤ) (i k : ℕ) → tabulateFrom (λ j. f j +ℤ c) i k ≡ map (λ (x : ℤ). x +ℤ c) (tabulateFrom f i k)
+unfolding tabulateFrom
+from-shift f c i zero = refl
+from-shift f c i (suc k) = ap (λ (l : List ℤ). (f i +ℤ c) ∷ l) (from-shift f c (suc i) k)
+
+-- ---- sums
+pub sum-first : (f : ℕ → ℤ) (k : ℕ) → 1 ≤ k → sumOf (tabulate k f) ≡ sumExp (f 0) (tabulateFrom f 1 (k - 1))
+unfolding tabulateFrom sumOf
+sum-first f zero h = absurd (omega arith)
+sum-first f (suc k) h = let e : suc k - 1 ≡ k = omega arith in rw e
+
+pub sum-next : (f : ℕ → ℤ) (a : ℤ) (j k : ℕ) → j < k → sumExp a (tabulateFrom f j (k - j)) ≡ sumExp (addExp a (f j)) (tabulateFrom f (j + 1) (k - (j + 1)))
+unfolding tabulateFrom sumExp
+sum-next f a j k h = let e : k - j ≡ suc (k - (j + 1)) = omega arith in rw (e, add-one j)
+
+pub sum-done : (f : ℕ → ℤ) (a : ℤ) (j k : ℕ) → k ≤ j → sumExp a (tabulateFrom f j (k - j)) ≡ a
+unfolding tabulateFrom sumExp
+sum-done f a j k h = let e : k - j ≡ 0 = omega arith in rw e
+
+-- a constant added to each moves the sum by that constant
+pub sum-moves : (f : ℕ → ℤ) (c : ℤ) (k : ℕ) → 1 ≤ k → sumOf (tabulate k (λ j. f j +ℤ c)) ≡ sumOf (tabulate k f) +ℤ c
+sum-moves f c k h =
+    sum-first (λ j. f j +ℤ c) k h
+    ∙ ap (sumExp (f 0 +ℤ c)) (from-shift f c 1 (k - 1))
+    ∙ sum-shift c (f 0) (tabulateFrom f 1 (k - 1))
+    ∙ ap (λ (z : ℤ). z +ℤ c) (sym (sum-first f k h))
+
+-- ---- places of a table
+pub place-in : (i j k : ℕ) → i < k → j < k → i * k + j < k * k
+place-in i j k h l = let m = mul-le-mul-right k h in omega (arith, m, suc-mul i k)
+
+-- the pair of row-major number p
+pub pair-in : (k p : ℕ) → 1 ≤ k → p < k * k → (p / k < k) × (p % k < k)
+pair-in k p h l = (div-lt-iff-lt-mul {k = k} {x = p} {y = k} h .1 l, mod-lt p {m = k} h)
+
+-- ---- normalised
+module _ (tab norm : List ℤ) (k : ℕ) (low : 1 ≤ k) (each : (p : ℕ) → p < k * k → getD norm p (pos 0) ≡ normalized tab k p) where
+  entry-moves : (i j : ℕ) → i < k → j < k → entryAt norm k i j ≡ entryAt tab k i j +ℤ negℤ (tableSum tab k)
+  unfolding entryAt normalized
+  entry-moves i j h l =
+      each (i * k + j) (place-in i j k h l) ∙ rw (lt-ltb (i * k + j) (k * k) (place-in i j k h l))
+
+  row-moves : (i : ℕ) → i < k → rowSum norm k i ≡ rowSum tab k i +ℤ negℤ (tableSum tab k)
+  unfolding rowSum
+  row-moves i h =
+      ap sumOf (tabulate-cong k (entryAt norm k i) (λ j. entryAt tab k i j +ℤ negℤ (tableSum tab k)) (λ j l. entry-moves i j h l))
+      ∙ sum-moves (entryAt tab k i) (negℤ (tableSum tab k)) k low
+
+  minus-itself : (z : ℤ) → z -ℤ z ≡ pos 0
+  minus-itself z = let u = up-pos 0 in let d = dn-pos 0 in omega (zlin, parts-minus z z)
+
+  -- the sum of row sums of a normalised table is 0
+  pub normal-sum : tableSum norm k ≡ pos 0
+  unfolding tableSum
+  normal-sum =
+      ap sumOf (tabulate-cong k (rowSum norm k) (λ i. rowSum tab k i +ℤ negℤ (tableSum tab k)) row-moves)
+      ∙ sum-moves (rowSum tab k) (negℤ (tableSum tab k)) k low
+      ∙ minus-itself (sumOf (tabulate k (rowSum tab k)))
+
+-- ---- a loop that sums: `sum` is that of the first j values, each at most n steps from 0
+pub record Summing (n : ℕ) (f : ℕ → ℤ) (k : ℕ) (sum : ℤ) (j : ℕ) : Type 0 where
+  pub started : 1 ≤ j
+  pub inside : j ≤ k
+  pub rest : sumExp sum (tabulateFrom f j (k - j)) ≡ sumOf (tabulate k f)
+  pub small : natAbs sum ≤ n + 4096 * j
+
+pub summing-start : (n : ℕ) (f : ℕ → ℤ) (k : ℕ) (sum : ℤ) → 1 ≤ k → sum ≡ f 0 → natAbs (f 0) ≤ n → Summing n f k sum 1
+summing-start n f k sum h e l =
+    record {
+      started = omega arith;
+      inside = h;
+      rest = ap (λ (z : ℤ). sumExp z (tabulateFrom f 1 (k - 1))) e ∙ sym (sum-first f k h);
+      small = omega (arith, ap natAbs e);
+    }
+
+pub summing-more : (n : ℕ) (f : ℕ → ℤ) (k : ℕ) (sum next : ℤ) (j : ℕ) → Summing n f k sum j → j < k → next ≡ addExp sum (f j) → natAbs (f j) ≤ n → Summing n f k next (j + 1)
+summing-more n f k sum next j s h e l =
+    record {
+      started = omega arith;
+      inside = omega arith;
+      rest = ap (λ (z : ℤ). sumExp z (tabulateFrom f (j + 1) (k - (j + 1)))) e ∙ sym (sum-next f sum j k h) ∙ s .rest;
+      small = omega (arith, ap natAbs e, add-size sum (f j) (n + 4096 * j) (s .small) (omega arith));
+    }
+
+pub summing-end : (n : ℕ) (f : ℕ → ℤ) (k : ℕ) (sum : ℤ) (j : ℕ) → Summing n f k sum j → k ≤ j → (sum ≡ sumOf (tabulate k f)) × (natAbs sum ≤ n + 4096 * k)
+summing-end n f k sum j s h = (sym (sum-done f sum j k h) ∙ s .rest, omega (arith, s .small, s .inside))
+
+-- ---- sizes, for any list: each value at most n steps from 0
+from-small : (f : ℕ → ℤ) (n a-top : ℕ) (a : ℤ) (i k : ℕ) → n ≤ a-top → natAbs a ≤ a-top → ((j : ℕ) → j < i + k → natAbs (f j) ≤ n) → natAbs (sumExp a (tabulateFrom f i k)) ≤ a-top + 4096 * k
+unfolding tabulateFrom sumExp
+from-small f n top a i zero h l each = omega arith
+from-small f n top a i (suc k) h l each =
+    let x = each i (omega arith) in
+    let y = add-size a (f i) top l (omega arith) in
+    let r = from-small f n (top + 4096) (addExp a (f i)) (suc i) k (omega arith) y (λ j m. each j (omega arith)) in omega arith
+
+sum-small : (f : ℕ → ℤ) (n k : ℕ) → 1 ≤ k → ((j : ℕ) → j < k → natAbs (f j) ≤ n) → natAbs (sumOf (tabulate k f)) ≤ n + 4096 * k
+sum-small f n k h each =
+    let r = from-small f n n (f 0) 1 (k - 1) (omega arith) (each 0 h) (λ j m. each j (omega arith)) in
+    rw (sum-first f k h) (omega arith)
+
+-- the sum of row sums of k × k entries
+pub table-sum-small : (tab : List ℤ) (n k : ℕ) → 1 ≤ k → ((p : ℕ) → p < k * k → natAbs (getD tab p (pos 0)) ≤ n) → natAbs (tableSum tab k) ≤ n + 4096 * k + 4096 * k
+unfolding tableSum rowSum entryAt
+table-sum-small tab n k h each =
+    sum-small (rowSum tab k) (n + 4096 * k) k h
+    (λ i m. sum-small (entryAt tab k i) n k h (λ j l. each (i * k + j) (place-in i j k m l)))
+
+-- the slice that `normalize` leaves has a table there whose sum of row sums is 0
+pub normalized-slice : (post : List ℤ) (at k : ℕ) → TableAt post at k → tableSum (drop at (writtenFrom (normalized (drop at post) k) at 9 post)) k ≡ pos 0
+normalized-slice post at k t =
+    let g = normalized (drop at post) k in
+    normal-sum (drop at post) (drop at (writtenFrom g at 9 post)) k (t .k-low)
+    (λ p h.
+    let m = nine k (t .k-high) in
+    getD-drop at (writtenFrom g at 9 post) p (pos 0) ∙ from-at g at 9 post p (pos 0) (t .inside) (omega arith))

@@ -1,0 +1,100 @@
+-- `genotype_probs::posteriors::max_genotype` meets its contract. The loop's invariant: `best` is the first maximum of the first p values, and
+-- `top` its value. Assumes nothing.
+use mathlib.Core.Path.{_≡_, refl, sym, ap, _∙_}
+use mathlib.Core.Bool.{true, false}
+use mathlib.Core.Logic.{⊎-elim}
+use Prim.Native.Nat.{ℕ, _+_, _*_, _-_, _<_, _≤_, _^_}
+use native.Mathlib.Omega.{arith}
+use borrow.Author.Needs.{needs}
+use denote.Ref.{now}
+use lib.IntN.{ℤ}
+use lib.ListN.{drop}
+use lib.Signed.{ltZ}
+use mir.Syntax.{w64}
+use mir.Val.{toZ, ofZ}
+use Rattle.steps.proofs.Signed.{read-back}
+use Rattle.genotype_probs.specs.Posteriors.{postAt, firstMaximum, maxGenotype}
+use Rattle.genotype_probs.proofs.AlleleLaws.{nine}
+use Rattle.genotype_probs.proofs.Maxima.{maximum-one, maximum-more, maximum-kept}
+use Rattle.genotype_probs.proofs.TableSums.{place-in}
+use Rattle.genotype_probs.proofs.posteriors.max_genotype.Statement.{statement}
+use Rattle.genotype_probs.proofs.posteriors.max_genotype.Tie as tie
+
+abbrev Inv-loop : tie.InvT-loop
+Inv-loop t post at k phased m best₀ top₀ p₀ best top p =
+    (p ≤ k * k) × (best ≡ firstMaximum (postAt phased (drop at post) k) p) × (toZ w64 top ≡ postAt phased (drop at post) k best)
+
+abbrev μ-loop : tie.MeasureT-loop
+μ-loop t post at k phased m best₀ top₀ p₀ best top p = k * k - p
+
+mul-m : tie.Need-mul-m Inv-loop μ-loop
+mul-m c = omega (arith, nine (c .args .k) (c .pre .1 .k-high))
+
+-- the values
+abbrev value : tie.Start Inv-loop μ-loop → ℕ → ℤ
+value s = postAt (s .args .phased) (drop (s .args .at) (now (s .args .post))) (s .args .k)
+
+not-none : (s : tie.Start Inv-loop μ-loop) → 0 < s .args .k * s .args .k
+not-none s = let h = s .pre .1 .k-low in omega (arith, place-in 0 0 (s .args .k) h h)
+
+post-of-requires : tie.Need-post-of-requires Inv-loop μ-loop
+post-of-requires c κs = (c .pre .0, c .pre .1, not-none c)
+
+loop-holds : tie.Need-loop-holds Inv-loop μ-loop
+loop-holds c =
+    let s = c .before in
+    (not-none s, maximum-one (value s), read-back w64 (c .post-of .result) (c .post-of .ok) ∙ c .post-of .ensures)
+
+post-of-requires-2 : tie.Need-post-of-requires-2 Inv-loop μ-loop
+post-of-requires-2 c κs = let s = c .before .before .before in (s .pre .0, s .pre .1, c .loop-test .taken)
+
+add-p : tie.Need-add-p Inv-loop μ-loop
+add-p c =
+    let l = c .before .before .before in
+    let s = l .before .before in omega (arith, l .loop .inv .0, nine (s .args .k) (s .pre .1 .k-high))
+
+loop-less : tie.Need-loop-less Inv-loop μ-loop
+loop-less c = omega (arith, c .before .before .loop-test .taken)
+
+-- the value in hand
+read-x : (d : tie.After-post-of2 Inv-loop μ-loop) → toZ w64 (ofZ w64 (d .post-of2 .result)) ≡ value (d .before .before .before .before) (d .before .before .loop .p)
+read-x d = read-back w64 (d .post-of2 .result) (d .post-of2 .ok) ∙ d .post-of2 .ensures
+
+loop-again : tie.Need-loop-again Inv-loop μ-loop
+loop-again c =
+    let d = c .before in
+    let l = d .before .before in
+    let s = l .before .before in
+    let h = d .before .loop-test .taken in
+    let x = read-x d in
+    ⊎-elim
+    (λ w.
+    let t : ltZ (value s (l .loop .best)) (value s (l .loop .p)) ≡ true = rw (l .loop .inv .2, x) at (w .0 .taken) in
+    (omega arith, w .1 ∙ maximum-more (value s) (l .loop .best) (l .loop .p) (l .loop .inv .1) t, ap (toZ w64) (w .2) ∙ x ∙ sym (ap (value s) (w .1))))
+    (λ w.
+    let t : ltZ (value s (l .loop .best)) (value s (l .loop .p)) ≡ false = rw (l .loop .inv .2, x) at (w .0 .left) in
+    (omega arith, w .1 ∙ maximum-kept (value s) (l .loop .best) (l .loop .p) (l .loop .inv .1) t, ap (toZ w64) (w .2) ∙ l .loop .inv .2 ∙ sym (ap (value s) (w .1))))
+    (c .if1 .came)
+
+returns : tie.Need-returns Inv-loop μ-loop
+unfolding maxGenotype
+returns c =
+    let l = c .before in
+    let s = l .before .before in
+    let e : l .loop .p ≡ s .args .k * s .args .k = omega arith in
+    l .loop .inv .1 ∙ ap (firstMaximum (value s)) e
+
+pub max-genotype-spec : {M : Type 1} → statement M
+max-genotype-spec =
+    tie.close
+    (tie.spec
+    Inv-loop
+    μ-loop
+    mul-m
+    post-of-requires
+    loop-holds
+    post-of-requires-2
+    add-p
+    loop-less
+    loop-again
+    returns)

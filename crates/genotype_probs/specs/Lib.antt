@@ -1,0 +1,6 @@
+pub mod Rates
+pub mod Letters
+pub mod Priors
+pub mod Places
+pub mod Answers
+pub mod Posteriors

@@ -1,0 +1,76 @@
+-- 01, section 4: tables of k × k log probabilities, row-major. All entries are finite.
+-- Assumes nothing.
+use mathlib.Core.Bool.{Bool, cond, _||_}
+use mathlib.Core.List.{List, [], _∷_}
+use Prim.Native.Nat.{ℕ, zero, suc, _+_, _*_, _/_, _%_, _^_, _≤_, _<_}
+use lib.Dec.{eqb, ltb}
+use lib.IntN.{ℤ, pos, natAbs, _-ℤ_}
+use lib.ListN.{length, getD}
+use lib.Signed.{ltZ, _≤ℤ_, _<ℤ_}
+use Rattle.steps.specs.Logs.{addExp, sumExp}
+use Rattle.variants_and_fragments.specs.Decode.{tabulate}
+use Rattle.genotype_probs.specs.declared.posteriors.GenotypePost.{GenotypePost}
+
+-- `ln_sum_exp` of finite ones; it is not asked of none
+unfoldable pub sumOf : List ℤ → ℤ
+sumOf [] = pos 0
+sumOf (x ∷ xs) = sumExp x xs
+
+-- entry (i, j)
+unfoldable pub entryAt : List ℤ → ℕ → ℕ → ℕ → ℤ
+entryAt tab k i j = getD tab (i * k + j) (pos 0)
+
+unfoldable pub rowSum : List ℤ → ℕ → ℕ → ℤ
+rowSum tab k i = sumOf (tabulate k (entryAt tab k i))
+
+-- the sum of row sums
+unfoldable pub tableSum : List ℤ → ℕ → ℤ
+tableSum tab k = sumOf (tabulate k (rowSum tab k))
+
+-- `normalize` subtracts the sum of row sums: place p of the nine, zeros after the k × k entries
+unfoldable pub normalized : List ℤ → ℕ → ℕ → ℤ
+normalized tab k p = cond (ltb p (k * k)) (getD tab p (pos 0) -ℤ tableSum tab k) (pos 0)
+
+-- what `max_genotype_post` compares: unphased, (i, j) with i ≠ j scores `ln_add_exp` of both orders
+unfoldable pub postOf : Bool → List ℤ → ℕ → ℕ → ℕ → ℤ
+postOf phased tab k i j =
+    cond (phased || eqb i j) (entryAt tab k i j) (addExp (entryAt tab k i j) (entryAt tab k j i))
+
+-- the same by the row-major number of the pair
+unfoldable pub postAt : Bool → List ℤ → ℕ → ℕ → ℤ
+postAt phased tab k p = postOf phased tab k (p / k) (p % k)
+
+-- r is the first maximum of f 0, .., f (n − 1): none is greater, and each earlier one is less
+pub record FirstMaximum (f : ℕ → ℤ) (n r : ℕ) : Type 0 where
+  pub inside : r < n
+  pub greatest : (p : ℕ) → p < n → f p ≤ℤ f r
+  pub first : (p : ℕ) → p < r → f p <ℤ f r
+
+-- the search for it, by strict >: it meets the statement where n > 0 (proofs/Maxima)
+unfoldable pub firstMaximum : (ℕ → ℤ) → ℕ → ℕ
+firstMaximum f zero = 0
+firstMaximum f (suc n) = let b = firstMaximum f n in cond (ltZ (f b) (f n)) n b
+
+-- a result above 0 becomes 0
+unfoldable pub atMostOne : ℤ → ℤ
+atMostOne z = cond (ltZ (pos 0) z) (pos 0) z
+
+-- the row-major number of the genotype that `max_genotype_post` keeps
+unfoldable pub maxGenotype : Bool → List ℤ → ℕ → ℕ
+maxGenotype phased tab k = firstMaximum (postAt phased tab k) (k * k)
+
+-- `max_genotype_post`: the first row-major maximum (strict >), and its log probability
+unfoldable pub maxGenotypePost : Bool → List ℤ → ℕ → GenotypePost
+maxGenotypePost phased tab k =
+    let p = maxGenotype phased tab k in
+    record {
+      genotype = record { 0 = p / k; 1 = p % k };
+      post = record { 0 = atMostOne (postAt phased tab k p) };
+    }
+
+-- what a table at a place of a lent slice must be for the sums to fit: k in 1..3, nine places there, each entry at most 2^40 steps from 0
+pub record TableAt (post : List ℤ) (at k : ℕ) : Type 0 where
+  pub k-low : 1 ≤ k
+  pub k-high : k ≤ 3
+  pub inside : at + 9 ≤ length post
+  pub small : (p : ℕ) → p < k * k → natAbs (getD post (at + p) (pos 0)) ≤ 2 ^ 40

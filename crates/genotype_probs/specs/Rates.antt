@@ -1,0 +1,54 @@
+-- 01, section 3: the rates, and what refuses them (number 6).
+-- Assumes nothing.
+use mathlib.Core.Bool.{Bool, true, _&&_}
+use mathlib.Core.List.{List, [], _∷_}
+use Prim.Native.Nat.{ℕ}
+use lib.IntN.{ℤ, pos, negsuc}
+use lib.ListN.{getD}
+use lib.Signed.{leZ, ltZ}
+use Rattle.steps.specs.Logs.{sumExp}
+use Rattle.variants_and_fragments.specs.First.{firstFail}
+use Rattle.genotype_probs.specs.declared.Rates.{Rates}
+
+-- the six, in steps
+abbrev pub homSnv : Rates → ℤ
+homSnv rates = rates .«hom_snv» .0
+
+abbrev pub hetSnv : Rates → ℤ
+hetSnv rates = rates .«het_snv» .0
+
+abbrev pub homIndel : Rates → ℤ
+homIndel rates = rates .«hom_indel» .0
+
+abbrev pub hetIndel : Rates → ℤ
+hetIndel rates = rates .«het_indel» .0
+
+abbrev pub tsRate : Rates → ℤ
+tsRate rates = rates .ts .0
+
+abbrev pub tvRate : Rates → ℤ
+tvRate rates = rates .tv .0
+
+-- each −262144..−1
+unfoldable pub rateOk : ℤ → Bool
+rateOk rate = leZ (negsuc 262143) rate && leZ rate (negsuc 0)
+
+-- `ln_sum_exp` of the first four
+unfoldable pub rateSum : Rates → ℤ
+rateSum rates = sumExp (homSnv rates) (hetSnv rates ∷ homIndel rates ∷ hetIndel rates ∷ [])
+
+-- the six ranges, then: `ln_sum_exp` of the first four below 0
+unfoldable pub rateTests : Rates → List Bool
+rateTests rates =
+    rateOk (homSnv rates)
+    ∷ rateOk (hetSnv rates)
+    ∷ rateOk (homIndel rates)
+    ∷ rateOk (hetIndel rates)
+    ∷ rateOk (tsRate rates)
+    ∷ rateOk (tvRate rates)
+    ∷ ltZ (rateSum rates) (pos 0)
+    ∷ []
+
+-- the place under 6: rate 0..5, 6 the sum; 7 where the rates are accepted
+unfoldable pub ratesFault : Rates → ℕ
+ratesFault rates = firstFail (λ i. getD (rateTests rates) i true) 7

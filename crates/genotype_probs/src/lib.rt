@@ -1,0 +1,72 @@
+// Priors and posteriors of genotypes: document 01, sections 3 and 4.
+ghost use mathlib.Core.Path.{_≡_};
+ghost use Rattle.variants_and_fragments.specs.Refusals.{done};
+ghost use Rattle.variants_and_fragments.specs.Check.{caseOf};
+ghost use Rattle.genotype_probs.specs.Answers.{GenotypePriors};
+use crate::priors::write_priors;
+use crate::table::prior_table;
+use crate::table::rates_fault;
+use steps::LogProb;
+use variants_and_fragments::Checked;
+use variants_and_fragments::Refusal;
+use variants_and_fragments::Sizes;
+use variants_and_fragments::check_case;
+
+pub mod letters;
+pub mod posteriors;
+pub mod priors;
+pub mod table;
+
+// The rates from which the priors are made.
+pub struct Rates {
+    pub hom_snv: LogProb,
+    pub het_snv: LogProb,
+    pub hom_indel: LogProb,
+    pub het_indel: LogProb,
+    pub ts: LogProb,
+    pub tv: LogProb,
+}
+
+// What the operation that writes the priors answers.
+pub enum Priored {
+    Done,
+    Refused(Refusal),
+}
+
+// The same for a case that the check accepted with these sizes.
+fn accepted_priors(
+    words: &[i32],
+    s: Sizes,
+    bases: &[u8],
+    rates: Rates,
+    priors: &mut [i64],
+) -> Priored
+    requires { ⌜ caseOf (now words) (now bases) ≡ done s ⌝ }
+    ensures { λ r. ⌜ GenotypePriors (now (words .entry)) (now (bases .entry)) rates (now (priors .entry)) r (now (priors .exit)) ⌝ }
+{
+    let t = steps::table();
+    let p = rates_fault(&t, rates);
+    if p < 7 {
+        return Priored::Refused(Refusal::Rates(p));
+    }
+    let needed = 9 * s.n;
+    if priors.len() < needed {
+        return Priored::Refused(Refusal::Short(needed));
+    }
+    let mut table = [0i64; 144];
+    prior_table(&t, rates, &mut table);
+    write_priors(words, s, bases, &table, priors);
+    Priored::Done
+}
+
+// Writes the priors of a case's genotypes, nine places a variant: k × k row-major, then zeros. The answer is refused with number 1 to 5, 6
+// or 10, or done.
+pub fn genotype_priors(words: &[i32], bases: &[u8], rates: Rates, priors: &mut [i64]) -> Priored
+    ensures { λ r. ⌜ GenotypePriors (now (words .entry)) (now (bases .entry)) rates (now (priors .entry)) r (now (priors .exit)) ⌝ }
+{
+    let checked = check_case(words, bases);
+    match checked {
+        Checked::Refused(x) => Priored::Refused(x),
+        Checked::Accepted(s) => accepted_priors(words, s, bases, rates, priors),
+    }
+}
