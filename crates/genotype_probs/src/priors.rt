@@ -17,6 +17,7 @@ use crate::table::ln_half;
 use variants_and_fragments::Sizes;
 use variants_and_fragments::alleles::alleles_length;
 use variants_and_fragments::layout;
+use variants_and_fragments::layout::allele_length;
 
 // −4096 where the letters differ.
 fn letters_share(first: usize, second: usize) -> i64
@@ -47,17 +48,6 @@ pub fn get_prior(table: &[i64], reference: &[u8], first: &[u8], second: &[u8]) -
     let one = compare(reference, first, base);
     let two = compare(reference, second, one.base);
     table_value(table, two.base, one.letter, two.letter)
-}
-
-// The length of allele j of variant v.
-fn allele_length(words: &[i32], s: Sizes, v: usize, j: usize) -> usize
-    requires { ⌜ Sized (now words) s × (v < s .n) × (j < 3) ⌝ }
-    ensures { λ r. ⌜ r ≡ lengthAt (now (words .entry)) v j ⌝ }
-{
-    layout::nat_at(
-        words,
-        layout::HEAD_WORDS + layout::VARIANT_WORDS * v + (5 + j),
-    )
 }
 
 // Where the bytes of allele j of variant v start; those of its first allele start at `at`.

@@ -4,7 +4,7 @@ ghost use lib.ListN.{length};
 ghost use lib.IntN.{pos};
 ghost use lib.Signed.{leZ};
 ghost use Rattle.variants_and_fragments.specs.Words.{natOf, debtOf, word, within, natAt, debtAt};
-ghost use Rattle.variants_and_fragments.specs.Layout.{Sized, sizesOf, lowestQuality, maxVariants, maxFragments, maxCalls, callAt, pos0At, depthAt, alleleCountAt, callVariantAt, firstCallAt, strandAt, nextCallAt};
+ghost use Rattle.variants_and_fragments.specs.Layout.{Sized, sizesOf, lowestQuality, maxVariants, maxFragments, maxCalls, callAt, pos0At, depthAt, alleleCountAt, lengthAt, callVariantAt, firstCallAt, strandAt, nextCallAt};
 ghost use Rattle.variants_and_fragments.specs.Alleles.{VariantsIn};
 ghost use mathlib.Core.Bool.{true};
 use crate::Sizes;
@@ -188,4 +188,12 @@ pub fn depth_of(words: &[i32], s: Sizes, v: usize) -> usize
     ensures { λ r. ⌜ (r ≡ depthAt (now (words .entry)) v) × (r < 2147483648) ⌝ }
 {
     low_at(words, HEAD_WORDS + VARIANT_WORDS * v + 1)
+}
+
+// The length of allele j of variant v.
+pub fn allele_length(words: &[i32], s: Sizes, v: usize, j: usize) -> usize
+    requires { ⌜ Sized (now words) s × (v < s .n) × (j < 3) ⌝ }
+    ensures { λ r. ⌜ r ≡ lengthAt (now (words .entry)) v j ⌝ }
+{
+    nat_at(words, HEAD_WORDS + VARIANT_WORDS * v + (5 + j))
 }
