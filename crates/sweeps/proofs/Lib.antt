@@ -1,0 +1,12 @@
+pub mod Basics
+pub mod Top
+pub mod Visit
+pub mod Sweep
+pub mod Run
+pub mod Perm
+pub mod Link
+pub mod Pileup
+pub mod Scored
+pub mod Fours
+pub mod Posts
+pub mod Piled

@@ -1,0 +1,4 @@
+pub mod Sweeps
+pub mod Demand3
+pub mod Incremental
+pub mod Posts

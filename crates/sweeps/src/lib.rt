@@ -1,0 +1,1 @@
+// The theory of sweeps: definitions (specs/) and proofs (proofs/), and no code.
