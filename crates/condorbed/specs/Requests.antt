@@ -5,7 +5,7 @@ use Prim.Native.Nat.{ℕ}
 use lib.Dec.{eqb}
 use Rattle.protocol.specs.Word.{wordOf}
 use Rattle.condorbed.specs.declared.requests.Operation.{Operation}
-use Rattle.condorbed.specs.declared.requests.Operation.the-variants.{End, Check, Filter, Unknown}
+use Rattle.condorbed.specs.declared.requests.Operation.the-variants.{End, Check, Filter, Priors, Orders, Phase, Flist, Unknown}
 
 -- `check`
 abbrev pub checkName : List ℕ
@@ -15,8 +15,33 @@ checkName = 99 ∷ 104 ∷ 101 ∷ 99 ∷ 107 ∷ []
 abbrev pub filterName : List ℕ
 filterName = 102 ∷ 105 ∷ 108 ∷ 116 ∷ 101 ∷ 114 ∷ []
 
+-- `priors`
+abbrev pub priorsName : List ℕ
+priorsName = 112 ∷ 114 ∷ 105 ∷ 111 ∷ 114 ∷ 115 ∷ []
+
+-- `orders`
+abbrev pub ordersName : List ℕ
+ordersName = 111 ∷ 114 ∷ 100 ∷ 101 ∷ 114 ∷ 115 ∷ []
+
+-- `phase`
+abbrev pub phaseName : List ℕ
+phaseName = 112 ∷ 104 ∷ 97 ∷ 115 ∷ 101 ∷ []
+
+-- `flist`
+abbrev pub flistName : List ℕ
+flistName = 102 ∷ 108 ∷ 105 ∷ 115 ∷ 116 ∷ []
+
+-- op where the word is the name's, else what the other names give
+abbrev pub orElse : ℕ → List ℕ → Operation → Operation → Operation
+orElse word name op other = cond (eqb word (wordOf name)) op other
+
 -- the operation of a word; a word of no bytes is the end of the input
 unfoldable pub operationOf : ℕ → Operation
 operationOf word =
-    cond (eqb word (wordOf [])) End
-    (cond (eqb word (wordOf checkName)) Check (cond (eqb word (wordOf filterName)) Filter Unknown))
+    orElse word [] End
+    (orElse word checkName Check
+    (orElse word filterName Filter
+    (orElse word priorsName Priors
+    (orElse word ordersName Orders
+    (orElse word phaseName Phase
+    (orElse word flistName Flist Unknown))))))

@@ -1,5 +1,13 @@
 // The program: reads requests on standard input and writes an answer to each on standard output.
+mod answers;
 mod arrays;
+mod check;
+mod filter;
+mod flist;
+mod orders;
+mod parts;
+mod phase;
+mod priors;
 mod requests;
 
 fn main() {

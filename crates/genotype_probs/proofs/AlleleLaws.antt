@@ -1,16 +1,16 @@
 -- The alleles of a decoded variant, as parts of the bases: where each starts and ends, and that it is not empty.
 -- Assumes nothing.
-use mathlib.Core.Path.{_≡_, refl, sym, ap, _∙_}
+use mathlib.Core.Path.{_≡_, refl}
 use mathlib.Core.List.{List, []}
 use Prim.Native.Nat.{ℕ, zero, suc, _+_, _*_, _-_, _/_, _%_, _≤_, _<_}
 use native.Mathlib.Omega.{arith}
 use borrow.Author.Tests.{lt-ltb, le-ltb}
 use lib.IntN.{ℤ, pos}
-use lib.ListN.{length, getD, take, drop, length-take, length-drop}
+use lib.ListN.{length, take, drop, length-take, length-drop}
 use Rattle.variants_and_fragments.specs.declared.Sizes.{Sizes}
 use Rattle.variants_and_fragments.specs.Case.{alleleCount, alleleOf}
-use Rattle.variants_and_fragments.specs.Layout.{Sized, sizesOf, alleleCountAt, lengthAt}
-use Rattle.variants_and_fragments.specs.Alleles.{allelesLength, allelesStart, VariantsIn}
+use Rattle.variants_and_fragments.specs.Layout.{sizesOf, alleleCountAt, lengthAt}
+use Rattle.variants_and_fragments.specs.Alleles.{allelesLength, allelesStart}
 use Rattle.variants_and_fragments.proofs.AlleleBytes.{off-on, off-le}
 use Rattle.variants_and_fragments.specs.Decode.{alleleStart, alleleAt, variantFrom, decode}
 use Rattle.variants_and_fragments.proofs.Decoded.{tabulate-length, tabulate-at, variant-is}

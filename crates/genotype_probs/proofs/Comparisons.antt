@@ -1,6 +1,6 @@
 -- Laws of the letters: what a comparison leaves is a base and one of the six letters, and a letter that is a base comes of an allele of the
 -- reference's length. Assumes nothing.
-use mathlib.Core.Path.{_≡_, refl}
+use mathlib.Core.Path.{_≡_}
 use mathlib.Core.Bool.{Bool, true, false, cond}
 use mathlib.Core.List.{List}
 use Prim.Native.Nat.{ℕ, _<_}

@@ -1,6 +1,6 @@
 -- The search for the first maximum meets its statement, which one number alone meets.
 -- Assumes nothing.
-use mathlib.Core.Path.{_≡_, refl, sym, ap, subst, _∙_}
+use mathlib.Core.Path.{_≡_, sym, subst}
 use mathlib.Core.Bool.{Bool, true, false, cond}
 use mathlib.Core.List.{List}
 use Prim.Native.Nat.{ℕ, zero, suc, _+_, _*_, _≤_, _<_}
@@ -9,7 +9,7 @@ use native.Mathlib.Omega.{arith}
 use native.Mathlib.Numerals.{add-one}
 use native.Mathlib.Decide.{ℕ-discrete}
 use lib.IntN.{ℤ}
-use lib.Signed.{ltZ, _≤ℤ_, _<ℤ_}
+use lib.Signed.{ltZ, _≤ℤ_}
 use Rattle.steps.proofs.Signed.{by-test, cases, zlin, true-lt, false-lt}
 use Rattle.genotype_probs.specs.Posteriors.{FirstMaximum, firstMaximum, postAt, maxGenotype}
 use Rattle.genotype_probs.proofs.TableSums.{place-in}

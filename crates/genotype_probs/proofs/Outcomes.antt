@@ -1,20 +1,17 @@
 -- The outcomes of the operation, one law for each way that it ends; and what its code needs of an accepted case and of the table.
 -- Assumes nothing.
-use mathlib.Core.Path.{_≡_, refl, sym, ap, _∙_}
+use mathlib.Core.Path.{_≡_, sym, ap, _∙_}
 use mathlib.Core.List.{List}
 use Prim.Native.Nat.{ℕ, _*_, _≤_, _<_}
 use native.Mathlib.Omega.{arith}
-use borrow.Author.Tests.{le-leb, lt-leb, lt-ltb, le-ltb}
+use borrow.Author.Tests.{le-leb, lt-leb}
 use lib.Dec.{leb}
-use lib.IntN.{ℤ, pos, natAbs}
-use lib.ListN.{length, getD}
+use lib.IntN.{ℤ, pos}
+use lib.ListN.{length}
 use Rattle.variants_and_fragments.specs.declared.Sizes.{Sizes}
 use Rattle.variants_and_fragments.specs.declared.Refusal.{Refusal}
 use Rattle.variants_and_fragments.specs.declared.Refusal.the-variants.{Rates as RatesAt, Short}
-use Rattle.variants_and_fragments.specs.declared.Checked.{Checked}
-use Rattle.variants_and_fragments.specs.declared.Checked.the-variants.{Accepted}
-use Rattle.variants_and_fragments.specs.Refusals.{number, place, Outcome, refused, done, andThen, unless, stop}
-use Rattle.variants_and_fragments.specs.Layout.{sizesOf}
+use Rattle.variants_and_fragments.specs.Refusals.{number, place, refused, done, andThen, unless, stop}
 use Rattle.variants_and_fragments.specs.Check.{caseOf}
 use Rattle.variants_and_fragments.specs.Decode.{decode}
 use Rattle.variants_and_fragments.specs.Written.{written}
@@ -22,7 +19,6 @@ use Rattle.variants_and_fragments.proofs.Outcomes.{stop-at, stop-on}
 use Rattle.variants_and_fragments.proofs.Accepted.{case-in, bases-in}
 use Rattle.variants_and_fragments.proofs.Decoded.{tabulate-length, tabulate-at, variant-count}
 use Rattle.genotype_probs.specs.declared.Rates.{Rates}
-use Rattle.genotype_probs.specs.declared.Priored.{Priored}
 use Rattle.genotype_probs.specs.declared.Priored.the-variants.{Done, Refused}
 use Rattle.genotype_probs.specs.Rates.{ratesFault}
 use Rattle.genotype_probs.specs.Priors.{tableEntry, priorTable, priorAt}

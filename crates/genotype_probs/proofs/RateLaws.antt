@@ -1,23 +1,22 @@
 -- What accepted rates are, and the sizes of what is made of them: each rate lies in −262144..−1, `ln_one_minus_exp` of steps below 0 is at
 -- most 57,344 steps down. Assumes nothing.
 use mathlib.Core.Path.{_≡_, refl, sym, ap, _∙_}
-use mathlib.Core.Bool.{true, false, cond, _&&_}
-use mathlib.Core.List.{[], _∷_}
-use Prim.Native.Nat.{ℕ, suc, _+_, _*_, _≤_, _<_, _^_}
+use mathlib.Core.Bool.{true, cond}
+use Prim.Native.Nat.{ℕ, _≤_, _<_, _^_}
 use native.Mathlib.Omega.{arith}
 use borrow.Author.Tests.{leb-true}
 use lib.Dec.{leb}
 use lib.ListN.{getD}
 use lib.IntN.{ℤ, pos, negsuc, negℤ, natAbs, _+ℤ_}
-use lib.Signed.{leZ, ltZ, _≤ℤ_}
+use lib.Signed.{ltZ, _≤ℤ_}
 use mir.Syntax.{w64}
 use mir.Val.{toZ, ofZ}
-use Rattle.steps.specs.Logs.{Log, steps, addExp, sumExp, logOf}
+use Rattle.steps.specs.Logs.{steps, addExp, sumExp, logOf}
 use Rattle.steps.specs.OneMinus.{low, first, lnOneMinusExp}
 use Rattle.steps.proofs.Signed.{by-test, true-false, cases, zlin, neg-abs, parts-add, true-lt, up-pos, dn-pos, read-small}
 use Rattle.steps.proofs.AddExp.{add-size}
 use Rattle.steps.proofs.Marks.{of-small, log-injective}
-use Rattle.steps.proofs.OneMinus.{Least, search-least, lowest-of, of-below, down-le}
+use Rattle.steps.proofs.OneMinus.{search-least, lowest-of, of-below, down-le}
 use Rattle.variants_and_fragments.specs.First.{firstFailFrom, firstFail}
 use Rattle.variants_and_fragments.proofs.First.{first-all, first-le}
 use Rattle.genotype_probs.specs.declared.Rates.{Rates}

@@ -14,7 +14,6 @@ use Rattle.variants_and_fragments.specs.Case.{Variant}
 use Rattle.variants_and_fragments.specs.First.{firstFailFrom, firstFail}
 use Rattle.variants_and_fragments.specs.Decode.{tabulateFrom}
 use Rattle.genotype_probs.specs.declared.Rates.{Rates}
-use Rattle.genotype_probs.specs.declared.letters.Compared.{Compared}
 use Rattle.genotype_probs.specs.Rates.{rateOk, rateSum, rateTests, ratesFault}
 use Rattle.genotype_probs.specs.Letters.{letterOf, firstLetter, stopAt, compared}
 use Rattle.genotype_probs.specs.Priors.{finite, oneMinusExp, isIndel, transition, change, letterValue, haploid, homozygous, diploid, tableEntry, priorTable, tableIndex, tableValue, lookup, getPrior}

@@ -5,7 +5,7 @@ use mathlib.Core.List.{List}
 use Prim.Native.Nat.{ℕ, _+_, _*_, _/_, _%_}
 use lib.Dec.{eqb, leb, ltb}
 use lib.IntN.{ℤ, pos, negsuc, _+ℤ_}
-use lib.ListN.{length, getD}
+use lib.ListN.{getD}
 use Rattle.steps.specs.Logs.{Log, mark, steps}
 use Rattle.steps.specs.OneMinus.{lnOneMinusExp}
 use Rattle.variants_and_fragments.specs.Case.{Case, Variant, alleleCount, alleleOf, variantOf}

@@ -5,7 +5,7 @@ ghost use Prim.Native.Nat.{_+_, _*_, _<_, _≤_};
 ghost use lib.Dec.{eqb};
 ghost use lib.IntN.{pos};
 ghost use lib.ListN.{length};
-ghost use Rattle.variants_and_fragments.specs.Layout.{Sized, sizesOf, alleleCountAt, lengthAt};
+ghost use Rattle.variants_and_fragments.specs.Layout.{Sized, sizesOf, alleleCountAt};
 ghost use Rattle.variants_and_fragments.specs.Alleles.{VariantsIn, allelesStart};
 ghost use Rattle.variants_and_fragments.specs.Decode.{alleleStart, alleleAt, variantFrom, decode};
 ghost use Rattle.variants_and_fragments.specs.Written.{written};

@@ -1,10 +1,10 @@
 ghost use mathlib.Core.Path.{_≡_};
-ghost use Prim.Native.Nat.{_<_, _≤_};
+ghost use Prim.Native.Nat.{_+_, _<_, _≤_};
 ghost use lib.ListN.{length};
 ghost use lib.IntN.{pos};
 ghost use lib.Signed.{leZ};
 ghost use Rattle.variants_and_fragments.specs.Words.{natOf, debtOf, word, within, natAt, debtAt};
-ghost use Rattle.variants_and_fragments.specs.Layout.{Sized, sizesOf, lowestQuality, maxVariants, maxFragments, maxCalls, callAt, pos0At, depthAt, alleleCountAt, lengthAt, callVariantAt, firstCallAt, strandAt, nextCallAt};
+ghost use Rattle.variants_and_fragments.specs.Layout.{Sized, sizesOf, lowestQuality, maxVariants, maxFragments, maxCalls, callAt, pos0At, depthAt, genotypeAt, alleleCountAt, lengthAt, callVariantAt, calledAlleleAt, firstCallAt, strandAt, nextCallAt};
 ghost use Rattle.variants_and_fragments.specs.Alleles.{VariantsIn};
 ghost use mathlib.Core.Bool.{true};
 use crate::Sizes;
@@ -196,4 +196,36 @@ pub fn allele_length(words: &[i32], s: Sizes, v: usize, j: usize) -> usize
     ensures { λ r. ⌜ r ≡ lengthAt (now (words .entry)) v j ⌝ }
 {
     nat_at(words, HEAD_WORDS + VARIANT_WORDS * v + (5 + j))
+}
+
+// Allele i of variant v's genotype, i being 0 or 1.
+pub fn genotype_of(words: &[i32], s: Sizes, v: usize, i: usize) -> usize
+    requires { ⌜ Sized (now words) s × (v < s .n) × (i < 2) ⌝ }
+    ensures { λ r. ⌜ r ≡ genotypeAt (now (words .entry)) v i ⌝ }
+{
+    nat_at(words, HEAD_WORDS + VARIANT_WORDS * v + (2 + i))
+}
+
+// The allele that record r shows.
+pub fn called_allele(words: &[i32], s: Sizes, r: usize) -> usize
+    requires { ⌜ Sized (now words) s ⌝ }
+    requires { ⌜ (1 ≤ r) × (r ≤ s .c) ⌝ }
+    ensures { λ a. ⌜ a ≡ calledAlleleAt (now (words .entry)) s r ⌝ }
+{
+    nat_at(
+        words,
+        HEAD_WORDS + VARIANT_WORDS * s.n + FRAGMENT_WORDS * s.f + CALL_WORDS * (r - 1) + 1,
+    )
+}
+
+// How far the quality of record r lies below 0.
+pub fn qual_debt(words: &[i32], s: Sizes, r: usize) -> usize
+    requires { ⌜ Sized (now words) s ⌝ }
+    requires { ⌜ (1 ≤ r) × (r ≤ s .c) ⌝ }
+    ensures { λ d. ⌜ d ≡ debtAt (now (words .entry)) (callAt s r + 2) ⌝ }
+{
+    debt_at(
+        words,
+        HEAD_WORDS + VARIANT_WORDS * s.n + FRAGMENT_WORDS * s.f + CALL_WORDS * (r - 1) + 2,
+    )
 }

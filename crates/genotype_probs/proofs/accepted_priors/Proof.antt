@@ -2,12 +2,11 @@
 -- Assumes nothing.
 use mathlib.Core.Path.{_≡_, refl, ap, _∙_, subst⁻¹}
 use mathlib.Core.List.{List}
-use Prim.Native.Nat.{ℕ, _*_, _≤_, _<_}
+use Prim.Native.Nat.{_*_, _≤_}
 use native.Mathlib.Omega.{arith}
 use borrow.Author.Needs.{needs}
 use denote.Ref.{now}
 use lib.IntN.{ℤ}
-use lib.ListN.{length}
 use Rattle.variants_and_fragments.specs.Decode.{decode}
 use Rattle.variants_and_fragments.specs.Written.{written}
 use Rattle.variants_and_fragments.proofs.Accepted.{case-in}

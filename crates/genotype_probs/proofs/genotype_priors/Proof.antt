@@ -3,7 +3,6 @@
 use mathlib.Core.Path.{_≡_, sym, ap, _∙_}
 use borrow.Author.Needs.{needs}
 use denote.Ref.{now}
-use Rattle.variants_and_fragments.specs.declared.Checked.the-variants.{Accepted, Refused}
 use Rattle.variants_and_fragments.specs.Refusals.{number, place, refused, done}
 use Rattle.variants_and_fragments.specs.Check.{outcomeOf, caseOf}
 use Rattle.genotype_probs.proofs.Outcomes.{case-refused}

@@ -1,13 +1,11 @@
 -- `genotype_probs::letters::compare` meets its contract. A letter that equals a base is one, so the two are of one length.
 -- Assumes nothing.
 use mathlib.Core.Path.{_≡_, sym, _∙_}
-use Prim.Native.Nat.{ℕ, _<_}
 use native.Mathlib.Omega.{arith}
 use borrow.Author.Needs.{needs}
-use borrow.Author.Tests.{eq-eqb, ne-eqb}
 use denote.Ref.{now}
-use lib.ListN.{length, getD}
-use Rattle.genotype_probs.specs.Letters.{letterOf, firstLetter, stopAt, compared}
+use lib.ListN.{length}
+use Rattle.genotype_probs.specs.Letters.{firstLetter}
 use Rattle.genotype_probs.proofs.Comparisons.{same-length, compared-other, compared-same}
 use Rattle.genotype_probs.proofs.letters.compare.Statement.{statement}
 use Rattle.genotype_probs.proofs.letters.compare.Tie as tie

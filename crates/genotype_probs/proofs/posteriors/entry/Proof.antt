@@ -1,11 +1,11 @@
 -- `genotype_probs::posteriors::entry` meets its contract: i × k + j is one of the k × k places, so of nine.
 -- Assumes nothing.
 use mathlib.Core.Path.{_≡_, sym, ap, _∙_}
-use Prim.Native.Nat.{ℕ, _+_, _*_, _<_, _≤_, _^_}
+use Prim.Native.Nat.{_+_, _*_, _<_}
 use native.Mathlib.Omega.{arith}
 use denote.Ref.{now}
 use lib.IntN.{pos, natAbs}
-use lib.ListN.{length, getD, drop}
+use lib.ListN.{getD}
 use lib.Seq.{getD-drop}
 use mir.Syntax.{w64}
 use mir.Val.{toZ, ofZ}

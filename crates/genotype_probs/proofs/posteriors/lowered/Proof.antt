@@ -1,7 +1,6 @@
 -- `genotype_probs::posteriors::lowered` meets its contract: by the test that led there; neither number is large.
 -- Assumes nothing.
-use mathlib.Core.Path.{_≡_, _∙_}
-use Prim.Native.Nat.{_+_, _<_, _≤_, _^_}
+use Prim.Native.Nat.{_+_, _<_, _^_}
 use native.Mathlib.Omega.{arith}
 use borrow.Author.Tests.{lt-ltb, le-ltb}
 use lib.IntN.{natAbs}

@@ -1,11 +1,10 @@
 -- `genotype_probs::posteriors::max_genotype_post` meets its contract: the maximum is one of the k × k pairs.
 -- Assumes nothing.
 use mathlib.Core.Path.{_≡_, ap, _∙_}
-use Prim.Native.Nat.{ℕ, _*_, _/_, _%_, _<_, _≤_}
+use Prim.Native.Nat.{_*_, _/_, _%_, _<_}
 use native.Mathlib.Omega.{arith}
 use borrow.Author.Needs.{needs}
 use denote.Ref.{now}
-use lib.IntN.{ℤ}
 use lib.ListN.{drop}
 use mir.Syntax.{w64}
 use mir.Val.{toZ, ofZ}

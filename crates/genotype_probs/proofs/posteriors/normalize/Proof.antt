@@ -1,7 +1,6 @@
 -- `genotype_probs::posteriors::normalize` meets its contract: the total is the sum of row sums.
 -- Assumes nothing.
-use mathlib.Core.Path.{_≡_, ap, _∙_}
-use Prim.Native.Nat.{_+_, _≤_, _^_}
+use mathlib.Core.Path.{ap, _∙_}
 use native.Mathlib.Omega.{arith}
 use borrow.Author.Needs.{needs}
 use lib.IntN.{natAbs}

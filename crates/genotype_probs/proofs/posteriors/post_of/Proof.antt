@@ -1,14 +1,11 @@
 -- `genotype_probs::posteriors::post_of` meets its contract: by the test that led there; entries are small, so ln_add_exp takes them.
 -- Assumes nothing.
-use mathlib.Core.Path.{_≡_, ap, _∙_}
-use Prim.Native.Nat.{ℕ, _*_, _/_, _%_, _<_, _≤_, _^_}
+use mathlib.Core.Path.{ap, _∙_}
+use Prim.Native.Nat.{_/_, _%_, _<_}
 use native.Mathlib.Omega.{arith}
 use borrow.Author.Needs.{needs}
-use denote.Ref.{now}
 use lib.IntN.{natAbs}
-use lib.ListN.{drop}
 use mir.Syntax.{w64}
-use mir.Val.{toZ, ofZ}
 use Rattle.steps.proofs.Signed.{read-back}
 use Rattle.genotype_probs.specs.Posteriors.{postOf, postAt}
 use Rattle.genotype_probs.proofs.TableSums.{pair-in}
@@ -33,7 +30,9 @@ returns c =
     rw (c .if1 .taken) (read-back w64 (c .before .entry .result) (c .before .entry .ok) ∙ c .before .entry .ensures .0)
 
 entry-requires-2 : tie.Need-entry-requires-2
-entry-requires-2 c κs = let s = c .before .before in (s .pre .1, inside s .1, inside s .0)
+entry-requires-2 c κs =
+    let s = c .before .before in
+    let q = inside s in (s .pre .1, omega (arith, q .0, q .1), omega (arith, q .0, q .1))
 
 add-exp-requires : tie.Need-add-exp-requires
 add-exp-requires c κs =

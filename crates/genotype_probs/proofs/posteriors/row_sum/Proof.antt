@@ -1,7 +1,7 @@
 -- `genotype_probs::posteriors::row_sum` meets its contract. The loop's invariant: `sum` is that of the row's first j entries.
 -- Assumes nothing.
 use mathlib.Core.Path.{_≡_, ap, _∙_}
-use Prim.Native.Nat.{ℕ, _+_, _*_, _-_, _<_, _≤_, _^_}
+use Prim.Native.Nat.{ℕ, _-_, _≤_, _^_}
 use native.Mathlib.Omega.{arith}
 use denote.Ref.{now}
 use lib.IntN.{ℤ, natAbs}

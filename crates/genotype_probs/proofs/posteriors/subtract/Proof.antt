@@ -1,14 +1,13 @@
 -- `genotype_probs::posteriors::subtract` meets its contract. The loop's invariant: the first p places are written, so the place in hand still
 -- has its old entry. Assumes nothing.
 use mathlib.Core.Path.{_≡_, refl, sym, ap, _∙_}
-use mathlib.Core.Bool.{true, false, cond}
 use mathlib.Core.List.{List}
 use Prim.Native.Nat.{ℕ, _+_, _*_, _-_, _<_, _≤_, _^_}
 use native.Mathlib.Omega.{arith}
 use borrow.Author.Tests.{ltb-true}
 use denote.Ref.{now}
 use lib.Dec.{ltb}
-use lib.IntN.{ℤ, pos, natAbs, _-ℤ_}
+use lib.IntN.{ℤ, pos, natAbs}
 use lib.ListN.{length, getD, drop}
 use lib.Seq.{getD-drop}
 use mir.Syntax.{w64}
@@ -16,7 +15,7 @@ use mir.Val.{toZ, ofZ}
 use mir.Facts.{toZ-ofZ}
 use Rattle.steps.proofs.Signed.{by-test, read-back, read-small}
 use Rattle.genotype_probs.specs.Places.{writtenFrom}
-use Rattle.genotype_probs.specs.Posteriors.{tableSum, normalized}
+use Rattle.genotype_probs.specs.Posteriors.{normalized}
 use Rattle.genotype_probs.proofs.AlleleLaws.{nine}
 use Rattle.genotype_probs.proofs.Places.{from-on, from-length, from-past}
 use Rattle.genotype_probs.proofs.posteriors.subtract.Statement.{statement}

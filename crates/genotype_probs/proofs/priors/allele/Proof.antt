@@ -1,14 +1,11 @@
 -- `genotype_probs::priors::allele` meets its contract: the part of the bases from where the allele starts, as long as it is.
 -- Assumes nothing.
-use mathlib.Core.Path.{_≡_, ap, _∙_}
+use mathlib.Core.Path.{ap}
 use Prim.Native.Nat.{ℕ, _+_, _≤_, _<_}
 use native.Mathlib.Omega.{arith}
 use borrow.Author.Needs.{needs}
 use denote.Ref.{now}
 use lib.ListN.{length}
-use Rattle.variants_and_fragments.specs.Layout.{alleleCountAt, lengthAt}
-use Rattle.variants_and_fragments.specs.Alleles.{allelesStart}
-use Rattle.variants_and_fragments.specs.Decode.{alleleStart}
 use Rattle.genotype_probs.proofs.AlleleLaws.{start-top, allele-end, allele-part}
 use Rattle.genotype_probs.proofs.priors.allele.Statement.{statement}
 use Rattle.genotype_probs.proofs.priors.allele.Tie as tie

@@ -1,11 +1,10 @@
 -- `genotype_probs::priors::allele_start` meets its contract: an allele starts where the one before it ends.
 -- Assumes nothing.
 use mathlib.Core.Path.{_≡_, sym, ap, _∙_}
-use Prim.Native.Nat.{ℕ, _+_, _≤_, _<_}
+use Prim.Native.Nat.{_≤_}
 use native.Mathlib.Omega.{arith}
 use borrow.Author.Needs.{needs}
 use denote.Ref.{now}
-use Rattle.variants_and_fragments.specs.Layout.{lengthAt}
 use Rattle.variants_and_fragments.specs.Decode.{alleleStart}
 use Rattle.genotype_probs.proofs.AlleleLaws.{start-first, start-second, start-third}
 use Rattle.genotype_probs.proofs.priors.allele_start.Statement.{statement}

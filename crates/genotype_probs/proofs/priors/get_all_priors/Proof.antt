@@ -1,11 +1,10 @@
 -- `genotype_probs::priors::get_all_priors` meets its contract. The loop's invariant: the first p of the nine places are written.
 -- Assumes nothing.
 use mathlib.Core.Path.{_≡_, refl, ap, _∙_}
-use Prim.Native.Nat.{ℕ, _+_, _*_, _-_, _≤_, _<_}
+use Prim.Native.Nat.{ℕ, _*_, _-_, _≤_}
 use native.Mathlib.Omega.{arith}
 use borrow.Author.Needs.{needs}
 use denote.Ref.{now}
-use lib.IntN.{ℤ}
 use lib.ListN.{length}
 use mir.Syntax.{w64}
 use Rattle.steps.proofs.Signed.{read-back}

@@ -1,14 +1,13 @@
 -- `genotype_probs::priors::get_prior` meets its contract: what a comparison leaves is a base and a letter.
 -- Assumes nothing.
-use mathlib.Core.Path.{_≡_, sym, ap, _∙_}
-use Prim.Native.Nat.{ℕ, _<_}
+use mathlib.Core.Path.{_≡_, _∙_}
+use Prim.Native.Nat.{_<_}
 use native.Mathlib.Omega.{arith}
 use borrow.Author.Needs.{needs}
 use denote.Ref.{now}
-use lib.ListN.{length, getD}
+use lib.ListN.{getD}
 use mir.Syntax.{w64}
 use Rattle.steps.proofs.Signed.{read-back}
-use Rattle.genotype_probs.specs.declared.letters.Compared.{Compared}
 use Rattle.genotype_probs.specs.Letters.{letterOf, compared}
 use Rattle.genotype_probs.proofs.Comparisons.{letter-base, Lettered, lettered, lookup-is}
 use Rattle.genotype_probs.proofs.priors.get_prior.Statement.{statement}
@@ -30,10 +29,12 @@ first-in : (c : tie.After-compare) → Lettered (c .compare .result)
 first-in c = rw (c .compare .ensures) (lettered _ _ (c .before .letter-of .result) (base-in (c .before)))
 
 compare-requires-2 : tie.Need-compare-requires-2
-compare-requires-2 c κs = (c .before .before .before .before .before .before .pre .1 .2, first-in c .base-in)
+compare-requires-2 c κs =
+    (c .before .before .before .before .before .before .pre .1 .2, omega (arith, first-in c .base-in, base-in (c .before)))
 
 second-in : (c : tie.After-compare2) → Lettered (c .compare2 .result)
-second-in c = rw (c .compare2 .ensures) (lettered _ _ (c .before .compare .result .base) (first-in (c .before) .base-in))
+second-in c =
+    rw (c .compare2 .ensures) (lettered _ _ _ (omega (arith, first-in (c .before) .base-in, base-in (c .before .before))))
 
 table-value-requires : tie.Need-table-value-requires
 table-value-requires c κs = (c .before .before .before .before .before .before .before .pre .0, second-in c .base-in, first-in (c .before) .letter-in, second-in c .letter-in)

@@ -1,14 +1,13 @@
 -- `genotype_probs::priors::nine_places` meets its contract: place p below k × k is the genotype (p / k, p % k).
 -- Assumes nothing.
-use mathlib.Core.Path.{_≡_, _∙_}
-use Prim.Native.Nat.{ℕ, _*_, _/_, _%_, _≤_, _<_}
+use mathlib.Core.Path.{_∙_}
+use Prim.Native.Nat.{_≤_, _<_}
 use native.Mathlib.Nat.{mod-lt, div-lt-iff-lt-mul}
 use native.Mathlib.Omega.{arith}
 use borrow.Author.Needs.{needs}
 use denote.Ref.{now}
 use mir.Syntax.{w64}
 use Rattle.steps.proofs.Signed.{read-back}
-use Rattle.variants_and_fragments.specs.Layout.{alleleCountAt}
 use Rattle.genotype_probs.proofs.AlleleLaws.{nine, place-is, past-places}
 use Rattle.genotype_probs.proofs.priors.nine_places.Statement.{statement}
 use Rattle.genotype_probs.proofs.priors.nine_places.Tie as tie

@@ -1,14 +1,13 @@
 -- `genotype_probs::priors::variant_prior` meets its contract: the three parts are alleles of the decoded variant, and none is empty.
 -- Assumes nothing.
-use mathlib.Core.Path.{_≡_, sym, ap, _∙_}
-use Prim.Native.Nat.{ℕ, _≤_, _<_}
+use mathlib.Core.Path.{ap, _∙_}
+use Prim.Native.Nat.{ℕ, _<_}
 use native.Mathlib.Omega.{arith}
-use borrow.Author.Needs.{needs}
 use denote.Ref.{now}
 use lib.ListN.{length}
 use mir.Syntax.{w64}
 use Rattle.steps.proofs.Signed.{read-back}
-use Rattle.variants_and_fragments.specs.Layout.{alleleCountAt, lengthAt}
+use Rattle.variants_and_fragments.specs.Layout.{alleleCountAt}
 use Rattle.variants_and_fragments.specs.Decode.{alleleAt}
 use Rattle.genotype_probs.proofs.AlleleLaws.{allele-length, prior-is}
 use Rattle.genotype_probs.proofs.priors.variant_prior.Statement.{statement}

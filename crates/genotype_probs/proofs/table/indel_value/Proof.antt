@@ -1,7 +1,7 @@
 -- `genotype_probs::table::indel_value` meets its contract: the three numbers are small, so neither sum wraps.
 -- Assumes nothing.
-use mathlib.Core.Path.{_≡_, sym, ap, _∙_}
-use Prim.Native.Nat.{_+_, _<_, _≤_, _^_}
+use mathlib.Core.Path.{_≡_, ap, _∙_}
+use Prim.Native.Nat.{_+_, _<_, _^_}
 use native.Mathlib.Omega.{arith}
 use borrow.Author.Needs.{needs}
 use lib.IntN.{ℤ, natAbs, _+ℤ_}

@@ -1,10 +1,9 @@
 -- `genotype_probs::table::one_minus_exp` meets its contract: below 0 the value is no mark, so its number is fixed.
 -- Assumes nothing.
-use mathlib.Core.Path.{_≡_, sym, ap, _∙_}
+use mathlib.Core.Path.{_≡_, _∙_}
 use mathlib.Core.Bool.{true}
-use Prim.Native.Nat.{_≤_, _<_, _^_}
+use Prim.Native.Nat.{_≤_, _^_}
 use native.Mathlib.Omega.{arith}
-use borrow.Author.Needs.{needs}
 use lib.IntN.{ℤ, pos, natAbs}
 use lib.Signed.{leZ, ltZ}
 use mir.Syntax.{w64}

@@ -1,10 +1,9 @@
 -- `genotype_probs::table::rate_sum` meets its contract: the rates are small, and a sum is at most 4,096 above the larger.
 -- Assumes nothing.
-use mathlib.Core.Path.{_≡_, sym, ap, _∙_}
-use Prim.Native.Nat.{_+_, _≤_, _<_, _^_}
+use mathlib.Core.Path.{_≡_, _∙_}
+use Prim.Native.Nat.{_≤_}
 use native.Mathlib.Omega.{arith}
-use borrow.Author.Needs.{needs}
-use lib.IntN.{ℤ, natAbs}
+use lib.IntN.{natAbs}
 use mir.Syntax.{w64}
 use Rattle.steps.specs.Logs.{addExp}
 use Rattle.steps.proofs.Signed.{read-back}

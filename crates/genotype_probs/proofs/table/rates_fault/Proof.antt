@@ -1,10 +1,10 @@
 -- `genotype_probs::table::rates_fault` meets its contract: by the tests that led to each place.
 -- Assumes nothing.
-use mathlib.Core.Path.{_≡_, sym, ap, _∙_}
+use mathlib.Core.Path.{_≡_, sym, _∙_}
 use mathlib.Core.Bool.{true, false}
 use borrow.Author.Needs.{needs}
 use borrow.Author.Tests.{not-true, not-false}
-use lib.IntN.{ℤ, pos}
+use lib.IntN.{pos}
 use lib.Signed.{ltZ}
 use mir.Syntax.{w64}
 use mir.Val.{toZ, ofZ}

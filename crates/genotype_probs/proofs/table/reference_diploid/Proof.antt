@@ -1,9 +1,7 @@
 -- `genotype_probs::table::reference_diploid` meets its contract: the sum of accepted rates is below 0.
 -- Assumes nothing.
 use mathlib.Core.Path.{_≡_, ap, _∙_}
-use Prim.Native.Nat.{_≤_, _^_}
 use native.Mathlib.Omega.{arith}
-use lib.IntN.{ℤ, natAbs}
 use mir.Syntax.{w64}
 use mir.Val.{toZ, ofZ}
 use Rattle.steps.proofs.Signed.{read-back}

@@ -1,9 +1,9 @@
 -- `genotype_probs::table::reference_haploid` meets its contract: the sum of two rates does not wrap, and is below 0.
 -- Assumes nothing.
 use mathlib.Core.Path.{_≡_, ap, _∙_}
-use Prim.Native.Nat.{_+_, _≤_, _<_, _^_}
+use Prim.Native.Nat.{_+_, _<_, _^_}
 use native.Mathlib.Omega.{arith}
-use lib.IntN.{ℤ, natAbs, _+ℤ_}
+use lib.IntN.{natAbs, _+ℤ_}
 use mir.Syntax.{w64}
 use mir.Val.{toZ, ofZ}
 use Rattle.steps.proofs.Signed.{plus-fits, plus-read, read-back, add-abs}

@@ -1,17 +1,15 @@
 -- `genotype_probs::table::table_entry` meets its contract: by the test that led there; two letters' values are small, so their sum does not
 -- wrap. Assumes nothing.
-use mathlib.Core.Path.{_≡_, sym, ap, _∙_}
-use Prim.Native.Nat.{ℕ, _+_, _/_, _%_, _<_, _≤_, _^_}
+use mathlib.Core.Path.{_≡_, ap, _∙_}
+use Prim.Native.Nat.{_+_, _/_, _%_, _<_, _^_}
 use native.Mathlib.Omega.{arith}
 use borrow.Author.Tests.{eq-eqb, ne-eqb}
-use lib.IntN.{ℤ, natAbs, _+ℤ_}
+use lib.IntN.{natAbs}
 use mir.Syntax.{w64}
-use mir.Val.{toZ, ofZ}
 use mir.Facts.{toZ-ofZ}
 use Rattle.steps.proofs.Signed.{plus-fits, plus-read, read-back}
-use Rattle.genotype_probs.specs.declared.Rates.{Rates}
-use Rattle.genotype_probs.specs.Rates.{homSnv, hetSnv, homIndel, hetIndel, rateOk, ratesFault}
-use Rattle.genotype_probs.specs.Priors.{letterValue, haploid, homozygous, diploid, tableEntry}
+use Rattle.genotype_probs.specs.Rates.{homSnv, hetSnv, homIndel, hetIndel}
+use Rattle.genotype_probs.specs.Priors.{haploid, homozygous, diploid, tableEntry}
 use Rattle.genotype_probs.proofs.RateLaws.{rate-size, rate-read, RatesIn, rates-in}
 use Rattle.genotype_probs.proofs.PriorBounds.{haploid-down}
 use Rattle.genotype_probs.proofs.table.table_entry.Statement.{statement}

@@ -1,0 +1,147 @@
+// `filter`: `<words i32>` `<bases u8>` `<quals f64>` density_qual density_dist density_count
+// max_depth `[filters u8]`.
+ghost use mathlib.Core.Path.{_≡_};
+ghost use Rattle.protocol.specs.Input.{Counts};
+use crate::answers::done;
+use crate::answers::refused;
+use crate::answers::unreadable;
+use crate::arrays;
+use crate::parts::read_case;
+use protocol::input;
+use protocol::input::Reader;
+use protocol::output;
+use variants_and_fragments::DensityParameters;
+use variants_and_fragments::Filtered;
+
+// What was read, and the reader after it.
+pub struct Parts {
+    pub words: usize,
+    pub bases: usize,
+    pub quals: usize,
+    pub density: DensityParameters,
+    pub max_depth: u32,
+    pub filters: usize,
+    pub reader: Reader,
+}
+
+// The answer to the request; the reader after it, which failed where the request is unreadable.
+pub fn answer(
+    input: &mut [u8; 65536],
+    reader: Reader,
+    output: &mut [u8; 65536],
+    words: &mut [i32],
+    bases: &mut [u8],
+) -> Reader {
+    let mut quals = arrays::quals();
+    let mut filters = arrays::filters();
+    let part = read_parts(input, reader, words, bases, &mut quals, &filters);
+    let w = part.words;
+    let b = part.bases;
+    let q = part.quals;
+    let f = part.filters;
+    let density = part.density;
+    let after = part.reader;
+    if !after.ok {
+        return unreadable(output, after);
+    }
+    call(
+        output,
+        &words[..w],
+        &bases[..b],
+        &quals[..q],
+        density,
+        part.max_depth,
+        &mut filters[..f],
+    );
+    after
+}
+
+// The parts of the request, in order.
+fn read_parts(
+    input: &mut [u8; 65536],
+    reader: Reader,
+    words: &mut [i32],
+    bases: &mut [u8],
+    quals: &mut [f64],
+    filters: &[u8],
+) -> Parts
+    ensures { λ r. ⌜ Counts (r .words) (now (words .exit)) × Counts (r .bases) (now (bases .exit)) × Counts (r .quals) (now (quals .exit)) × Counts (r .filters) (now (filters .entry)) ⌝ }
+{
+    let case = read_case(input, reader, words, bases);
+    let r1 = case.reader;
+    let q = input::read_f64s(input, r1, quals);
+    let r2 = q.reader;
+    let rest = read_limits(input, r2, filters);
+    let density = rest.density;
+    let after = rest.reader;
+    Parts {
+        words: case.words,
+        bases: case.bases,
+        quals: q.length,
+        density,
+        max_depth: rest.max_depth,
+        filters: rest.filters,
+        reader: after,
+    }
+}
+
+// density_qual density_dist density_count max_depth `[filters u8]`, and the reader after them.
+pub struct Limits {
+    pub density: DensityParameters,
+    pub max_depth: u32,
+    pub filters: usize,
+    pub reader: Reader,
+}
+
+// The parts after the quals.
+fn read_limits(input: &mut [u8; 65536], reader: Reader, filters: &[u8]) -> Limits
+    ensures { λ r. ⌜ Counts (r .filters) (now (filters .entry)) ⌝ }
+{
+    let qual = input::read_f64(input, reader);
+    let r1 = qual.reader;
+    let dist = input::read_u32(input, r1);
+    let r2 = dist.reader;
+    let count = input::read_u32(input, r2);
+    let r3 = count.reader;
+    let depth = input::read_u32(input, r3);
+    let r4 = depth.reader;
+    let front = input::read_front_u8(input, r4, filters);
+    let after = front.reader;
+    let density = DensityParameters {
+        n: count.value,
+        len: dist.value,
+        gq: qual.value,
+    };
+    Limits {
+        density,
+        max_depth: depth.value,
+        filters: front.length,
+        reader: after,
+    }
+}
+
+// Calls the operation and prints its answer.
+fn call(
+    output: &mut [u8; 65536],
+    words: &[i32],
+    bases: &[u8],
+    quals: &[f64],
+    density: DensityParameters,
+    max_depth: u32,
+    filters: &mut [u8],
+) {
+    let answer = variants_and_fragments::var_filter(
+        words,
+        bases,
+        quals,
+        density,
+        max_depth,
+        filters,
+    );
+    let first = match answer {
+        Filtered::Done => done(output),
+        Filtered::Refused(r) => refused(output, r),
+    };
+    let used = output::line_u8(output, first, filters);
+    output::flush(output, used);
+}

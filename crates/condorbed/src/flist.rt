@@ -1,0 +1,124 @@
+// `flist`: `<words i32>` `<bases u8>` single_reads (0 or 1) `[buffer u8]`.
+ghost use Rattle.protocol.specs.Input.{Counts};
+use crate::answers::refused;
+use crate::answers::unreadable;
+use crate::arrays;
+use crate::parts::read_case;
+use haplotype_assembly::Buffered;
+use protocol::input;
+use protocol::input::Reader;
+use protocol::output;
+
+// What was read, and the reader after it.
+pub struct Parts {
+    pub words: usize,
+    pub bases: usize,
+    pub single_reads: bool,
+    pub buffer: usize,
+    pub reader: Reader,
+}
+
+// The answer to the request; the reader after it, which failed where the request is unreadable.
+pub fn answer(
+    input: &mut [u8; 65536],
+    reader: Reader,
+    output: &mut [u8; 65536],
+    words: &mut [i32],
+    bases: &mut [u8],
+) -> Reader {
+    let mut buffer = arrays::buffer();
+    let part = read_parts(input, reader, words, bases, &buffer);
+    let w = part.words;
+    let b = part.bases;
+    let l = part.buffer;
+    let after = part.reader;
+    if !after.ok {
+        return unreadable(output, after);
+    }
+    call(
+        output,
+        &words[..w],
+        &bases[..b],
+        part.single_reads,
+        &mut buffer[..l],
+    );
+    after
+}
+
+// The parts of the request, in order.
+fn read_parts(
+    input: &mut [u8; 65536],
+    reader: Reader,
+    words: &mut [i32],
+    bases: &mut [u8],
+    buffer: &[u8],
+) -> Parts
+    ensures { λ r. ⌜ Counts (r .words) (now (words .exit)) × Counts (r .bases) (now (bases .exit)) × Counts (r .buffer) (now (buffer .entry)) ⌝ }
+{
+    let case = read_case(input, reader, words, bases);
+    let r1 = case.reader;
+    let single_reads = read_flag(input, r1);
+    let r2 = single_reads.reader;
+    let front = input::read_front_u8(input, r2, buffer);
+    let after = front.reader;
+    Parts {
+        words: case.words,
+        bases: case.bases,
+        single_reads: single_reads.set,
+        buffer: front.length,
+        reader: after,
+    }
+}
+
+// A flag that was read, and the reader after it.
+pub struct FlagPart {
+    pub set: bool,
+    pub reader: Reader,
+}
+
+// The next token as a flag, 0 or 1; the reader fails where it is neither.
+fn read_flag(input: &mut [u8; 65536], reader: Reader) -> FlagPart {
+    let part = input::read_u8(input, reader);
+    let value = part.value;
+    let after = part.reader;
+    if value > 1 {
+        return FlagPart {
+            set: false,
+            reader: after.fail(),
+        };
+    }
+    FlagPart {
+        set: value == 1,
+        reader: after,
+    }
+}
+
+// Calls the operation and prints its answer.
+fn call(
+    output: &mut [u8; 65536],
+    words: &[i32],
+    bases: &[u8],
+    single_reads: bool,
+    buffer: &mut [u8],
+) {
+    let first = match haplotype_assembly::generate_flist_buffer(
+        words,
+        bases,
+        single_reads,
+        buffer,
+    ) {
+        Buffered::Done { bytes, lines } => done_with(output, bytes, lines),
+        Buffered::Refused(r) => refused(output, r),
+    };
+    let used = output::line_u8(output, first, buffer);
+    output::flush(output, used);
+}
+
+// `done` with the bytes and the lines that were written.
+fn done_with(output: &mut [u8; 65536], bytes: usize, lines: usize) -> usize {
+    let mut used = output::text(output, 0, b"done ");
+    used = output::natural(output, used, bytes as u64);
+    used = output::byte(output, used, b' ');
+    used = output::natural(output, used, lines as u64);
+    output::byte(output, used, b'\n')
+}

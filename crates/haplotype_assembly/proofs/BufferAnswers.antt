@@ -1,0 +1,61 @@
+-- The answers of `generate_flist_buffer`: what each way through its checks gives of the outcome and of the buffer.
+-- Assumes nothing.
+use mathlib.Core.Path.{_≡_, refl, sym, ap, _∙_}
+use mathlib.Core.Bool.{Bool}
+use mathlib.Core.List.{List}
+use Prim.Native.Nat.{ℕ, _+_, _≤_, _<_}
+use native.Mathlib.Omega.{arith}
+use borrow.Author.Tests.{le-leb, lt-leb}
+use lib.IntN.{ℤ}
+use lib.ListN.{length}
+use lib.Seq.{sets, sets-eq}
+use Rattle.variants_and_fragments.specs.declared.Sizes.{Sizes}
+use Rattle.variants_and_fragments.specs.declared.Refusal.{Refusal}
+use Rattle.variants_and_fragments.specs.declared.Refusal.the-variants.{Short}
+use Rattle.variants_and_fragments.specs.Refusals.{Outcome, refused, done, number, place, andThen, unless}
+use Rattle.variants_and_fragments.specs.Check.{caseOf}
+use Rattle.variants_and_fragments.specs.Decode.{decode}
+use Rattle.haplotype_assembly.specs.declared.Buffered.the-variants.{Done, Refused}
+use Rattle.haplotype_assembly.specs.Lines.{flistBuffer}
+use Rattle.haplotype_assembly.specs.LinesRead.{linesAt, linesCount}
+use Rattle.haplotype_assembly.specs.GivenPhase.{whenDone}
+use Rattle.haplotype_assembly.specs.FlistBuffer.{flistChecks, flistOutcome, bufferedOutcome, startingWith, FlistBuffer}
+use Rattle.haplotype_assembly.proofs.LinesDecoded.{buffer-is, lines-are}
+
+-- stores from the start on
+starting : (bytes l : List ℕ) → length bytes ≤ length l → sets l 0 bytes ≡ startingWith bytes l
+unfolding startingWith
+starting bytes l h = let e : 0 + length bytes ≡ length bytes = omega arith in sets-eq bytes l 0 (omega arith) ∙ rw e
+
+module _ (w : List ℤ) (b : List ℕ) (single : Bool) (buffer : List ℕ) where
+  turned-down : (x : Refusal) → flistOutcome w b single (length buffer) ≡ refused (number x) (place x) → FlistBuffer w b single buffer (Refused x) buffer
+  unfolding bufferedOutcome whenDone
+  turned-down x e = record { outcome = refused (number x) (place x); outcome-is = sym e; answer = refl; buffer-after = refl }
+
+  -- 1 to 5
+  pub buffer-case : (x : Refusal) → caseOf w b ≡ refused (number x) (place x) → FlistBuffer w b single buffer (Refused x) buffer
+  unfolding flistOutcome andThen
+  buffer-case x e = turned-down x (ap (λ (o : Outcome Sizes). andThen o (λ s. flistChecks (decode w b) single (length buffer))) e)
+
+  module _ (s : Sizes) (e : caseOf w b ≡ done s) where
+    checks : flistOutcome w b single (length buffer) ≡ flistChecks (decode w b) single (length buffer)
+    unfolding flistOutcome andThen
+    checks = ap (λ (o : Outcome Sizes). andThen o (λ s. flistChecks (decode w b) single (length buffer))) e
+
+    need : (n : ℕ) → n ≡ length (linesAt w s single 0 0 (s .f)) → n ≡ length (flistBuffer (decode w b) single)
+    need n q = q ∙ ap length (buffer-is w b s e single)
+
+    -- 10
+    pub buffer-short : (n : ℕ) → n ≡ length (linesAt w s single 0 0 (s .f)) → length buffer < n → FlistBuffer w b single buffer (Refused (Short n)) buffer
+    unfolding flistChecks unless
+    buffer-short n q h = turned-down (Short n) (checks ∙ rw (← (need n q), lt-leb n (length buffer) h))
+
+    pub buffer-done : (n m : ℕ) → n ≡ length (linesAt w s single 0 0 (s .f)) → m ≡ linesCount w s single 0 (s .f) → n ≤ length buffer
+        → (buffer2 : List ℕ) → buffer2 ≡ sets buffer 0 (linesAt w s single 0 0 (s .f)) → FlistBuffer w b single buffer (Done n m) buffer2
+    unfolding flistChecks unless bufferedOutcome whenDone
+    buffer-done n m q p h buffer2 x = record {
+      outcome = done (record { bytes = n; lines = m });
+      outcome-is = sym (checks ∙ rw (← (need n q), ← (p ∙ lines-are w b s e single), le-leb n (length buffer) h));
+      answer = refl;
+      buffer-after = x ∙ ap (λ (y : List ℕ). sets buffer 0 y) (buffer-is w b s e single) ∙ starting (flistBuffer (decode w b) single) buffer (omega (arith, need n q));
+    }

@@ -1,0 +1,109 @@
+// The given phase of document 01, section 5, and the fragment lines of section 7.
+ghost use mathlib.Core.Path.{_≡_};
+ghost use Prim.Native.Nat.{_≤_};
+ghost use Rattle.haplotype_assembly.specs.GivenPhase.{phaseShort, shortOf, GivenPhase};
+ghost use Rattle.haplotype_assembly.specs.FlistBuffer.{FlistBuffer};
+use crate::lines::count_lines;
+use crate::lines::write_lines;
+use crate::phase::earlier;
+use crate::phase::name_sets;
+use crate::phase::phase_fault;
+use crate::phase::write_phase;
+use variants_and_fragments::Checked;
+use variants_and_fragments::Refusal;
+use variants_and_fragments::check_case;
+
+pub mod fields;
+pub mod lines;
+pub mod numbers;
+pub mod phase;
+
+// What `given_phase` answers.
+pub enum Phased {
+    Done,
+    Refused(Refusal),
+}
+
+// What a slice of `long` elements needs, where that is too short; else 0.
+pub fn short_of(need: usize, long: usize) -> usize
+    ensures { λ r. ⌜ r ≡ shortOf need long ⌝ }
+{
+    if need <= long {
+        return 0;
+    }
+    need
+}
+
+// The smallest count needed by a slice too short, for n variants; 0 where none is.
+pub fn phase_short(n: usize, haplotypes: usize, phased: usize, names: usize) -> usize
+    requires { ⌜ n ≤ 1024 ⌝ }
+    ensures { λ r. ⌜ r ≡ phaseShort n haplotypes phased names ⌝ }
+{
+    let h = short_of(2 * n, haplotypes);
+    let p = short_of(n, phased);
+    let m = short_of(n, names);
+    earlier(h, earlier(p, m))
+}
+
+// The given phase of a case: each genotype ordered by its byte, the phased flags and the set names.
+pub fn given_phase(
+    words: &[i32],
+    bases: &[u8],
+    phase: &[u8],
+    sets: &[i32],
+    haplotypes: &mut [u8],
+    phased: &mut [u8],
+    names: &mut [u32],
+) -> Phased
+    ensures { λ r. ⌜ GivenPhase (now (words .entry)) (now (bases .entry)) (now (phase .entry)) (now (sets .entry)) (now (haplotypes .entry)) (now (phased .entry)) (now (names .entry)) r (now (haplotypes .exit)) (now (phased .exit)) (now (names .exit)) ⌝ }
+{
+    let checked = check_case(words, bases);
+    match checked {
+        Checked::Refused(x) => Phased::Refused(x),
+        Checked::Accepted(s) => {
+            let n = s.n;
+            let fault = phase_fault(n, phase, sets);
+            if fault <= n {
+                return Phased::Refused(Refusal::Phase(fault));
+            }
+            let short = phase_short(n, haplotypes.len(), phased.len(), names.len());
+            if short != 0 {
+                return Phased::Refused(Refusal::Short(short));
+            }
+            write_phase(words, s, phase, haplotypes, phased);
+            name_sets(words, s, phase, sets, names);
+            Phased::Done
+        }
+    }
+}
+
+// What `generate_flist_buffer` answers: how many bytes and lines it wrote.
+pub enum Buffered {
+    Done { bytes: usize, lines: usize },
+    Refused(Refusal),
+}
+
+// The fragment lines of a case, one after the other from the start of the buffer.
+pub fn generate_flist_buffer(
+    words: &[i32],
+    bases: &[u8],
+    single_reads: bool,
+    buffer: &mut [u8],
+) -> Buffered
+    ensures { λ r. ⌜ FlistBuffer (now (words .entry)) (now (bases .entry)) «single_reads» (now (buffer .entry)) r (now (buffer .exit)) ⌝ }
+{
+    let checked = check_case(words, bases);
+    match checked {
+        Checked::Refused(x) => Buffered::Refused(x),
+        Checked::Accepted(s) => {
+            let counted = count_lines(words, s, single_reads);
+            let bytes = counted.bytes;
+            let lines = counted.lines;
+            if buffer.len() < bytes {
+                return Buffered::Refused(Refusal::Short(bytes));
+            }
+            write_lines(words, s, single_reads, buffer);
+            Buffered::Done { bytes, lines }
+        }
+    }
+}
