@@ -1,0 +1,61 @@
+-- Sums that a loop adds up one term at a time, each kept within a bound; and a sum over a table as such a sum.
+-- Assumes nothing.
+use mathlib.Core.Path.{_≡_, refl, sym, ap, _∙_}
+use Prim.Native.Nat.{ℕ, zero, suc, _+_, _^_, _≤_, _<_}
+use native.Mathlib.Omega.{arith}
+use native.Mathlib.Nat.{add-zero, add-suc, suc-add}
+use native.Mathlib.Numerals.{add-one}
+use lib.IntN.{ℤ, pos, natAbs, _+ℤ_, +ℤ-idl, +ℤ-idr}
+use mir.Syntax.{w64}
+use mir.Val.{SFits, toZ, ofZ}
+use Rattle.steps.proofs.Signed.{zlin, parts-add, add-abs, sfits, read-small}
+use Rattle.variants_and_fragments.specs.Sums.{sumOver}
+use Rattle.variants_and_fragments.specs.Decode.{tabulateFrom}
+use Rattle.sweeps.specs.Sweeps.{sumTo}
+use Rattle.sweeps.proofs.Basics.{sumTo-cong}
+
+-- ---- a sum over a table
+sum-front : (n : ℕ) (f : ℕ → ℤ) → sumTo (suc n) f ≡ f 0 +ℤ sumTo n (λ j. f (suc j))
+unfolding sumTo
+sum-front zero f = +ℤ-idl (f 0) ∙ sym (+ℤ-idr (f 0))
+sum-front (suc n) f =
+    omega (zlin, sum-front n f, parts-add (sumTo (suc n) f) (f (suc n)), parts-add (f 0) (sumTo n (λ j. f (suc j))), parts-add (sumTo n (λ j. f (suc j))) (f (suc n)), parts-add (f 0) (sumTo (suc n) (λ j. f (suc j))))
+
+pub table-sum : {X : Type 0} (g : ℕ → X) (t : X → ℤ) (a n : ℕ) → sumOver (tabulateFrom g a n) t ≡ sumTo n (λ j. t (g (a + j)))
+unfolding tabulateFrom sumOver sumTo
+table-sum g t a zero = refl
+table-sum g t a (suc n) =
+    let e = sumTo-cong n (λ j. t (g (suc a + j))) (λ j. t (g (a + suc j))) (λ j h. ap (λ (k : ℕ). t (g k)) (suc-add a j ∙ sym (add-suc a j))) in
+    ap (λ (z : ℤ). t (g a) +ℤ z) (table-sum g t (suc a) n ∙ e)
+    ∙ ap (λ (k : ℕ). t (g k) +ℤ sumTo n (λ j. t (g (a + suc j)))) (sym (add-zero a))
+    ∙ sym (sum-front n (λ j. t (g (a + j))))
+
+-- ---- a loop's sum of f 0, .., f (i − 1), of n terms in all; top i bounds it
+pub record Running (f : ℕ → ℤ) (top : ℕ → ℕ) (n : ℕ) (sum : ℤ) (i : ℕ) : Type 0 where
+  pub inside : i ≤ n
+  pub is : sum ≡ sumTo i f
+  pub small : natAbs sum ≤ top i
+
+module _ (f : ℕ → ℤ) (top : ℕ → ℕ) (n : ℕ) where
+  pub running-start : Running f top n (pos 0) 0
+  unfolding sumTo
+  running-start = record { inside = omega arith; is = refl; small = omega arith }
+
+  pub running-more : (sum next : ℤ) (i : ℕ) → Running f top n sum i → i < n → next ≡ sum +ℤ f i → top i + natAbs (f i) ≤ top (i + 1) → Running f top n next (i + 1)
+  unfolding sumTo
+  running-more sum next i r h e l = record {
+    inside = omega arith;
+    is = e ∙ ap (λ (z : ℤ). z +ℤ f i) (r .is) ∙ rw (add-one i);
+    small = omega (arith, ap natAbs e, add-abs sum (f i), r .small);
+  }
+
+  pub running-end : (sum : ℤ) (i : ℕ) → Running f top n sum i → n ≤ i → (sum ≡ sumTo n f) × (natAbs sum ≤ top n)
+  running-end sum i r h = let e : i ≡ n = omega (arith, r .inside) in (rw (← e) (r .is), rw (← e) (r .small))
+
+-- ---- one addition of the code: the sum so far and the term as it is read back
+module _ (sum term x : ℤ) (e : toZ w64 (ofZ w64 term) ≡ x) (h : natAbs sum + natAbs x < 2 ^ 63) where
+  pub added-fits : SFits w64 (sum +ℤ toZ w64 (ofZ w64 term))
+  added-fits = rw e (sfits w64 (sum +ℤ x) (omega (arith, add-abs sum x)))
+
+  pub added-read : toZ w64 (ofZ w64 (sum +ℤ toZ w64 (ofZ w64 term))) ≡ sum +ℤ x
+  added-read = rw e (read-small w64 (sum +ℤ x) (omega (arith, add-abs sum x)))

@@ -1,0 +1,52 @@
+-- Tables of a function's values, and a run of stores: what stands at each index. Assumes nothing.
+use mathlib.Core.Path.{_≡_, refl, ap, _∙_}
+use mathlib.Core.List.{List, [], _∷_}
+use Prim.Native.Nat.{ℕ, zero, suc, _+_, _<_, _≤_}
+use native.Mathlib.Omega.{arith}
+use native.Mathlib.Nat.{zero-add, add-zero}
+use lib.ListN.{length, getD, set, replicate, length-set}
+use lib.Seq.{sets, getD-set-same, getD-set-other}
+use Rattle.variants_and_fragments.specs.Decode.{tabulateFrom, tabulate}
+
+module _ {X : Type 0} (d : X) where
+  pub table-length : (g : ℕ → X) (i n : ℕ) → length (tabulateFrom g i n) ≡ n
+  unfolding tabulateFrom
+  table-length g i zero = refl
+  table-length g i (suc n) = ap suc (table-length g (suc i) n)
+
+  pub table-from : (g : ℕ → X) (i n j : ℕ) → j < n → getD (tabulateFrom g i n) j d ≡ g (i + j)
+  unfolding tabulateFrom
+  table-from g i zero j h = absurd (omega arith)
+  table-from g i (suc n) zero h = ap g (omega arith)
+  table-from g i (suc n) (suc j) h = table-from g (suc i) n j (omega arith) ∙ ap g (omega arith)
+
+  pub table-at : (g : ℕ → X) (n j : ℕ) → j < n → getD (tabulate n g) j d ≡ g j
+  table-at g n j h = table-from g 0 n j h ∙ ap g (zero-add j)
+
+  -- a run of stores leaves what lies before it and after it
+  pub sets-before : (vs l : List X) (i j : ℕ) → j < i → getD (sets l i vs) j d ≡ getD l j d
+  sets-before [] l i j h = refl
+  sets-before (a ∷ vs) l i j h = sets-before vs (set l i a) (suc i) j (omega arith) ∙ getD-set-other l i j a d (omega arith)
+
+  pub sets-after : (vs l : List X) (i j : ℕ) → i + length vs ≤ j → getD (sets l i vs) j d ≡ getD l j d
+  sets-after [] l i j h = refl
+  sets-after (a ∷ vs) l i j h = sets-after vs (set l i a) (suc i) j (omega arith) ∙ getD-set-other l i j a d (omega arith)
+
+  -- and puts its elements
+  pub sets-at : (vs l : List X) (i j : ℕ) → j < length vs → i + length vs ≤ length l → getD (sets l i vs) (i + j) d ≡ getD vs j d
+  sets-at [] l i j h k = absurd (omega arith)
+  sets-at (a ∷ vs) l i zero h k = rw (add-zero i) (sets-before vs (set l i a) (suc i) i (omega arith) ∙ getD-set-same l i a d (omega arith))
+  sets-at (a ∷ vs) l i (suc j) h k =
+      let e : i + suc j ≡ suc i + j = omega arith in
+      rw e (sets-at vs (set l i a) (suc i) j (omega arith) (omega (arith, length-set l i a)))
+
+  pub replicate-at : (n i : ℕ) → getD (replicate n d) i d ≡ d
+  replicate-at zero i = refl
+  replicate-at (suc n) zero = refl
+  replicate-at (suc n) (suc i) = replicate-at n i
+
+-- equal values give equal tables
+pub table-same : {X : Type 0} (g h : ℕ → X) (i n : ℕ) → ((j : ℕ) → i ≤ j → j < i + n → g j ≡ h j) → tabulateFrom g i n ≡ tabulateFrom h i n
+unfolding tabulateFrom
+table-same g h i zero e = refl
+table-same g h i (suc n) e = cc (e i (omega arith) (omega arith), table-same g h (suc i) n (λ j a b. e j (omega arith) (omega arith)))

@@ -1,0 +1,101 @@
+-- Scores written pair by pair, and the first of the greatest of them: what the loops hold at their heads. Assumes nothing.
+use mathlib.Core.Path.{_≡_, refl}
+use mathlib.Core.Bool.{Bool, cond}
+use mathlib.Core.List.{List}
+use Prim.Native.Nat.{ℕ, zero, suc, _+_, _-_, _*_, _/_, _%_, _^_, _<_, _≤_}
+use native.Mathlib.Omega.{arith}
+use native.Mathlib.Nat.{add-mul}
+use native.Mathlib.Numerals.{add-one}
+use lib.Arith.{digits-div, digits-mod}
+use lib.ListN.{length, set, length-set}
+use lib.Seq.{sets}
+use lib.IntN.{ℤ}
+use lib.Signed.{mag, ltZ}
+use mir.Syntax.{w64}
+use mir.Val.{toZ, ofZ}
+use mir.ValLaws.{toZ-ofZ}
+use Rattle.variants_and_fragments.specs.Decode.{tabulateFrom, tabulate}
+use Rattle.variants_and_fragments.proofs.Tabulated.{table-start, table-more, table-end}
+use Rattle.sweeps.specs.Sweeps.{firstMax}
+use Rattle.sweeps.proofs.Basics.{cond-ind}
+
+pub nine : (k : ℕ) → k ≤ 3 → k * k ≤ 9
+nine zero h = omega arith
+nine (suc zero) h = omega arith
+nine (suc (suc zero)) h = omega arith
+nine (suc (suc (suc zero))) h = omega arith
+nine (suc (suc (suc (suc k)))) h = absurd (omega arith)
+
+-- p of the k × k values of g are written from `at` on, and (i, j) is the next pair
+pub record Writing (g : ℕ → ℤ) (at k : ℕ) (post₀ post : List ℤ) (p i j : ℕ) : Type 0 where
+  pub at-most : p ≤ k * k
+  pub pair : p ≡ i * k + j
+  pub low : j < k
+  pub few : i ≤ p
+  pub long : length post ≡ length post₀
+  pub left : sets post (at + p) (tabulateFrom g p (k * k - p)) ≡ sets post₀ at (tabulate (k * k) g)
+
+module _ (g : ℕ → ℤ) (at k : ℕ) (post₀ : List ℤ) where
+  pub writing-start : 1 ≤ k → Writing g at k post₀ post₀ 0 0 0
+  writing-start h = record {
+    at-most = omega arith;
+    pair = omega arith;
+    low = omega arith;
+    few = omega arith;
+    long = refl;
+    left = let e : at + 0 ≡ at = omega arith in rw (e, table-start g (k * k));
+  }
+
+  module _ (post post' : List ℤ) (p i j : ℕ) (s : Writing g at k post₀ post p i j) (l : p < k * k) (q : post' ≡ set post (at + p) (g p)) where
+    left-on : sets post' (at + (p + 1)) (tabulateFrom g (p + 1) (k * k - (p + 1))) ≡ sets post₀ at (tabulate (k * k) g)
+    left-on = let e : at + (p + 1) ≡ suc (at + p) = omega arith in
+        rw (q, e) (rw (table-more g (k * k) p l) at (s .left))
+
+    -- the pair after (i, j)
+    pub writing-on : (i' j' : ℕ) → p + 1 ≡ i' * k + j' → j' < k → i' ≤ i + 1 → Writing g at k post₀ post' (p + 1) i' j'
+    writing-on i' j' e h f = record {
+      at-most = omega arith;
+      pair = e;
+      low = h;
+      few = omega (arith, s .few);
+      long = rw (q, length-set) (s .long);
+      left = left-on;
+    }
+
+    pub row-on : j + 1 ≡ k → Writing g at k post₀ post' (p + 1) (i + 1) 0
+    row-on h = writing-on (i + 1) 0 (omega (arith, s .pair, add-mul i 1 k)) (omega arith) (omega arith)
+
+    pub place-on : (j + 1 ≡ k → ⊥) → Writing g at k post₀ post' (p + 1) i (j + 1)
+    place-on h = writing-on i (j + 1) (omega (arith, s .pair)) (omega (arith, s .low)) (omega arith)
+
+  pub writing-end : (post : List ℤ) (p i j : ℕ) → Writing g at k post₀ post p i j → k * k ≤ p → post ≡ sets post₀ at (tabulate (k * k) g)
+  writing-end post p i j s h = rw (table-end g (k * k) p h) at (s .left)
+
+-- the pair of a row-major number
+pub pair-div : (k p i j : ℕ) → p ≡ i * k + j → j < k → p / k ≡ i
+pair-div k p i j e h = rw e (digits-div i h)
+
+pub pair-mod : (k p i j : ℕ) → p ≡ i * k + j → j < k → p % k ≡ j
+pair-mod k p i j e h = rw e (digits-mod i h)
+
+-- one more number looked at
+pub max-step : (f : ℕ → ℤ) (b b' g : ℕ) (t : Bool) → mag (f b) < 2 ^ 63 → mag (f g) < 2 ^ 63 → b ≡ firstMax f g
+    → ltZ (toZ w64 (ofZ w64 (f b))) (toZ w64 (ofZ w64 (f g))) ≡ t → b' ≡ cond t g b → b' ≡ firstMax f (g + 1)
+unfolding firstMax
+max-step f b b' g t x y e q r =
+    let q' = rw (toZ-ofZ w64 (f b) (record { sfits = x }), toZ-ofZ w64 (f g) (record { sfits = y })) at q in
+    rw add-one (cc (q', e, r))
+
+-- the first of the greatest is among the numbers looked at
+pub max-low : (f : ℕ → ℤ) (m : ℕ) → firstMax f m ≤ m
+unfolding firstMax
+max-low f zero = omega arith
+max-low f (suc m) = cond-ind (λ b. b ≤ suc m) (ltZ (f (firstMax f m)) (f m)) m (firstMax f m) (λ t. omega arith) (λ t. omega (arith, max-low f m))
+
+pub max-same : (f g : ℕ → ℤ) (m : ℕ) → ((i : ℕ) → i < m → f i ≡ g i) → firstMax f m ≡ firstMax g m
+unfolding firstMax
+max-same f g zero e = refl
+max-same f g (suc m) e =
+    let b = max-same f g m (λ i l. e i (omega arith)) in
+    let x = e (firstMax f m) (omega (arith, max-low f m)) in
+    let y = e m (omega arith) in cc

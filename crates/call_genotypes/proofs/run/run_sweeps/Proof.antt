@@ -1,0 +1,133 @@
+-- `call_genotypes::run::run_sweeps` meets its contract. The loop's invariant: the sweeps that are left give the whole run. Assumes nothing.
+use mathlib.Core.Path.{sym, _∙_}
+use Prim.Native.Nat.{_+_, _-_, _*_, _%_, _≤_}
+use native.Mathlib.Omega.{arith}
+use borrow.Author.Tests.{not-true, not-false}
+use lib.ListN.{length}
+use Rattle.sweeps.specs.Sweeps.{SweepCase}
+use Rattle.call_genotypes.specs.Runs.{orderOf, RunStart}
+use Rattle.call_genotypes.proofs.Running.{Running, end-fits, running-start, running-sweep, running-step, run-settles, run-out}
+use Rattle.call_genotypes.proofs.run.run_sweeps.Statement.{statement}
+use Rattle.call_genotypes.proofs.run.run_sweeps.Tie as tie
+
+abbrev Inv-loop : tie.InvT-loop
+Inv-loop t ks ph pri ends who quals omqs orders hap₀ lik₀ post₀ n m limit s₀ hap lik post s =
+    (C : SweepCase) → RunStart C ks ph pri ends who quals omqs orders hap₀ lik₀ post₀ n m limit → Running C (orderOf orders n m) limit hap₀ hap lik post₀ post s
+
+abbrev μ-loop : tie.MeasureT-loop
+μ-loop t ks ph pri ends who quals omqs orders hap₀ lik₀ post₀ n m limit s₀ hap lik post s = limit - s
+
+abbrev st : tie.At-loop Inv-loop μ-loop → tie.Start Inv-loop μ-loop
+st c = c .before .before .before .before .before .before .before
+
+abbrev swept : tie.After-post Inv-loop μ-loop → tie.After-sweep Inv-loop μ-loop
+swept c = c .before .before .before .before
+
+abbrev turn : tie.After-sweep Inv-loop μ-loop → tie.In-loop Inv-loop μ-loop
+turn c = c .before .before .before .before .before
+
+part-fits : (c : tie.In-loop Inv-loop μ-loop) → c .before .loop .s % st (c .before) .args .m * st (c .before) .args .n + st (c .before) .args .n ≤ length (st (c .before) .args .orders .now)
+part-fits c = end-fits (st (c .before) .pre .1 .holds) (c .before .loop .s)
+
+loop-holds : tie.Need-loop-holds Inv-loop μ-loop
+loop-holds c C R = running-start R
+
+rem-a : tie.Need-rem-a Inv-loop μ-loop
+rem-a c = st (c .before) .pre .1 .holds .some-order
+
+mul-a : tie.Need-mul-a Inv-loop μ-loop
+mul-a c = omega (arith, part-fits c, st (c .before) .good .1 .1 .1 .1 .1 .1 .1 .1 .0 .0)
+
+add-e : tie.Need-add-e Inv-loop μ-loop
+add-e c = omega (arith, part-fits c, st (c .before) .good .1 .1 .1 .1 .1 .1 .1 .1 .0 .0)
+
+mul-part : tie.Need-mul-part Inv-loop μ-loop
+mul-part c = omega (arith, part-fits c, st (c .before) .good .1 .1 .1 .1 .1 .1 .1 .1 .0 .1)
+
+sub-part : tie.Need-sub-part Inv-loop μ-loop
+sub-part c = omega arith
+
+part-part-start : tie.Need-part-part-start Inv-loop μ-loop
+part-part-start c = omega arith
+
+part-part-end : tie.Need-part-part-end Inv-loop μ-loop
+part-part-end c = part-fits c
+
+add-s : tie.Need-add-s Inv-loop μ-loop
+add-s c = let l = c .before in omega (arith, l .loop-test .taken, st (l .before) .pre .1 .holds .limit-top)
+
+sweep-requires : tie.Need-sweep-requires Inv-loop μ-loop
+sweep-requires c κs =
+    let l = c .before .before .before .before in
+    let s = st (l .before) in
+    let R = s .pre .1 .holds in
+    (s .pre .0, record { case = s .pre .1 .case; holds = running-sweep R _ _ _ _ (l .before .loop .inv _ R) })
+
+same-length : tie.Need-same-length Inv-loop μ-loop
+same-length c = let w = swept (c .before) in
+    let l = turn w .before in
+    let R = st l .pre .1 .holds in w .sweep .kept .1 .1 .1 .1 .1 .1 .1 .1 .1 .0 ∙ (l .loop .inv _ R .good .len ∙ sym (R .haps .len))
+
+same-length-2 : tie.Need-same-length-2 Inv-loop μ-loop
+same-length-2 c = let w = swept (c .before) in
+    let l = turn w .before in
+    let R = st l .pre .1 .holds in w .sweep .kept .1 .1 .1 .1 .1 .1 .1 .1 .1 .1 .0 ∙ (l .loop .inv _ R .liks .long ∙ sym (R .liks .long))
+
+same-length-3 : tie.Need-same-length-3 Inv-loop μ-loop
+same-length-3 c = let w = swept (c .before) in
+    let l = turn w .before in
+    let R = st l .pre .1 .holds in w .sweep .kept .1 .1 .1 .1 .1 .1 .1 .1 .1 .1 .1 .0 ∙ l .loop .inv _ R .long
+
+returns : tie.Need-returns Inv-loop μ-loop
+returns c C R =
+    let w = swept (c .before) in
+    let l = turn w in
+    run-settles R _ _ _ _ _ _ (l .before .loop .s) (w .sweep .result) (l .before .loop .inv C R) (l .loop-test .taken) (w .sweep .ensures C (running-sweep R _ _ _ _ (l .before .loop .inv C R))) (not-true _ (c .if1 .taken))
+
+loop-less : tie.Need-loop-less Inv-loop μ-loop
+loop-less c = let l = turn (swept (c .before)) in omega (arith, l .loop-test .taken)
+
+loop-again : tie.Need-loop-again Inv-loop μ-loop
+loop-again c C R =
+    let w = swept (c .before) in
+    let l = turn w in
+    running-step R _ _ _ _ _ _ (l .before .loop .s) (w .sweep .result) (l .before .loop .inv C R) (l .loop-test .taken) (w .sweep .ensures C (running-sweep R _ _ _ _ (l .before .loop .inv C R))) (not-false _ (c .if1 .left))
+
+same-length-4 : tie.Need-same-length-4 Inv-loop μ-loop
+same-length-4 c = let R = st (c .before) .pre .1 .holds in c .before .loop .inv _ R .good .len ∙ sym (R .haps .len)
+
+same-length-5 : tie.Need-same-length-5 Inv-loop μ-loop
+same-length-5 c = let R = st (c .before) .pre .1 .holds in c .before .loop .inv _ R .liks .long ∙ sym (R .liks .long)
+
+same-length-6 : tie.Need-same-length-6 Inv-loop μ-loop
+same-length-6 c = let R = st (c .before) .pre .1 .holds in c .before .loop .inv _ R .long
+
+returns-2 : tie.Need-returns-2 Inv-loop μ-loop
+returns-2 c C R = run-out R _ _ _ _ (c .before .loop .inv C R) (c .loop-test .left)
+
+pub run-sweeps-spec : {M : Type 1} → statement M
+run-sweeps-spec =
+    tie.close
+    (tie.spec
+    Inv-loop
+    μ-loop
+    loop-holds
+    rem-a
+    mul-a
+    add-e
+    mul-part
+    sub-part
+    part-part-start
+    part-part-end
+    add-s
+    sweep-requires
+    same-length
+    same-length-2
+    same-length-3
+    returns
+    loop-less
+    loop-again
+    same-length-4
+    same-length-5
+    same-length-6
+    returns-2)

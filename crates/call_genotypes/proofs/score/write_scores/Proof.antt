@@ -1,0 +1,114 @@
+-- `call_genotypes::score::write_scores` meets its contract. The loop's invariant: p scores are written, and (i, j) is the next pair. Assumes nothing.
+use mathlib.Core.Path.{_≡_, ap}
+use Prim.Native.Nat.{_<_, _-_, _+_, _*_, _/_, _%_}
+use native.Mathlib.Omega.{arith}
+use lib.ListN.{getD, set}
+use lib.IntN.{ℤ, pos, _+ℤ_}
+use mir.Syntax.{w64}
+use mir.Val.{toZ, ofZ}
+use Rattle.steps.proofs.Signed.{read-back}
+use Rattle.call_genotypes.specs.Scores.{pairSum}
+use Rattle.call_genotypes.proofs.Written.{nine, Writing, writing-start, row-on, place-on, writing-end, pair-div, pair-mod}
+use Rattle.call_genotypes.proofs.score.write_scores.Statement.{statement}
+use Rattle.call_genotypes.proofs.score.write_scores.Tie as tie
+
+abbrev Inv-loop : tie.InvT-loop
+Inv-loop pri post₀ acc v k kk p₀ i₀ j₀ post p i j =
+    Writing (λ p. getD pri (9 * v + p) (pos 0) +ℤ pairSum acc (p / k) (p % k)) (9 * v) k post₀ post p i j
+
+abbrev μ-loop : tie.MeasureT-loop
+μ-loop pri post₀ acc v k kk p₀ i₀ j₀ post p i j = kk - p
+
+abbrev st : tie.In-loop Inv-loop μ-loop → tie.Start Inv-loop μ-loop
+st c = c .before .before
+
+few : (c : tie.In-loop Inv-loop μ-loop) → c .before .loop .p < 9
+few c = omega (arith, c .loop-test .taken, nine (st c .args .k) (st c .pre .0 .k-top))
+
+-- the score that is written
+written : (c : tie.After-pair-score Inv-loop μ-loop) → let s = st (c .before) in let p = c .before .before .loop .p in
+    toZ w64 (ofZ w64 (c .pair-score .result)) ≡ getD (s .args .pri .now) (9 * s .args .v + p) (pos 0) +ℤ pairSum (s .args .acc .now) (p / s .args .k) (p % s .args .k)
+written c =
+    let s = st (c .before) in
+    let l = c .before .before .loop in
+    cc (read-back w64 _ (c .pair-score .ok), pair-div (s .args .k) (l .p) (l .i) (l .j) (l .inv .pair) (l .inv .low), pair-mod (s .args .k) (l .p) (l .i) (l .j) (l .inv .pair) (l .inv .low))
+
+mul-kk : tie.Need-mul-kk Inv-loop μ-loop
+mul-kk c = omega (arith, nine (c .args .k) (c .pre .0 .k-top))
+
+loop-holds : tie.Need-loop-holds Inv-loop μ-loop
+loop-holds c = writing-start _ _ _ _ (c .pre .0 .k-least)
+
+mul-pair-score : tie.Need-mul-pair-score Inv-loop μ-loop
+mul-pair-score c = omega (arith, st c .pre .0 .v-top)
+
+add-pair-score : tie.Need-add-pair-score Inv-loop μ-loop
+add-pair-score c = omega (arith, st c .pre .0 .v-top, few c)
+
+pair-score-requires : tie.Need-pair-score-requires Inv-loop μ-loop
+pair-score-requires c κs =
+    ((omega (arith, st c .pre .0 .pri-long, few c), st c .pre .0 .pri-small (c .before .loop .p) (c .loop-test .taken)), st c .pre .1)
+
+mul-t14 : tie.Need-mul-t14 Inv-loop μ-loop
+mul-t14 c = omega (arith, st (c .before) .pre .0 .v-top)
+
+add-t15 : tie.Need-add-t15 Inv-loop μ-loop
+add-t15 c = omega (arith, st (c .before) .pre .0 .v-top, few (c .before))
+
+mul-t16 : tie.Need-mul-t16 Inv-loop μ-loop
+mul-t16 c = omega (arith, st (c .before) .pre .0 .v-top, few (c .before))
+
+slice-set-from-post : tie.Need-slice-set-from-post Inv-loop μ-loop
+slice-set-from-post c = omega (arith, st (c .before) .pre .0 .post-long, few (c .before), c .before .before .loop .inv .long)
+
+add-p : tie.Need-add-p Inv-loop μ-loop
+add-p c = omega (arith, few (c .before))
+
+add-j : tie.Need-add-j Inv-loop μ-loop
+add-j c = omega (arith, c .before .before .loop .inv .low, st (c .before) .pre .0 .k-top)
+
+add-i : tie.Need-add-i Inv-loop μ-loop
+add-i c = omega (arith, few (c .before .before), c .before .before .before .loop .inv .few)
+
+loop-less : tie.Need-loop-less Inv-loop μ-loop
+loop-less c = omega (arith, c .before .before .loop-test .taken)
+
+loop-again : tie.Need-loop-again Inv-loop μ-loop
+loop-again c = let l = c .before .before .before .loop in row-on _ _ _ _ _ _ _ _ _ (l .inv) (c .before .before .loop-test .taken) (ap (set (l .post) _) (written (c .before))) (c .if1 .taken)
+
+loop-less-2 : tie.Need-loop-less-2 Inv-loop μ-loop
+loop-less-2 c = omega (arith, c .before .before .loop-test .taken)
+
+loop-again-2 : tie.Need-loop-again-2 Inv-loop μ-loop
+loop-again-2 c = let l = c .before .before .before .loop in place-on _ _ _ _ _ _ _ _ _ (l .inv) (c .before .before .loop-test .taken) (ap (set (l .post) _) (written (c .before))) (c .if1 .left)
+
+same-length : tie.Need-same-length Inv-loop μ-loop
+same-length c = c .before .loop .inv .long
+
+returns : tie.Need-returns Inv-loop μ-loop
+returns c = writing-end _ _ _ _ _ _ _ _ (c .before .loop .inv) (c .loop-test .left)
+
+pub write-scores-spec : {M : Type 1} → statement M
+write-scores-spec =
+    tie.close
+    (tie.spec
+    Inv-loop
+    μ-loop
+    mul-kk
+    loop-holds
+    mul-pair-score
+    add-pair-score
+    pair-score-requires
+    mul-t14
+    add-t15
+    mul-t16
+    slice-set-from-post
+    add-p
+    add-j
+    add-i
+    loop-less
+    loop-again
+    loop-less-2
+    loop-again-2
+    same-length
+    returns)

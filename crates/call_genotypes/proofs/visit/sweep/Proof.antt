@@ -1,0 +1,100 @@
+-- `call_genotypes::visit::sweep` meets its contract. The loop's invariant: what is left of the order gives the whole sweep. Assumes nothing.
+use mathlib.Core.Path.{sym, _∙_}
+use Prim.Native.Nat.{_-_}
+use native.Mathlib.Omega.{arith}
+use borrow.Author.Needs.{needs}
+use lib.ListN.{length}
+use Rattle.sweeps.specs.Sweeps.{SweepCase}
+use Rattle.call_genotypes.specs.Visits.{SweepStart}
+use Rattle.call_genotypes.proofs.Sweeping.{Sweeping, sweeping-start, sweeping-standing, sweeping-changed, sweeping-same, sweeping-end}
+use Rattle.call_genotypes.proofs.visit.sweep.Statement.{statement}
+use Rattle.call_genotypes.proofs.visit.sweep.Tie as tie
+
+abbrev Inv-loop : tie.InvT-loop
+Inv-loop t ks ph pri ends who quals one-minus-quals order hap₀ lik₀ post₀ changed₀ p₀ hap lik post changed p =
+    (C : SweepCase) → SweepStart C ks ph pri ends who quals one-minus-quals order hap₀ lik₀ post₀ → Sweeping C order hap₀ hap lik post₀ post changed p
+
+abbrev μ-loop : tie.MeasureT-loop
+μ-loop t ks ph pri ends who quals one-minus-quals order hap₀ lik₀ post₀ changed₀ p₀ hap lik post changed p = length order - p
+
+abbrev st : tie.At-loop Inv-loop μ-loop → tie.Start Inv-loop μ-loop
+st c = c .before .before .before .before .before .before .before
+
+abbrev visited : tie.After-post Inv-loop μ-loop → tie.After-visit Inv-loop μ-loop
+visited c = c .before .before .before .before
+
+abbrev turn : tie.After-visit Inv-loop μ-loop → tie.In-loop Inv-loop μ-loop
+turn c = c .before .before .before .before .before
+
+loop-holds : tie.Need-loop-holds Inv-loop μ-loop
+loop-holds c C S = sweeping-start S
+
+mul-v : tie.Need-mul-v Inv-loop μ-loop
+mul-v c = search needs
+
+shared-slice-read-v : tie.Need-shared-slice-read-v Inv-loop μ-loop
+shared-slice-read-v c = search needs
+
+cast-v : tie.Need-cast-v Inv-loop μ-loop
+cast-v c = omega (arith, c .shared-slice-known6 .given (c .before .before .loop .p))
+
+add-p : tie.Need-add-p Inv-loop μ-loop
+add-p c = omega (arith, c .before .loop-test .taken, st (c .before .before) .good .1 .1 .1 .1 .1 .1 .1 .1 .0 .0)
+
+visit-requires : tie.Need-visit-requires Inv-loop μ-loop
+visit-requires c κs =
+    let l = c .before .before .before .before in
+    let s = st (l .before) in
+    let S = s .pre .1 .holds in
+    (s .pre .0, record { case = s .pre .1 .case; holds = sweeping-standing S _ _ _ _ _ (l .before .loop .inv _ S) (l .loop-test .taken) })
+
+loop-less : tie.Need-loop-less Inv-loop μ-loop
+loop-less c = let l = turn (visited (c .before)) in omega (arith, l .loop-test .taken)
+
+loop-again : tie.Need-loop-again Inv-loop μ-loop
+loop-again c C S =
+    let w = visited (c .before) in
+    let l = turn w in
+    sweeping-changed S _ _ _ _ _ _ _ _ _ (l .before .loop .inv C S) (l .loop-test .taken) (w .visit .ensures C (sweeping-standing S _ _ _ _ _ (l .before .loop .inv C S) (l .loop-test .taken))) (c .if1 .taken)
+
+loop-less-2 : tie.Need-loop-less-2 Inv-loop μ-loop
+loop-less-2 c = let l = turn (visited (c .before)) in omega (arith, l .loop-test .taken)
+
+loop-again-2 : tie.Need-loop-again-2 Inv-loop μ-loop
+loop-again-2 c C S =
+    let w = visited (c .before) in
+    let l = turn w in
+    sweeping-same S _ _ _ _ _ _ _ _ _ (l .before .loop .inv C S) (l .loop-test .taken) (w .visit .ensures C (sweeping-standing S _ _ _ _ _ (l .before .loop .inv C S) (l .loop-test .taken))) (c .if1 .left)
+
+same-length : tie.Need-same-length Inv-loop μ-loop
+same-length c = let S = st (c .before) .pre .1 .holds in c .before .loop .inv _ S .good .len ∙ sym (S .haps .len)
+
+same-length-2 : tie.Need-same-length-2 Inv-loop μ-loop
+same-length-2 c = let S = st (c .before) .pre .1 .holds in c .before .loop .inv _ S .liks .long ∙ sym (S .liks .long)
+
+same-length-3 : tie.Need-same-length-3 Inv-loop μ-loop
+same-length-3 c = let S = st (c .before) .pre .1 .holds in c .before .loop .inv _ S .long
+
+returns : tie.Need-returns Inv-loop μ-loop
+returns c C S = sweeping-end S _ _ _ _ _ (c .before .loop .inv C S) (c .loop-test .left)
+
+pub sweep-spec : {M : Type 1} → statement M
+sweep-spec =
+    tie.close
+    (tie.spec
+    Inv-loop
+    μ-loop
+    loop-holds
+    mul-v
+    shared-slice-read-v
+    cast-v
+    add-p
+    visit-requires
+    loop-less
+    loop-again
+    loop-less-2
+    loop-again-2
+    same-length
+    same-length-2
+    same-length-3
+    returns)

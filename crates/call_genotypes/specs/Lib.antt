@@ -1,0 +1,12 @@
+pub mod Held
+pub mod Scores
+pub mod Visits
+pub mod Runs
+pub mod SweepCaseOf
+pub mod Likelihoods
+pub mod Totals
+pub mod NormalizedPosteriors
+pub mod Finals
+pub mod Normalized
+pub mod NoHaplotypes
+pub mod Tally

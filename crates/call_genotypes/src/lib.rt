@@ -1,0 +1,10 @@
+// Calling genotypes: document 01, sections 4, 6 and 7.
+pub mod finals;
+pub mod likelihoods;
+pub mod no_haplotypes;
+pub mod normalized;
+pub mod run;
+pub mod score;
+pub mod sweep_case;
+pub mod totals;
+pub mod visit;
