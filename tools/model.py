@@ -6,6 +6,8 @@ or a refusal with its number and place out. Whole numbers are exact; f64 values 
 import math
 import struct
 
+import knots
+
 # 01, section 2: the strides of the layout. Nothing else in tools/ writes a word offset.
 HEAD, VARIANT, FRAGMENT, CALL = 4, 8, 2, 5
 MAX_VARIANTS, MAX_FRAGMENTS, MAX_CALLS = 1024, 4096, 16384
@@ -199,27 +201,13 @@ def var_filter(words, bases, quals, density_qual, density_dist, density_count, m
 # ---- 01, section 1: steps. None is the mark, probability zero.
 
 
-def _knots():
-    def root(k):
-        low, high = 0, 2**40 + 1
-        while high - low > 1:
-            middle = (low + high) // 2
-            if middle**128 << k <= 2**5120:
-                low = middle
-            else:
-                high = middle
-        return low
-
-    return [((2**40 + root(k))**4096).bit_length() - 1 - 163840 for k in range(1665)]
-
-
 _T = []
 
 
 def addend(d):
     """A(d)."""
     if not _T:
-        _T.extend(_knots())
+        _T.extend(knots.table()[1])
     if d >= 53248:
         return 0
     k, r = divmod(d, 32)
