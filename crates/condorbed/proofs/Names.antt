@@ -7,9 +7,9 @@ use lib.Dec.{eqb, lit<}
 use borrow.Author.Tests.{eqb-true}
 use Rattle.protocol.specs.Word.{wordOf, pushedBytes}
 use Rattle.protocol.proofs.Words.{Bytes, none, more, word-same}
-use Rattle.condorbed.specs.Requests.{operationOf, orElse, checkName, filterName, priorsName, ordersName, phaseName, flistName}
+use Rattle.condorbed.specs.Requests.{operationOf, orElse, checkName, filterName, priorsName, ordersName, phaseName, flistName, nohapName}
 use Rattle.condorbed.specs.declared.requests.Operation.{Operation}
-use Rattle.condorbed.specs.declared.requests.Operation.the-variants.{End, Check, Filter, Priors, Orders, Phase, Flist, Unknown}
+use Rattle.condorbed.specs.declared.requests.Operation.the-variants.{End, Check, Filter, Priors, Orders, Phase, Flist, Nohap, Unknown}
 
 -- what a token is where it names an operation
 pub Named : List ℕ → Operation → Type 0
@@ -20,6 +20,7 @@ Named t Priors = t ≡ priorsName
 Named t Orders = t ≡ ordersName
 Named t Phase = t ≡ phaseName
 Named t Flist = t ≡ flistName
+Named t Nohap = t ≡ nohapName
 Named t Unknown = Unit {0}
 
 check-bytes : Bytes checkName
@@ -40,6 +41,9 @@ phase-bytes = more (lit< tt) (more (lit< tt) (more (lit< tt) (more (lit< tt) (mo
 flist-bytes : Bytes flistName
 flist-bytes = more (lit< tt) (more (lit< tt) (more (lit< tt) (more (lit< tt) (more (lit< tt) none))))
 
+nohap-bytes : Bytes nohapName
+nohap-bytes = more (lit< tt) (more (lit< tt) (more (lit< tt) (more (lit< tt) (more (lit< tt) none))))
+
 module _ (t : List ℕ) (bytes : Bytes t) where
   -- One name more: where the word is the name's, the token is the name.
   by-test : (name : List ℕ) (op other : Operation) (same : Bool) → eqb (wordOf t) (wordOf name) ≡ same → Bytes name → wordOf name < 2 ^ 56 → (t ≡ name → Named t op) → Named t other → Named t (orElse (wordOf t) name op other)
@@ -59,7 +63,8 @@ module _ (t : List ℕ) (bytes : Bytes t) where
       (name-more priorsName Priors _ priors-bytes (lit< tt) (λ e. e)
       (name-more ordersName Orders _ orders-bytes (lit< tt) (λ e. e)
       (name-more phaseName Phase _ phase-bytes (lit< tt) (λ e. e)
-      (name-more flistName Flist Unknown flist-bytes (lit< tt) (λ e. e) tt))))))
+      (name-more flistName Flist _ flist-bytes (lit< tt) (λ e. e)
+      (name-more nohapName Nohap Unknown nohap-bytes (lit< tt) (λ e. e) tt)))))))
 
 -- Each word names its own operation.
 pub check-named : operationOf (wordOf checkName) ≡ Check
@@ -85,3 +90,7 @@ phase-named = refl
 pub flist-named : operationOf (wordOf flistName) ≡ Flist
 unfolding operationOf wordOf pushedBytes
 flist-named = refl
+
+pub nohap-named : operationOf (wordOf nohapName) ≡ Nohap
+unfolding operationOf wordOf pushedBytes
+nohap-named = refl

@@ -5,7 +5,7 @@ use Prim.Native.Nat.{ℕ}
 use lib.Dec.{eqb}
 use Rattle.protocol.specs.Word.{wordOf}
 use Rattle.condorbed.specs.declared.requests.Operation.{Operation}
-use Rattle.condorbed.specs.declared.requests.Operation.the-variants.{End, Check, Filter, Priors, Orders, Phase, Flist, Unknown}
+use Rattle.condorbed.specs.declared.requests.Operation.the-variants.{End, Check, Filter, Priors, Orders, Phase, Flist, Nohap, Unknown}
 
 -- `check`
 abbrev pub checkName : List ℕ
@@ -31,6 +31,10 @@ phaseName = 112 ∷ 104 ∷ 97 ∷ 115 ∷ 101 ∷ []
 abbrev pub flistName : List ℕ
 flistName = 102 ∷ 108 ∷ 105 ∷ 115 ∷ 116 ∷ []
 
+-- `nohap`
+abbrev pub nohapName : List ℕ
+nohapName = 110 ∷ 111 ∷ 104 ∷ 97 ∷ 112 ∷ []
+
 -- op where the word is the name's, else what the other names give
 abbrev pub orElse : ℕ → List ℕ → Operation → Operation → Operation
 orElse word name op other = cond (eqb word (wordOf name)) op other
@@ -44,4 +48,5 @@ operationOf word =
     (orElse word priorsName Priors
     (orElse word ordersName Orders
     (orElse word phaseName Phase
-    (orElse word flistName Flist Unknown))))))
+    (orElse word flistName Flist
+    (orElse word nohapName Nohap Unknown)))))))

@@ -1,6 +1,6 @@
 // The program's arrays: the largest need of an operation and 16 more, so that a slice one too long
 // can be shown. Each stands in a function of its own, whose contract says only its length. Those that an
-// operation writes are filled: bytes 170, integers 77.
+// operation writes are filled: bytes 170, integers 77, f64 77.0.
 ghost use mathlib.Core.Path.{_≡_};
 ghost use lib.ListN.{length};
 
@@ -16,12 +16,6 @@ pub fn bases() -> [u8; 196624]
     [0; 196624]
 }
 
-pub fn quals() -> [f64; 1040]
-    ensures { λ r. ⌜ 1040 ≡ length r ⌝ }
-{
-    [0.0; 1040]
-}
-
 pub fn phase() -> [u8; 1040]
     ensures { λ r. ⌜ 1040 ≡ length r ⌝ }
 {
@@ -34,12 +28,30 @@ pub fn sets() -> [i32; 1040]
     [0; 1040]
 }
 
-// ---- written by an operation
+// ---- written by an operation (quals and orders are read by others)
 
 pub fn priors() -> [i64; 9232]
     ensures { λ r. ⌜ 9232 ≡ length r ⌝ }
 {
     [77; 9232]
+}
+
+pub fn variants() -> [i32; 13328]
+    ensures { λ r. ⌜ 13328 ≡ length r ⌝ }
+{
+    [77; 13328]
+}
+
+pub fn quals() -> [f64; 1040]
+    ensures { λ r. ⌜ 1040 ≡ length r ⌝ }
+{
+    [77.0; 1040]
+}
+
+pub fn gqs() -> [f64; 1040]
+    ensures { λ r. ⌜ 1040 ≡ length r ⌝ }
+{
+    [77.0; 1040]
 }
 
 pub fn haplotypes() -> [u8; 2064]

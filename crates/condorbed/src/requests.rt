@@ -12,6 +12,7 @@ use crate::answers::unreadable;
 use crate::check;
 use crate::filter;
 use crate::flist;
+use crate::nohap;
 use crate::orders;
 use crate::phase;
 use crate::priors;
@@ -27,6 +28,7 @@ pub enum Operation {
     Orders,
     Phase,
     Flist,
+    Nohap,
     Unknown,
 }
 
@@ -45,6 +47,8 @@ const ORDERS: u64 = 404012078035571;
 const PHASE: u64 = 1582299181925;
 
 const FLIST: u64 = 1539417142132;
+
+const NOHAP: u64 = 1573827142000;
 
 // The operation that a word names; none at the end of the input.
 fn named(word: u64) -> Operation
@@ -70,6 +74,9 @@ fn named(word: u64) -> Operation
     }
     if word == FLIST {
         return Operation::Flist;
+    }
+    if word == NOHAP {
+        return Operation::Nohap;
     }
     Operation::Unknown
 }
@@ -111,6 +118,7 @@ fn answer(
         Operation::Orders => orders::answer(input, reader, output, words, bases),
         Operation::Phase => phase::answer(input, reader, output, words, bases),
         Operation::Flist => flist::answer(input, reader, output, words, bases),
+        Operation::Nohap => nohap::answer(input, reader, output, words, bases),
         Operation::Unknown => unreadable(output, reader),
     }
 }
