@@ -13,20 +13,22 @@ ghost use Rattle.steps.specs.OneMinus.{lnOneMinusExp};
 ghost use Rattle.steps.specs.Phred.{phredOf, capped};
 ghost use Rattle.call_genotypes.specs.NoHaplotypes.{mixed, depthAfter, qualFrom, CalledNoHaplotypes};
 ghost use Rattle.variants_and_fragments.specs.Accepted.{CaseIn, BasesIn};
-ghost use Rattle.variants_and_fragments.specs.Written.{written};
 ghost use Rattle.genotype_probs.specs.Rates.{ratesFault};
-ghost use Rattle.genotype_probs.specs.Priors.{priorTable, priorAt};
 ghost use Rattle.call_genotypes.specs.Tally.{Piled, CallHeld, TallyRoom, CallAdded, Untouched, Tallied, GainsIn, pairGain, gained, PriorsAt, PosteriorsMade, CallsCounted, answerValues, WordsIn, VariantCalled, PriorsIn, VariantsCalled, Scratch, FewCalls, AcceptedCalled};
 ghost use Rattle.variants_and_fragments.specs.Decode.{decode};
 ghost use Rattle.variants_and_fragments.specs.Layout.{Sized, alleleCountAt};
 ghost use Rattle.genotype_probs.specs.Places.{writtenFrom};
+use crate::priors::make_priors;
+use crate::scratch::fragment_ends;
+use crate::scratch::nine_each;
+use crate::scratch::numbers;
+use crate::scratch::places;
+use crate::scratch::qualities;
 use genotype_probs::Rates;
 use genotype_probs::posteriors::Genotype;
 use genotype_probs::posteriors::max_genotype_post;
 use genotype_probs::posteriors::normalize;
-use genotype_probs::priors::write_priors;
 use genotype_probs::table::ln_half;
-use genotype_probs::table::prior_table;
 use genotype_probs::table::rates_fault;
 use steps::LogProb;
 use steps::logs;
@@ -378,48 +380,6 @@ fn call_variants(
     }
 }
 
-// A number of each call record.
-fn numbers() -> [u32; 16384]
-    ensures { λ r. ⌜ length r ≡ 16384 ⌝ }
-{
-    [0u32; 16384]
-}
-
-// A quality of each call record.
-fn qualities() -> [i32; 16384]
-    ensures { λ r. ⌜ length r ≡ 16384 ⌝ }
-{
-    [0i32; 16384]
-}
-
-// A number of each variant.
-fn places() -> [usize; 1024]
-    ensures { λ r. ⌜ length r ≡ 1024 ⌝ }
-{
-    [0usize; 1024]
-}
-
-// A number of each fragment.
-fn fragment_ends() -> [usize; 4096]
-    ensures { λ r. ⌜ length r ≡ 4096 ⌝ }
-{
-    [0usize; 4096]
-}
-
-// Nine numbers of each variant.
-fn nine_each() -> [i64; 9216]
-    ensures { λ r. ⌜ length r ≡ 9216 ⌝ }
-{
-    [0i64; 9216]
-}
-
-// The table of priors.
-fn table_places() -> [i64; 144]
-    ensures { λ r. ⌜ length r ≡ 144 ⌝ }
-{
-    [0i64; 144]
-}
-
 // The piles of an accepted case, and how many calls at each variant are ambiguous.
 fn pile_up(
     words: &[i32],
@@ -454,23 +414,6 @@ fn pile_up(
         quals,
         one_minus_quals,
     );
-}
-
-// Writes the priors of all variants at accepted rates.
-fn make_priors(
-    t: &[u16; 1665],
-    words: &[i32],
-    s: Sizes,
-    bases: &[u8],
-    rates: Rates,
-    post: &mut [i64],
-)
-    requires { ⌜ (now t ≡ knots) × CaseIn (now words) s × BasesIn (now words) s (now bases) × (ratesFault rates ≡ 7) × (9 * (s .n) ≤ length (now post)) ⌝ }
-    ensures { λ _. ⌜ now (post .exit) ≡ written (priorAt (priorTable rates) (decode (now (words .entry)) (now (bases .entry)))) (9 * (s .n)) (now (post .entry)) ⌝ }
-{
-    let mut table = table_places();
-    prior_table(t, rates, &mut table);
-    write_priors(words, s, bases, &table, post);
 }
 
 // Calls the variants of an accepted case at accepted rates.

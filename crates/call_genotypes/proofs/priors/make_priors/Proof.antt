@@ -1,4 +1,4 @@
--- `no_haplotypes::make_priors` meets its contract: the table of accepted rates is small.
+-- `priors::make_priors` meets its contract: the table of accepted rates is small.
 -- Assumes nothing.
 use mathlib.Core.Path.{_≡_, sym, ap, _∙_}
 use mathlib.Core.List.{List}
@@ -11,8 +11,8 @@ use Rattle.genotype_probs.specs.Priors.{priorAt}
 use Rattle.call_genotypes.proofs.Calling.{alleles-in}
 use Rattle.call_genotypes.proofs.ScoreLaws.{table-in}
 use borrow.Author.Needs.{needs}
-use Rattle.call_genotypes.proofs.no_haplotypes.make_priors.Statement.{statement}
-use Rattle.call_genotypes.proofs.no_haplotypes.make_priors.Tie as tie
+use Rattle.call_genotypes.proofs.priors.make_priors.Statement.{statement}
+use Rattle.call_genotypes.proofs.priors.make_priors.Tie as tie
 
 table-places-requires : tie.Need-table-places-requires
 table-places-requires c κs = search needs

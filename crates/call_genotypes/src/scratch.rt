@@ -1,0 +1,38 @@
+// Scratch arrays of an operation, as long as the largest case needs.
+ghost use mathlib.Core.Path.{_≡_};
+ghost use lib.ListN.{length};
+
+// A number of each call record.
+pub fn numbers() -> [u32; 16384]
+    ensures { λ r. ⌜ length r ≡ 16384 ⌝ }
+{
+    [0u32; 16384]
+}
+
+// A quality of each call record.
+pub fn qualities() -> [i32; 16384]
+    ensures { λ r. ⌜ length r ≡ 16384 ⌝ }
+{
+    [0i32; 16384]
+}
+
+// A number of each variant.
+pub fn places() -> [usize; 1024]
+    ensures { λ r. ⌜ length r ≡ 1024 ⌝ }
+{
+    [0usize; 1024]
+}
+
+// A number of each fragment.
+pub fn fragment_ends() -> [usize; 4096]
+    ensures { λ r. ⌜ length r ≡ 4096 ⌝ }
+{
+    [0usize; 4096]
+}
+
+// Nine numbers of each variant.
+pub fn nine_each() -> [i64; 9216]
+    ensures { λ r. ⌜ length r ≡ 9216 ⌝ }
+{
+    [0i64; 9216]
+}

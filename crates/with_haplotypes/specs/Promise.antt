@@ -1,0 +1,82 @@
+-- 01, sections 6 and 7, and the table of refusals: what `call_genotypes_with_haplotypes` answers and writes, and demand 3 of every accepted
+-- input.
+-- Assumes nothing.
+use mathlib.Core.Path.{_≡_}
+use mathlib.Core.Bool.{_&&_}
+use mathlib.Core.List.{List}
+use Prim.Native.Nat.{ℕ, _*_}
+use lib.Dec.{eqb, leb, ltb}
+use lib.Ieee.{Float}
+use lib.IntN.{ℤ}
+use lib.ListN.{length, take}
+use Rattle.variants_and_fragments.specs.declared.Sizes.{Sizes}
+use Rattle.variants_and_fragments.specs.Case.{alleleCount, variantOf}
+use Rattle.variants_and_fragments.specs.Refusals.{number, place, Outcome, refused, done, andThen, unless, stop}
+use Rattle.variants_and_fragments.specs.Check.{caseOf}
+use Rattle.variants_and_fragments.specs.Written.{written}
+use Rattle.genotype_probs.specs.Rates.{ratesFault}
+use Rattle.haplotype_assembly.specs.Phase.{earlier}
+use Rattle.haplotype_assembly.specs.GivenPhase.{phaseFault, shortOf, whenDone}
+use Rattle.shuffle.specs.Answers.{ordersOutcome}
+use Rattle.sweeps.specs.Demand3.{Demand3}
+use Rattle.call_genotypes.specs.Normalized.{firstNotNormal}
+use Rattle.call_genotypes.specs.Runs.{resultOf}
+use Rattle.with_haplotypes.specs.declared.RoundAnswer.{RoundAnswer}
+use Rattle.with_haplotypes.specs.declared.Round.{Round}
+use Rattle.with_haplotypes.specs.declared.Round.the-variants.{Done, Refused}
+use Rattle.with_haplotypes.specs.Round.{RoundInput, case, sweepCase, start, orderOfSweep, returned, haplotypeAt, likelihoodAt, posteriors, posteriorAt, final}
+
+-- the lent slices
+pub record RoundSlices : Type 0 where
+  pub haplotypes : List ℕ
+  pub likelihoods : List ℤ
+  pub posteriors : List ℤ
+  pub quals : List Float
+  pub gqs : List Float
+
+abbrev pub roundSlices : List ℕ → List ℤ → List ℤ → List Float → List Float → RoundSlices
+roundSlices haplotypes likelihoods posteriors quals gqs =
+    record { haplotypes = haplotypes; likelihoods = likelihoods; posteriors = posteriors; quals = quals; gqs = gqs }
+
+-- haplotypes 2 N, likelihoods 2 F, posteriors 9 N, quals N, gqs N: the smallest needed count among those too short; 0 where none is
+unfoldable pub roundShort : ℕ → ℕ → ℕ → ℕ → ℕ → ℕ → ℕ → ℕ
+roundShort n f haplotypes likelihoods posteriors quals gqs =
+    earlier (shortOf (2 * n) haplotypes) (earlier (shortOf (2 * f) likelihoods) (earlier (shortOf (9 * n) posteriors) (earlier (shortOf n quals) (shortOf n gqs))))
+
+abbrev pub shortOfSlices : ℕ → ℕ → RoundSlices → ℕ
+shortOfSlices n f slices =
+    roundShort n f (length (slices .haplotypes)) (length (slices .likelihoods)) (length (slices .posteriors)) (length (slices .quals)) (length (slices .gqs))
+
+-- 6 of the rates, 7 of the phase bytes and sets, 8 of the orders, 9 of the limit, 10 of the lent slices; else done with the number of orders
+unfoldable pub roundChecks : Sizes → RoundInput → List ℤ → ℕ → Outcome ℕ
+roundChecks s input sets short =
+    unless (eqb (ratesFault (input .rates)) 7) 6 (ratesFault (input .rates))
+    (unless (ltb (s .n) (phaseFault (s .n) (input .phase) sets)) 7 (phaseFault (s .n) (input .phase) sets)
+    (andThen (ordersOutcome (s .n) (input .orders))
+    (λ m. unless (leb 1 (input .limit) && leb (input .limit) 1000000) 9 (input .limit)
+    (unless (eqb short 0) 10 short (done m)))))
+
+-- 1 to 5 of the case, these, and 12
+unfoldable pub roundOutcome : RoundInput → List ℤ → RoundSlices → Outcome RoundAnswer
+roundOutcome input sets slices =
+    andThen (caseOf (input .words) (input .bases)) (λ s.
+    andThen (roundChecks s input sets (shortOfSlices (s .n) (s .f) slices)) (λ m.
+    stop 12 (firstNotNormal (posteriors input) (λ v. alleleCount (variantOf (case input) v)) (s .n)) (s .n)
+    (done (returned input))))
+
+-- the answer in 01's terms
+unfoldable pub outcomeOf : Round → Outcome RoundAnswer
+outcomeOf (Done x) = done x
+outcomeOf (Refused x) = refused (number x) (place x)
+
+-- The promise: the answer, every lent slice afterwards, and demand 3 of what is returned and written. The slices are lent as `before` and come
+-- back as `after`
+pub record CalledWithHaplotypes (input : RoundInput) (sets : List ℤ) (before : RoundSlices) (r : Round) (after : RoundSlices) : Type 0 where
+  pub answer : outcomeOf r ≡ roundOutcome input sets before
+  pub haplotypes-after : after .haplotypes ≡ whenDone (outcomeOf r) (written (haplotypeAt input) (2 * length (case input .variants)) (before .haplotypes)) (before .haplotypes)
+  pub likelihoods-after : after .likelihoods ≡ whenDone (outcomeOf r) (written (likelihoodAt input) (2 * length (case input .fragments)) (before .likelihoods)) (before .likelihoods)
+  pub posteriors-after : after .posteriors ≡ whenDone (outcomeOf r) (written (posteriorAt input) (9 * length (case input .variants)) (before .posteriors)) (before .posteriors)
+  pub quals-after : after .quals ≡ whenDone (outcomeOf r) (written (λ v. final input v .qual) (length (case input .variants)) (before .quals)) (before .quals)
+  pub gqs-after : after .gqs ≡ whenDone (outcomeOf r) (written (λ v. final input v .gq) (length (case input .variants)) (before .gqs)) (before .gqs)
+  pub demand3 : (x : RoundAnswer) → outcomeOf r ≡ done x
+      → Demand3 (sweepCase input) (orderOfSweep input) (input .limit) (start input) (resultOf (x .sweeps) (x .settled) (take (2 * length (case input .variants)) (after .haplotypes)))

@@ -1,0 +1,94 @@
+-- 01, sections 6 and 7: one round of calling genotypes with haplotypes, after HapCUT2. Every definition computes at closed values.
+-- Assumes nothing.
+use mathlib.Core.Bool.{cond}
+use mathlib.Core.List.{List, [], _∷_}
+use Prim.Native.Nat.{ℕ, _-_, _*_, _/_, _%_}
+use lib.Dec.{eqb}
+use lib.IntN.{ℤ, pos}
+use lib.ListN.{length, getD}
+use Rattle.variants_and_fragments.specs.Case.{Case, alleleCount, variantOf}
+use Rattle.variants_and_fragments.specs.Decode.{tabulate, decode}
+use Rattle.genotype_probs.specs.declared.Rates.{Rates}
+use Rattle.genotype_probs.specs.Posteriors.{normalized}
+use Rattle.haplotype_assembly.specs.Phase.{phasedFlags, startHaplotypes}
+use Rattle.shuffle.specs.Orders.{orderCount}
+use Rattle.sweeps.specs.Sweeps.{SweepCase, RunResult, likelihood, score, visit, run, phasedTotal, sourceTotal}
+use Rattle.sweeps.specs.Demand3.{after}
+use Rattle.call_genotypes.specs.declared.finals.FinalAnswer.{FinalAnswer}
+use Rattle.call_genotypes.specs.Finals.{finalOf}
+use Rattle.call_genotypes.specs.Likelihoods.{alleleOn}
+use Rattle.call_genotypes.specs.Runs.{orderOf}
+use Rattle.call_genotypes.specs.SweepCaseOf.{sweepCaseOf}
+use Rattle.with_haplotypes.specs.declared.RoundAnswer.{RoundAnswer}
+
+-- what a round reads: the case, the rates, the phase bytes, the orders one after the other, and the limit of sweeps
+pub record RoundInput : Type 0 where
+  pub words : List ℤ
+  pub bases : List ℕ
+  pub rates : Rates
+  pub phase : List ℕ
+  pub orders : List ℕ
+  pub limit : ℕ
+
+abbrev pub roundInput : List ℤ → List ℕ → Rates → List ℕ → List ℕ → ℕ → RoundInput
+roundInput words bases rates phase orders limit =
+    record { words = words; bases = bases; rates = rates; phase = phase; orders = orders; limit = limit }
+
+-- the haplotypes that a sweep by these variants has when it visits v
+unfoldable pub atVisit : SweepCase → ℕ → List ℕ → List ℕ → List ℕ
+atVisit C v [] h = h
+atVisit C v (w ∷ ws) h = cond (eqb w v) h (atVisit C v ws (visit C w h))
+
+module _ (input : RoundInput) where
+  unfoldable pub case : Case
+  case = decode (input .words) (input .bases)
+
+  -- the case of the sweeps, phased by section 5
+  unfoldable pub sweepCase : SweepCase
+  sweepCase = sweepCaseOf (input .rates) (phasedFlags case (input .phase)) case
+
+  -- section 5's haplotypes
+  unfoldable pub start : List ℕ
+  start = startHaplotypes case (input .phase)
+
+  -- sweep s uses lent order s mod m
+  unfoldable pub orderOfSweep : ℕ → List ℕ
+  orderOfSweep = let n = length (case .variants) in orderOf (input .orders) n (orderCount n (length (input .orders)))
+
+  unfoldable pub result : RunResult
+  result = run sweepCase orderOfSweep (input .limit) 0 start
+
+  -- "Returned": sweeps, settled or not, phased totals at the start and at the end, the source's total at the end
+  unfoldable pub returned : RoundAnswer
+  returned = record {
+    sweeps = result .sweeps;
+    settled = result .settled;
+    start = phasedTotal sweepCase start;
+    end = phasedTotal sweepCase (result .haps);
+    source = sourceTotal sweepCase (result .haps);
+  }
+
+  -- ---- "written"
+  -- 2 bytes a variant
+  unfoldable pub haplotypeAt : ℕ → ℕ
+  haplotypeAt e = getD (result .haps) e 0
+
+  -- 2 likelihoods a fragment
+  unfoldable pub likelihoodAt : ℕ → ℤ
+  likelihoodAt e = likelihood (sweepCase .phased) (alleleOn (result .haps) (e % 2)) (getD (sweepCase .frags) (e / 2) [])
+
+  -- v's latest visit was in the last sweep: the scores that it worked out
+  unfoldable pub latestScore : ℕ → ℕ → ℤ
+  latestScore v =
+      let last = result .sweeps - 1 in score sweepCase v (atVisit sweepCase v (orderOfSweep last) (after sweepCase orderOfSweep start last))
+
+  -- v's latest posteriors: k × k, row-major, then zeros to 9
+  unfoldable pub posteriors : ℕ → List ℤ
+  posteriors v = let k = alleleCount (variantOf case v) in tabulate 9 (normalized (tabulate (k * k) (latestScore v)) k)
+
+  unfoldable pub posteriorAt : ℕ → ℤ
+  posteriorAt e = getD (posteriors (e / 9)) (e % 9) (pos 0)
+
+  -- v's final answer
+  unfoldable pub final : ℕ → FinalAnswer
+  final v = finalOf (posteriors v) (alleleCount (variantOf case v))
