@@ -9,11 +9,11 @@ use lib.Dec.{eqb, leb, ltb}
 use lib.Ieee.{Float}
 use lib.IntN.{ℤ}
 use lib.ListN.{length, take}
-use Rattle.variants_and_fragments.specs.declared.Sizes.{Sizes}
 use Rattle.variants_and_fragments.specs.Case.{alleleCount, variantOf}
 use Rattle.variants_and_fragments.specs.Refusals.{number, place, Outcome, refused, done, andThen, unless, stop}
 use Rattle.variants_and_fragments.specs.Check.{caseOf}
 use Rattle.variants_and_fragments.specs.Written.{written}
+use Rattle.genotype_probs.specs.declared.Rates.{Rates}
 use Rattle.genotype_probs.specs.Rates.{ratesFault}
 use Rattle.haplotype_assembly.specs.Phase.{earlier}
 use Rattle.haplotype_assembly.specs.GivenPhase.{phaseFault, shortOf, whenDone}
@@ -47,20 +47,22 @@ abbrev pub shortOfSlices : ℕ → ℕ → RoundSlices → ℕ
 shortOfSlices n f slices =
     roundShort n f (length (slices .haplotypes)) (length (slices .likelihoods)) (length (slices .posteriors)) (length (slices .quals)) (length (slices .gqs))
 
--- 6 of the rates, 7 of the phase bytes and sets, 8 of the orders, 9 of the limit, 10 of the lent slices; else done with the number of orders
-unfoldable pub roundChecks : Sizes → RoundInput → List ℤ → ℕ → Outcome ℕ
-roundChecks s input sets short =
-    unless (eqb (ratesFault (input .rates)) 7) 6 (ratesFault (input .rates))
-    (unless (ltb (s .n) (phaseFault (s .n) (input .phase) sets)) 7 (phaseFault (s .n) (input .phase) sets)
-    (andThen (ordersOutcome (s .n) (input .orders))
-    (λ m. unless (leb 1 (input .limit) && leb (input .limit) 1000000) 9 (input .limit)
-    (unless (eqb short 0) 10 short (done m)))))
+-- 9 of the limit, 10 of the lent slices; else done with the number of orders
+unfoldable pub limitChecks : ℕ → ℕ → ℕ → Outcome ℕ
+limitChecks m limit short = unless (leb 1 limit && leb limit 1000000) 9 limit (unless (eqb short 0) 10 short (done m))
+
+-- 6 of the rates, 7 of the phase bytes and sets, 8 of the orders, and these
+unfoldable pub roundChecks : ℕ → Rates → List ℕ → List ℤ → List ℕ → ℕ → ℕ → Outcome ℕ
+roundChecks n rates phase sets orders limit short =
+    unless (eqb (ratesFault rates) 7) 6 (ratesFault rates)
+    (unless (ltb n (phaseFault n phase sets)) 7 (phaseFault n phase sets)
+    (andThen (ordersOutcome n orders) (λ m. limitChecks m limit short)))
 
 -- 1 to 5 of the case, these, and 12
 unfoldable pub roundOutcome : RoundInput → List ℤ → RoundSlices → Outcome RoundAnswer
 roundOutcome input sets slices =
     andThen (caseOf (input .words) (input .bases)) (λ s.
-    andThen (roundChecks s input sets (shortOfSlices (s .n) (s .f) slices)) (λ m.
+    andThen (roundChecks (s .n) (input .rates) (input .phase) sets (input .orders) (input .limit) (shortOfSlices (s .n) (s .f) slices)) (λ m.
     stop 12 (firstNotNormal (posteriors input) (λ v. alleleCount (variantOf (case input) v)) (s .n)) (s .n)
     (done (returned input))))
 

@@ -1,0 +1,154 @@
+// A round over an accepted input.
+ghost use mathlib.Core.Path.{_≡_};
+ghost use mathlib.Core.Bool.{true};
+ghost use lib.Dec.{eqb};
+ghost use lib.ListN.{length};
+ghost use Rattle.steps.specs.Table.{knots};
+ghost use Rattle.variants_and_fragments.specs.Accepted.{allb};
+ghost use Rattle.with_haplotypes.specs.Round.{RoundInput, roundInput};
+ghost use Rattle.with_haplotypes.specs.Steps.{Admitted, AlleleCounts, PilesMade, RunRoom, RoundStart, SomeInput, RoundRan};
+use call_genotypes::likelihoods::write_likelihoods;
+use call_genotypes::priors::make_priors;
+use call_genotypes::run::run_sweeps;
+use call_genotypes::scratch::fragment_ends;
+use call_genotypes::scratch::nine_each;
+use call_genotypes::scratch::numbers;
+use call_genotypes::scratch::places;
+use call_genotypes::scratch::qualities;
+use call_genotypes::totals::total;
+use crate::RoundAnswer;
+use genotype_probs::Rates;
+use haplotype_assembly::phase::write_phase;
+use variants_and_fragments::Sizes;
+use variants_and_fragments::pileup::pile_calls;
+
+// A byte of each variant.
+pub fn zeros() -> [u8; 1024]
+    ensures { λ r. ⌜ length r ≡ 1024 ⌝ }
+{
+    [0u8; 1024]
+}
+
+// The flags of all variants.
+fn ones() -> [u8; 1024]
+    ensures { λ r. ⌜ (length r ≡ 1024) × (allb (λ x. eqb x 1) r ≡ true) ⌝ }
+{
+    [1u8; 1024]
+}
+
+// The sweeps, and the totals before and after them.
+fn run_with_totals(
+    s: Sizes,
+    t: &[u16; 1665],
+    ks: &[u8],
+    ph: &[u8],
+    pri: &[i64],
+    variants: &[u32],
+    alleles: &[u32],
+    quals: &[i32],
+    omqs: &[i32],
+    row_ends: &[usize],
+    ends: &[usize],
+    who: &[u32],
+    pile_quals: &[i32],
+    pile_omqs: &[i32],
+    orders: &[u32],
+    hap: &mut [u8],
+    lik: &mut [i64],
+    post: &mut [i64],
+    m: usize,
+    limit: usize,
+) -> RoundAnswer
+    requires { ⌜ now t ≡ knots ⌝ }
+    requires { ⌜ SomeInput (λ i. RoundStart i s m limit (now ks) (now ph) (now pri) (now variants) (now alleles) (now quals) (now omqs) (now «row_ends») (now ends) (now who) (now «pile_quals») (now «pile_omqs») (now orders) (now hap) (now lik) (now post)) ⌝ }
+    ensures { λ r. ⌜ ((i : RoundInput) → RoundStart i s m limit (now (ks .entry)) (now (ph .entry)) (now (pri .entry)) (now (variants .entry)) (now (alleles .entry)) (now (quals .entry)) (now (omqs .entry)) (now («row_ends» .entry)) (now (ends .entry)) (now (who .entry)) (now («pile_quals» .entry)) (now («pile_omqs» .entry)) (now (orders .entry)) (now (hap .entry)) (now (lik .entry)) (now (post .entry)) → RoundRan i (now (post .entry)) r (now (hap .exit)) (now (lik .exit)) (now (post .exit))) ⌝ }
+{
+    let n = s.n;
+    let start = total(s, t, ks, pri, variants, alleles, quals, omqs, row_ends, hap, ph);
+    let r = run_sweeps(
+        t,
+        ks,
+        ph,
+        pri,
+        ends,
+        who,
+        pile_quals,
+        pile_omqs,
+        orders,
+        hap,
+        lik,
+        post,
+        n,
+        m,
+        limit,
+    );
+    let all = ones();
+    let end = total(s, t, ks, pri, variants, alleles, quals, omqs, row_ends, hap, ph);
+    let source = total(s, t, ks, pri, variants, alleles, quals, omqs, row_ends, hap, &all);
+    RoundAnswer {
+        sweeps: r.sweeps,
+        settled: r.settled,
+        start,
+        end,
+        source,
+    }
+}
+
+// The priors, the given phase and its likelihoods, and the run from there; the calls stand in rows and piles.
+fn run_piled(
+    t: &[u16; 1665],
+    words: &[i32],
+    s: Sizes,
+    bases: &[u8],
+    rates: Rates,
+    phase: &[u8],
+    ks: &[u8],
+    variants: &[u32],
+    alleles: &[u32],
+    quals: &[i32],
+    omqs: &[i32],
+    row_ends: &[usize],
+    ends: &[usize],
+    who: &[u32],
+    pile_quals: &[i32],
+    pile_omqs: &[i32],
+    orders: &[u32],
+    hap: &mut [u8],
+    lik: &mut [i64],
+    post: &mut [i64],
+    m: usize,
+    limit: usize,
+) -> RoundAnswer
+    requires { ⌜ (now t ≡ knots) × Admitted (roundInput (now words) (now bases) rates (now phase) (now orders) limit) s m ⌝ }
+    requires { ⌜ AlleleCounts (now words) (s .n) (now ks) × PilesMade (now words) s (now variants) (now alleles) (now quals) (now omqs) (now «row_ends») (now ends) (now who) (now «pile_quals») (now «pile_omqs») ⌝ }
+    requires { ⌜ RunRoom s (now hap) (now lik) (now post) ⌝ }
+    ensures { λ r. ⌜ RoundRan (roundInput (now (words .entry)) (now (bases .entry)) rates (now (phase .entry)) (now (orders .entry)) limit) (now (post .entry)) r (now (hap .exit)) (now (lik .exit)) (now (post .exit)) ⌝ }
+{
+    let mut pri = nine_each();
+    make_priors(t, words, s, bases, rates, &mut pri);
+    let mut phased = zeros();
+    write_phase(words, s, phase, hap, &mut phased);
+    write_likelihoods(variants, alleles, quals, omqs, row_ends, hap, &phased, lik, s.f);
+    run_with_totals(
+        s,
+        t,
+        ks,
+        &phased,
+        &pri,
+        variants,
+        alleles,
+        quals,
+        omqs,
+        row_ends,
+        ends,
+        who,
+        pile_quals,
+        pile_omqs,
+        orders,
+        hap,
+        lik,
+        post,
+        m,
+        limit,
+    )
+}
