@@ -1,1 +1,2 @@
 pub mod OrdersHeld
+pub mod Latest

@@ -1,5 +1,5 @@
--- Each sweep of a slice of good orders goes by a good order: no entry is out of range, none stands twice, and every variant stands there.
--- Assumes nothing.
+-- Each sweep of a slice of good orders goes by a good order: no entry is out of range, none stands twice, and every
+-- variant stands there. Assumes nothing.
 use mathlib.Core.Path.{_≡_, refl, sym, _∙_, subst}
 use mathlib.Core.Bool.{not}
 use mathlib.Core.List.{List, [], _∷_}
