@@ -1,2 +1,3 @@
 pub mod OrdersHeld
 pub mod Latest
+pub mod ScoreBounds
