@@ -1,6 +1,6 @@
--- How far below 0 scores and totals lie: a prior at most 2^21 steps; a fragment's mixed likelihoods at most 262,144 steps
--- a call and 4,096 more, never above 0; so all of them together, there being 16,384 calls and 4,096 fragments, less than
--- 2^33 steps. Holds whatever the haplotypes are. Assumes nothing.
+-- How far below 0 scores and totals lie, whatever the haplotypes are: a prior at most 2^21 steps; a fragment's mixed
+-- likelihoods at most 262,144 steps a call and 4,096 more, and never above 0; so the sum of all of them, there being
+-- 16,384 calls and 4,096 fragments at most, less than 2^33 steps. Assumes nothing.
 use mathlib.Core.Path.{_≡_}
 use mathlib.Core.Bool.{Bool, true, false, cond}
 use mathlib.Core.List.{List, [], _∷_, map}
