@@ -1,1 +1,5 @@
+pub mod OrdersHeld
+pub mod Latest
+pub mod ScoreBounds
 pub mod CheckLaws
+pub mod RoundLaws

@@ -1,0 +1,108 @@
+-- The sweeps of an accepted input, and the totals before and after them.
+-- Assumes nothing.
+use mathlib.Core.Path.{_≡_, sym, ap, _∙_, subst}
+use mathlib.Core.Bool.{Bool, true, cond}
+use mathlib.Core.List.{List, [], _∷_}
+use Prim.Native.Nat.{ℕ, zero, suc, _*_, _<_, _≤_}
+use native.Mathlib.Omega.{arith}
+use borrow.Author.Tests.{eqb-true}
+use lib.Dec.{eqb}
+use lib.IntN.{ℤ}
+use lib.ListN.{length, getD}
+use Rattle.variants_and_fragments.specs.declared.Sizes.{Sizes}
+use Rattle.variants_and_fragments.specs.Accepted.{CaseIn, allb}
+use Rattle.variants_and_fragments.specs.Decode.{decode}
+use Rattle.variants_and_fragments.specs.Pile.{pileStart}
+use Rattle.variants_and_fragments.proofs.Accepted.{case-in}
+use Rattle.variants_and_fragments.proofs.Decoded.{variants-are}
+use Rattle.haplotype_assembly.specs.Phase.{phasedFlags}
+use Rattle.shuffle.specs.Orders.{orderCount}
+use Rattle.sweeps.specs.Sweeps.{SweepCase, GoodHaps, GoodOrder, totalOf, phasedTotal, sourceTotal}
+use Rattle.sweeps.proofs.Run.{after-good}
+use Rattle.call_genotypes.specs.Likelihoods.{CallSlices, callSlices, CallsIn, EndsIn, flagged}
+use Rattle.call_genotypes.specs.Totals.{heldCase, PriorsIn}
+use Rattle.call_genotypes.specs.Runs.{orderOf, Ran}
+use Rattle.call_genotypes.proofs.CallsHeld.{calls-in, ends-in-order}
+use Rattle.call_genotypes.proofs.HeldCases.{counted}
+use Rattle.call_genotypes.proofs.TotalsHeld.{priors-in, phased-total-held, source-total-held}
+use Rattle.with_haplotypes.specs.declared.RoundAnswer.{RoundAnswer}
+use Rattle.with_haplotypes.specs.Round.{RoundInput, case, sweepCase, start, orderOfSweep, result}
+use Rattle.with_haplotypes.specs.Steps.{Admitted, RoundStart, RoundRan}
+use Rattle.with_haplotypes.proofs.OrdersHeld.{order-good}
+
+-- each of a list of ones is 1
+pub all-ones : (l : List ℕ) → allb (λ x. eqb x 1) l ≡ true → (v : ℕ) → v < length l → getD l v 0 ≡ 1
+unfolding allb
+all-ones [] e v h = absurd (omega arith)
+all-ones (x ∷ xs) e v h = ?
+
+-- ---- of an admitted input
+module _ {input : RoundInput} {s : Sizes} {m : ℕ} (A : Admitted input s m) where
+  pub known : CaseIn (input .words) s
+  known = case-in (input .words) (input .bases) s (A .accepted)
+
+  pub variants-counted : sweepCase input .n ≡ s .n
+  unfolding sweepCase case
+  variants-counted = counted (input .rates) (phasedFlags (decode (input .words) (input .bases)) (input .phase)) (input .words) (input .bases) s (A .accepted)
+
+  pub orders-same : orderOfSweep input ≡ orderOf (input .orders) (s .n) m
+  unfolding orderOfSweep case
+  orders-same = rw (variants-are known (input .bases), ← A .count-is)
+
+  pub orders-good : (q : ℕ) → GoodOrder (sweepCase input .n) (orderOfSweep input q)
+  orders-good q = rw (variants-counted, orders-same) (order-good (s .n) m (input .orders) (A .good-orders) q)
+
+-- ---- the sweeps
+module _ {input : RoundInput} {s : Sizes} {m limit : ℕ} {ks ph : List ℕ} {pri : List ℤ} {variants alleles : List ℕ} {quals one-minus-quals : List ℤ} {row-ends ends who : List ℕ} {pile-quals pile-one-minus-quals : List ℤ} {orders hap : List ℕ} {lik post : List ℤ}
+    (R : RoundStart input s m limit ks ph pri variants alleles quals one-minus-quals row-ends ends who pile-quals pile-one-minus-quals orders hap lik post) where
+  abbrev C : SweepCase
+  C = sweepCase input
+
+  abbrev calls : CallSlices
+  calls = callSlices variants alleles quals one-minus-quals
+
+  -- what `total` wants, of haplotypes and of flags
+  pub total-asks : (h mask : List ℕ) → GoodHaps C h → s .n ≤ length mask → PriorsIn (s .n) ks pri h mask × (CallsIn calls (pileStart row-ends (s .f)) h mask × EndsIn row-ends (s .f))
+  total-asks h mask g l =
+      let k = known (R .admitted) in
+      let made = R .piles .piled .rows in
+      let n = variants-counted (R .admitted) in
+      (priors-in (s .n) mask (R .run-start .held) g n l, (calls-in k made h mask (omega (arith, g .len)) l, ends-in-order k made (R .piles .row-ends-long)))
+
+  pub flags-long : s .n ≤ length ph
+  flags-long = omega (arith, R .run-start .held .ph-long, variants-counted (R .admitted))
+
+  -- what `total` answers
+  pub phased-total : (h : List ℕ) → GoodHaps C h → totalOf (heldCase (s .n) (s .f) ks pri calls row-ends ph) (flagged ph) h ≡ phasedTotal C h
+  unfolding sweepCase case
+  phased-total h g = phased-total-held (input .rates) (phasedFlags (decode (input .words) (input .bases)) (input .phase)) (input .words) (input .bases) s (R .admitted .accepted) (R .piles .piled .rows) (R .run-start .held) g
+
+  pub source-total : (h ones : List ℕ) → GoodHaps C h → ((v : ℕ) → v < s .n → getD ones v 0 ≡ 1) → totalOf (heldCase (s .n) (s .f) ks pri calls row-ends ones) (flagged ones) h ≡ sourceTotal C h
+  unfolding sweepCase case
+  source-total h ones g all = source-total-held (input .rates) (phasedFlags (decode (input .words) (input .bases)) (input .phase)) (input .words) (input .bases) s (R .admitted .accepted) (R .piles .piled .rows) (R .run-start .held) g ones all
+
+  module _ {h' : List ℕ} {lik' post' : List ℤ} {sweeps : ℕ} {settled : Bool} (r : Ran C orders hap h' lik' post post' (s .n) m limit sweeps settled) where
+    orders-here : orderOf orders (s .n) m ≡ orderOfSweep input
+    orders-here = ap (λ (o : List ℕ). orderOf o (s .n) m) (sym (R .orders-are)) ∙ sym (orders-same (R .admitted))
+
+    -- the haplotypes that are left
+    pub left-good : GoodHaps C h'
+    left-good =
+        let e = r .demand3 .ends in
+        rw (e .reached, orders-here) (after-good C (R .run-start .held .good) (orderOfSweep input) (orders-good (R .admitted)) hap (suc (e .last)) (R .run-start .haps))
+
+    pub round-ran : (x : RoundAnswer) → x .sweeps ≡ sweeps → x .settled ≡ settled → x .start ≡ phasedTotal C hap → x .end ≡ phasedTotal C h' → x .source ≡ sourceTotal C h' → RoundRan input post x h' lik' post'
+    unfolding result
+    round-ran x a b c d e =
+        let o = orders-here in
+        let l = R .limit-is in
+        let h = R .hap-is in
+        record {
+          result-is = rw (l, ← h, ← o, a, b) (r .result);
+          demand3 = rw (l, ← h, ← o, a, b) (r .demand3);
+          start-is = rw (← h) c;
+          end-is = d;
+          source-is = e;
+          liks = r .liks;
+          scores = rw (← h, ← o, a) (r .scores);
+        }
