@@ -14,6 +14,7 @@ use Rattle.variants_and_fragments.specs.Accepted.{CaseIn, allb}
 use Rattle.variants_and_fragments.specs.Decode.{decode}
 use Rattle.variants_and_fragments.specs.Pile.{pileStart}
 use Rattle.variants_and_fragments.proofs.Accepted.{case-in}
+use Rattle.variants_and_fragments.proofs.Bools.{both}
 use Rattle.variants_and_fragments.proofs.Decoded.{variants-are}
 use Rattle.haplotype_assembly.specs.Phase.{phasedFlags}
 use Rattle.shuffle.specs.Orders.{orderCount}
@@ -34,7 +35,8 @@ use Rattle.with_haplotypes.proofs.OrdersHeld.{order-good}
 pub all-ones : (l : List ℕ) → allb (λ x. eqb x 1) l ≡ true → (v : ℕ) → v < length l → getD l v 0 ≡ 1
 unfolding allb
 all-ones [] e v h = absurd (omega arith)
-all-ones (x ∷ xs) e v h = ?
+all-ones (x ∷ xs) e zero h = eqb-true x 1 (both (eqb x 1) (allb (λ x. eqb x 1) xs) e .0)
+all-ones (x ∷ xs) e (suc v) h = all-ones xs (both (eqb x 1) (allb (λ x. eqb x 1) xs) e .1) v (omega arith)
 
 -- ---- of an admitted input
 module _ {input : RoundInput} {s : Sizes} {m : ℕ} (A : Admitted input s m) where
@@ -95,14 +97,14 @@ module _ {input : RoundInput} {s : Sizes} {m limit : ℕ} {ks ph : List ℕ} {pr
     unfolding result
     round-ran x a b c d e =
         let o = orders-here in
-        let l = R .limit-is in
         let h = R .hap-is in
+        let q = subst (λ (n : ℕ). Ran C orders hap h' lik' post post' (s .n) m n sweeps settled) (sym (R .limit-is)) r in
         record {
-          result-is = rw (l, ← h, ← o, a, b) (r .result);
-          demand3 = rw (l, ← h, ← o, a, b) (r .demand3);
+          result-is = rw (← h, ← o, a, b) (q .result);
+          demand3 = rw (← h, ← o, a, b) (q .demand3);
           start-is = rw (← h) c;
           end-is = d;
           source-is = e;
-          liks = r .liks;
-          scores = rw (← h, ← o, a) (r .scores);
+          liks = q .liks;
+          scores = rw (← h, ← o, a) (q .scores);
         }

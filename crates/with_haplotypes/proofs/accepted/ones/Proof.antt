@@ -1,11 +1,13 @@
+-- `accepted::ones` meets its contract: the list computes.
+-- Assumes nothing.
+use mathlib.Core.Path.{refl}
+use Rattle.variants_and_fragments.specs.Accepted.{allb}
 use Rattle.with_haplotypes.proofs.accepted.ones.Statement.{statement}
 use Rattle.with_haplotypes.proofs.accepted.ones.Tie as tie
-use Rattle.with_haplotypes.proofs.accepted.ones.Reads as reads
-use Rattle.with_haplotypes.proofs.accepted.ones.Lts as lts
 
--- src/accepted.rt:33:1
 returns : tie.Need-returns
-returns c = ?
+unfolding allb
+returns c = (refl, refl)
 
 pub ones-spec : {M : Type 1} → statement M
 ones-spec = tie.close (tie.spec returns)

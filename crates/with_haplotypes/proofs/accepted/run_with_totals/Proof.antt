@@ -1,51 +1,65 @@
+-- `accepted::run_with_totals` meets its contract: the run, and three totals of the case that the slices hold.
+-- Assumes nothing.
+use mathlib.Core.Path.{_≡_, refl, _∙_}
+use Prim.Native.Nat.{_≤_}
+use native.Mathlib.Omega.{arith}
 use borrow.Author.Needs.{needs}
+use mir.Syntax.{w64}
+use Rattle.steps.proofs.Signed.{read-back}
+use Rattle.with_haplotypes.proofs.RoundLaws.{all-ones, known, total-asks, flags-long, phased-total, source-total, left-good, round-ran}
 use Rattle.with_haplotypes.proofs.accepted.run_with_totals.Statement.{statement}
 use Rattle.with_haplotypes.proofs.accepted.run_with_totals.Tie as tie
-use Rattle.with_haplotypes.proofs.accepted.run_with_totals.Reads as reads
-use Rattle.with_haplotypes.proofs.accepted.run_with_totals.Lts as lts
-use Rattle.call_genotypes.proofs.run.run_sweeps.Reads as run-sweeps-reads
-use Rattle.call_genotypes.proofs.totals.total.Reads as total-reads
-use Rattle.with_haplotypes.proofs.accepted.ones.Reads as ones-reads
 
--- src/accepted.rt:67:9
 total-requires : tie.Need-total-requires
-total-requires c κs = ?
+total-requires c κs =
+    let s = c .before .before .before .before .before .before .before .before .before .before in
+    let R = s .pre .1 .holds in
+    ((s .pre .0, known (R .admitted) .sized .f-top), total-asks R _ _ (R .run-start .haps) (flags-long R))
 
--- src/accepted.rt:68:9
 run-sweeps-requires : tie.Need-run-sweeps-requires
-run-sweeps-requires c κs = search needs
+run-sweeps-requires c κs =
+    let s = c .before .before .before .before .before .before .before .before .before .before .before .before .before .before in
+    let R = s .pre .1 .holds in
+    (s .pre .0, record { case = _; holds = R .run-start })
 
--- src/accepted.rt:85:15
 ones-requires : tie.Need-ones-requires
 ones-requires c κs = search needs
 
--- src/accepted.rt:86:9
 total-requires-2 : tie.Need-total-requires-2
-total-requires-2 c κs = ?
+total-requires-2 c κs =
+    let s = c .before .before .before .before .before .before .before .before .before .before .before .before .before .before .before .before .before .before .before .before .before in
+    let R = s .pre .1 .holds in
+    let g = left-good R (c .before .before .before .before .before .before .run-sweeps .ensures _ (R .run-start)) in
+    ((s .pre .0, known (R .admitted) .sized .f-top), total-asks R _ _ g (flags-long R))
 
--- src/accepted.rt:87:86
 slice-aggregate-total : tie.Need-slice-aggregate-total
 slice-aggregate-total c = search needs
 
--- src/accepted.rt:87:9
-total-requires-3 : tie.Need-total-requires-3
-total-requires-3 c κs = ?
 
--- src/accepted.rt:40:1
+total-requires-3 : tie.Need-total-requires-3
+total-requires-3 c κs =
+    let s = c .before .before .before .before .before .before .before .before .before .before .before .before .before .before .before .before .before .before .before .before .before .before .before .before in
+    let R = s .pre .1 .holds in
+    let g = left-good R (c .before .before .before .before .before .before .before .before .before .run-sweeps .ensures _ (R .run-start)) in
+    ((s .pre .0, known (R .admitted) .sized .f-top), total-asks R _ _ g (omega (arith, known (R .admitted) .sized .n-top, c .before .before .before .before .ones .ensures .0)))
+
 same-length : tie.Need-same-length
 same-length c = search needs
 
--- src/accepted.rt:40:1
 same-length-2 : tie.Need-same-length-2
 same-length-2 c = search needs
 
--- src/accepted.rt:40:1
 same-length-3 : tie.Need-same-length-3
 same-length-3 c = search needs
 
--- src/accepted.rt:40:1
 returns : tie.Need-returns
-returns c = ?
+returns c i R =
+    let r = c .before .before .before .before .before .before .before .before .before .before .run-sweeps .ensures _ (R .run-start) in
+    let g = left-good R r in
+    round-ran R r _ refl refl
+    (read-back w64 _ (c .before .before .before .before .before .before .before .before .before .before .before .before .before .before .total .ok) ∙ c .before .before .before .before .before .before .before .before .before .before .before .before .before .before .total .ensures .0 ∙ phased-total R _ (R .run-start .haps))
+    (read-back w64 _ (c .before .before .before .total2 .ok) ∙ c .before .before .before .total2 .ensures .0 ∙ phased-total R _ g)
+    (read-back w64 _ (c .total3 .ok) ∙ c .total3 .ensures .0 ∙ source-total R _ _ g (λ v h. all-ones _ (c .before .before .before .before .before .ones .ensures .1) v (omega (arith, known (R .admitted) .sized .n-top, c .before .before .before .before .before .ones .ensures .0))))
 
 pub run-with-totals-spec : {M : Type 1} → statement M
 run-with-totals-spec =
