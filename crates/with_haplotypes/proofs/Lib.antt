@@ -3,3 +3,4 @@ pub mod Latest
 pub mod ScoreBounds
 pub mod CheckLaws
 pub mod RoundLaws
+pub mod StartLaws

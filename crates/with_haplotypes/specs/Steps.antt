@@ -3,7 +3,7 @@ use mathlib.Core.Path.{_≡_}
 use mathlib.Core.List.{List}
 use Prim.Native.Nat.{ℕ, _*_, _≤_}
 use lib.IntN.{ℤ}
-use lib.ListN.{length}
+use lib.ListN.{length, take}
 use Rattle.variants_and_fragments.specs.declared.Sizes.{Sizes}
 use Rattle.variants_and_fragments.specs.Refusals.{Outcome, refused, done, number, place}
 use Rattle.variants_and_fragments.specs.Check.{caseOf}
@@ -22,7 +22,8 @@ use Rattle.call_genotypes.specs.Runs.{RunStart, resultOf}
 use Rattle.with_haplotypes.specs.declared.RoundAnswer.{RoundAnswer}
 use Rattle.with_haplotypes.specs.declared.checks.RoundChecked.{RoundChecked}
 use Rattle.with_haplotypes.specs.declared.checks.RoundChecked.the-variants.{Good, Refused}
-use Rattle.with_haplotypes.specs.Round.{RoundInput, sweepCase, start, orderOfSweep, result}
+use Rattle.with_haplotypes.specs.Round.{RoundInput, sweepCase, start, orderOfSweep, result, returned, haplotypeAt, likelihoodAt, posteriorAt, final}
+use Rattle.with_haplotypes.specs.Promise.{RoundSlices}
 
 -- the answer of the checks in 01's terms
 unfoldable pub checkedAs : RoundChecked → Outcome ℕ
@@ -83,3 +84,21 @@ pub record RoundRan (input : RoundInput) (post : List ℤ) (r : RoundAnswer) (ha
   pub source-is : r .source ≡ sourceTotal (sweepCase input) hap'
   pub liks : Liks (sweepCase input) hap' lik'
   pub scores : post' ≡ posts rawScores (sweepCase input) (orderOfSweep input) (start input) post (r .sweeps)
+
+-- room for the round in the lent slices
+pub record RoundRoom (s : Sizes) (slices : RoundSlices) : Type 0 where
+  pub haplotypes-long : 2 * s .n ≤ length (slices .haplotypes)
+  pub likelihoods-long : 2 * s .f ≤ length (slices .likelihoods)
+  pub posteriors-long : 9 * s .n ≤ length (slices .posteriors)
+  pub quals-long : s .n ≤ length (slices .quals)
+  pub gqs-long : s .n ≤ length (slices .gqs)
+
+-- what a round over an accepted input returns and writes
+pub record RoundMade (input : RoundInput) (s : Sizes) (before : RoundSlices) (r : RoundAnswer) (after : RoundSlices) : Type 0 where
+  pub returned-is : r ≡ returned input
+  pub haplotypes-are : after .haplotypes ≡ written (haplotypeAt input) (2 * s .n) (before .haplotypes)
+  pub likelihoods-are : after .likelihoods ≡ written (likelihoodAt input) (2 * s .f) (before .likelihoods)
+  pub posteriors-are : after .posteriors ≡ written (posteriorAt input) (9 * s .n) (before .posteriors)
+  pub quals-are : after .quals ≡ written (λ v. final input v .qual) (s .n) (before .quals)
+  pub gqs-are : after .gqs ≡ written (λ v. final input v .gq) (s .n) (before .gqs)
+  pub demand3 : Demand3 (sweepCase input) (orderOfSweep input) (input .limit) (start input) (resultOf (r .sweeps) (r .settled) (take (2 * s .n) (after .haplotypes)))

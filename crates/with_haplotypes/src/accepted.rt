@@ -6,8 +6,11 @@ ghost use lib.ListN.{length};
 ghost use Rattle.steps.specs.Table.{knots};
 ghost use Rattle.variants_and_fragments.specs.Accepted.{allb};
 ghost use Rattle.with_haplotypes.specs.Round.{RoundInput, roundInput};
-ghost use Rattle.with_haplotypes.specs.Steps.{Admitted, AlleleCounts, PilesMade, RunRoom, RoundStart, SomeInput, RoundRan};
+ghost use Rattle.with_haplotypes.specs.Steps.{Admitted, AlleleCounts, PilesMade, RunRoom, RoundStart, SomeInput, RoundRan, RoundRoom, RoundMade};
+ghost use Rattle.with_haplotypes.specs.Promise.{roundSlices};
+use call_genotypes::finals::write_finals;
 use call_genotypes::likelihoods::write_likelihoods;
+use call_genotypes::normalized::normalize_all;
 use call_genotypes::priors::make_priors;
 use call_genotypes::run::run_sweeps;
 use call_genotypes::scratch::fragment_ends;
@@ -15,6 +18,7 @@ use call_genotypes::scratch::nine_each;
 use call_genotypes::scratch::numbers;
 use call_genotypes::scratch::places;
 use call_genotypes::scratch::qualities;
+use call_genotypes::sweep_case::write_allele_counts;
 use call_genotypes::totals::total;
 use crate::RoundAnswer;
 use genotype_probs::Rates;
@@ -151,4 +155,122 @@ fn run_piled(
         m,
         limit,
     )
+}
+
+// The usable calls, as rows and as piles, and the run from there.
+fn run_accepted(
+    t: &[u16; 1665],
+    words: &[i32],
+    s: Sizes,
+    bases: &[u8],
+    rates: Rates,
+    phase: &[u8],
+    ks: &[u8],
+    orders: &[u32],
+    hap: &mut [u8],
+    lik: &mut [i64],
+    post: &mut [i64],
+    m: usize,
+    limit: usize,
+) -> RoundAnswer
+    requires { ⌜ (now t ≡ knots) × Admitted (roundInput (now words) (now bases) rates (now phase) (now orders) limit) s m ⌝ }
+    requires { ⌜ AlleleCounts (now words) (s .n) (now ks) × RunRoom s (now hap) (now lik) (now post) ⌝ }
+    ensures { λ r. ⌜ RoundRan (roundInput (now (words .entry)) (now (bases .entry)) rates (now (phase .entry)) (now (orders .entry)) limit) (now (post .entry)) r (now (hap .exit)) (now (lik .exit)) (now (post .exit)) ⌝ }
+{
+    let mut fragments = numbers();
+    let mut variants = numbers();
+    let mut alleles = numbers();
+    let mut quals = qualities();
+    let mut omqs = qualities();
+    let mut row_ends = fragment_ends();
+    let mut ambiguous = places();
+    let mut ends = places();
+    let mut who = numbers();
+    let mut pile_quals = qualities();
+    let mut pile_omqs = qualities();
+    pile_calls(
+        words,
+        s,
+        &mut fragments,
+        &mut variants,
+        &mut alleles,
+        &mut quals,
+        &mut omqs,
+        &mut row_ends,
+        &mut ambiguous,
+        &mut ends,
+        &mut who,
+        &mut pile_quals,
+        &mut pile_omqs,
+    );
+    run_piled(
+        t,
+        words,
+        s,
+        bases,
+        rates,
+        phase,
+        ks,
+        &variants,
+        &alleles,
+        &quals,
+        &omqs,
+        &row_ends,
+        &ends,
+        &who,
+        &pile_quals,
+        &pile_omqs,
+        orders,
+        hap,
+        lik,
+        post,
+        m,
+        limit,
+    )
+}
+
+// A round over an accepted input: the run, and the final answers from the latest posteriors.
+pub fn round_accepted(
+    t: &[u16; 1665],
+    words: &[i32],
+    s: Sizes,
+    bases: &[u8],
+    rates: Rates,
+    phase: &[u8],
+    orders: &[u32],
+    haplotypes: &mut [u8],
+    likelihoods: &mut [i64],
+    posteriors: &mut [i64],
+    quals: &mut [f64],
+    gqs: &mut [f64],
+    m: usize,
+    limit: usize,
+) -> RoundAnswer
+    requires { ⌜ (now t ≡ knots) × Admitted (roundInput (now words) (now bases) rates (now phase) (now orders) limit) s m ⌝ }
+    requires { ⌜ RoundRoom s (roundSlices (now haplotypes) (now likelihoods) (now posteriors) (now quals) (now gqs)) ⌝ }
+    ensures { λ r. ⌜ RoundMade (roundInput (now (words .entry)) (now (bases .entry)) rates (now (phase .entry)) (now (orders .entry)) limit) s (roundSlices (now (haplotypes .entry)) (now (likelihoods .entry)) (now (posteriors .entry)) (now (quals .entry)) (now (gqs .entry))) r (roundSlices (now (haplotypes .exit)) (now (likelihoods .exit)) (now (posteriors .exit)) (now (quals .exit)) (now (gqs .exit))) ⌝ }
+{
+    let n = s.n;
+    let mut ks = zeros();
+    write_allele_counts(words, s, &mut ks);
+    let a = 2 * n;
+    let b = 2 * s.f;
+    let r = run_accepted(
+        t,
+        words,
+        s,
+        bases,
+        rates,
+        phase,
+        &ks,
+        orders,
+        &mut haplotypes[0..a],
+        &mut likelihoods[0..b],
+        posteriors,
+        m,
+        limit,
+    );
+    normalize_all(t, &ks, posteriors, n);
+    write_finals(t, words, s, posteriors, quals, gqs);
+    r
 }

@@ -1,5 +1,14 @@
 // One round of calling genotypes with haplotypes, after HapCUT2: document 01, sections 6 and 7.
+ghost use Rattle.with_haplotypes.specs.Round.{roundInput};
+ghost use Rattle.with_haplotypes.specs.Promise.{roundSlices, CalledWithHaplotypes};
+use crate::accepted::round_accepted;
+use crate::checks::RoundChecked;
+use crate::checks::round_checks;
+use crate::checks::round_short;
+use genotype_probs::Rates;
+use variants_and_fragments::Checked;
 use variants_and_fragments::Refusal;
+use variants_and_fragments::check_case;
 
 pub mod accepted;
 pub mod checks;
@@ -18,4 +27,59 @@ pub struct RoundAnswer {
 pub enum Round {
     Done(RoundAnswer),
     Refused(Refusal),
+}
+
+// Calls genotypes with haplotypes, in one round: sweeps from the given phase, by the lent orders in turn, until one changes nothing or
+// the limit is reached. Writes the haplotypes (2 a variant), the likelihoods (2 a fragment), each variant's latest posteriors (9 a
+// variant), its quality and its genotype's quality.
+pub fn call_genotypes_with_haplotypes(
+    words: &[i32],
+    bases: &[u8],
+    rates: Rates,
+    phase: &[u8],
+    sets: &[i32],
+    orders: &[u32],
+    limit: u32,
+    haplotypes: &mut [u8],
+    likelihoods: &mut [i64],
+    posteriors: &mut [i64],
+    quals: &mut [f64],
+    gqs: &mut [f64],
+) -> Round
+    ensures { λ r. ⌜ CalledWithHaplotypes (roundInput (now (words .entry)) (now (bases .entry)) rates (now (phase .entry)) (now (orders .entry)) limit) (now (sets .entry)) (roundSlices (now (haplotypes .entry)) (now (likelihoods .entry)) (now (posteriors .entry)) (now (quals .entry)) (now (gqs .entry))) r (roundSlices (now (haplotypes .exit)) (now (likelihoods .exit)) (now (posteriors .exit)) (now (quals .exit)) (now (gqs .exit))) ⌝ }
+{
+    match check_case(words, bases) {
+        Checked::Refused(x) => Round::Refused(x),
+        Checked::Accepted(s) => {
+            let t = steps::table();
+            let short = round_short(
+                s.n,
+                s.f,
+                haplotypes.len(),
+                likelihoods.len(),
+                posteriors.len(),
+                quals.len(),
+                gqs.len(),
+            );
+            match round_checks(&t, s.n, rates, phase, sets, orders, limit, short) {
+                RoundChecked::Refused(x) => Round::Refused(x),
+                RoundChecked::Good(m) => Round::Done(round_accepted(
+                    &t,
+                    words,
+                    s,
+                    bases,
+                    rates,
+                    phase,
+                    orders,
+                    haplotypes,
+                    likelihoods,
+                    posteriors,
+                    quals,
+                    gqs,
+                    m,
+                    limit as usize,
+                )),
+            }
+        }
+    }
 }
