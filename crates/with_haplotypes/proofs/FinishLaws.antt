@@ -10,15 +10,15 @@ use native.Mathlib.Decide.{decLt}
 use lib.Ieee.{Float}
 use lib.IntN.{ℤ, pos, natAbs}
 use lib.ListN.{length, getD, drop, take, length-append, length-drop, List·getD-append}
-use lib.Seq.{ext-getD, getD-drop, getD-append-add, take-at, take-all}
+use lib.Seq.{length-take-le, ext-getD, getD-drop, getD-append-add, take-at}
 use Rattle.steps.specs.Logs.{Log, steps}
 use Rattle.variants_and_fragments.specs.declared.Sizes.{Sizes}
-use Rattle.variants_and_fragments.specs.Case.{alleleCount, variantOf}
+use Rattle.variants_and_fragments.specs.Case.{Call, alleleCount, variantOf}
 use Rattle.variants_and_fragments.specs.Decode.{tabulateFrom, tabulate, decode}
 use Rattle.variants_and_fragments.specs.Layout.{alleleCountAt}
 use Rattle.variants_and_fragments.specs.Pileup.{only}
 use Rattle.variants_and_fragments.specs.Written.{written}
-use Rattle.variants_and_fragments.proofs.Decoded.{tabulate-length, tabulate-at, allele-count-is}
+use Rattle.variants_and_fragments.proofs.Decoded.{tabulate-at, fragments-are}
 use Rattle.variants_and_fragments.proofs.GoodCases.{good-case}
 use Rattle.variants_and_fragments.proofs.Written.{written-length, written-at, written-past}
 use Rattle.genotype_probs.specs.Posteriors.{normalized, TableAt}
@@ -26,11 +26,14 @@ use Rattle.genotype_probs.proofs.AlleleLaws.{nine}
 use Rattle.genotype_probs.proofs.Maxima.{genotype-maximum}
 use Rattle.haplotype_assembly.specs.Phase.{phasedFlags}
 use Rattle.haplotype_assembly.proofs.Decodes.{written-same}
-use Rattle.sweeps.specs.Sweeps.{SweepCase, GoodSweepCase, score}
-use Rattle.sweeps.specs.Demand3.{after}
+use Rattle.sweeps.specs.Sweeps.{SweepCase, GoodSweepCase, allele0, likelihood, score}
+use Rattle.sweeps.specs.Demand3.{Demand3}
 use Rattle.sweeps.specs.Posts.{posts}
+use Rattle.sweeps.proofs.Basics.{lik-cong}
 use Rattle.sweeps.proofs.Posts.{length-posts}
 use Rattle.call_genotypes.specs.Finals.{mirror, isOther, others, otherSum, finalOf, finalAt, TablesIn, FinalsWritten}
+use Rattle.call_genotypes.specs.Likelihoods.{alleleOn}
+use Rattle.call_genotypes.specs.Runs.{resultOf}
 use Rattle.call_genotypes.specs.Scores.{rawScores}
 use Rattle.call_genotypes.specs.NormalizedPosteriors.{normalizedAt, TablesAt}
 use Rattle.call_genotypes.proofs.CallLaws.{genotype-same}
@@ -39,7 +42,7 @@ use Rattle.call_genotypes.proofs.NormalizedTables.{normalized-here, normalized-
 use Rattle.call_genotypes.proofs.ScoreLaws.{normal-size}
 use Rattle.call_genotypes.proofs.SweepCases as cases
 use Rattle.with_haplotypes.specs.declared.RoundAnswer.{RoundAnswer}
-use Rattle.with_haplotypes.specs.Round.{RoundInput, case, sweepCase, start, orderOfSweep, result, atVisit, latestScore, posteriors, posteriorAt, final}
+use Rattle.with_haplotypes.specs.Round.{RoundInput, case, sweepCase, start, orderOfSweep, result, returned, haplotypeAt, likelihoodAt, latestScore, posteriors, posteriorAt, final}
 use Rattle.with_haplotypes.specs.Steps.{Admitted, AlleleCounts, RoundRan}
 use Rattle.with_haplotypes.proofs.Latest.{posts-latest, posts-past}
 use Rattle.with_haplotypes.proofs.RoundLaws.{known, variants-counted, orders-good}
@@ -218,3 +221,51 @@ module _ {input : RoundInput} {s : Sizes} {m : ℕ} (A : Admitted input s m) {ks
 
         pub gqs-written : gqs' ≡ written (λ v. final input v .gq) (s .n) gqs
         gqs-written = F .gqs-are ∙ written-same (λ v. finalAt (input .words) post' v .gq) (λ v. final input v .gq) (s .n) gqs (λ v h. ap (λ x. x .gq) (final-is v h))
+
+-- ---- the haplotypes and the likelihoods, of which the fronts were lent
+module _ {input : RoundInput} {s : Sizes} {m : ℕ} (A : Admitted input s m) {post raw : List ℤ} {r : RoundAnswer} {hap' : List ℕ} {lik' : List ℤ} (R : RoundRan input post r hap' lik' raw) where
+  haps-are : result input .haps ≡ hap'
+  haps-are = ap (λ x. x .haps) (R .result-is)
+
+  pub haplotypes-written : (l : List ℕ) (a : ℕ) → a ≡ 2 * s .n → 2 * s .n ≤ length l → length hap' ≡ 2 * s .n → hap' ++ drop a l ≡ written (haplotypeAt input) (2 * s .n) l
+  unfolding haplotypeAt
+  haplotypes-written l a w h e = rw w (front-written (haplotypeAt input) 0 (2 * s .n) l hap' h e (λ i k. rw haps-are))
+
+  -- demand 3 of what is returned and written
+  pub demand3-written : (l : List ℕ) (a : ℕ) → length hap' ≡ 2 * s .n
+      → Demand3 (sweepCase input) (orderOfSweep input) (input .limit) (start input) (resultOf (r .sweeps) (r .settled) (take (2 * s .n) (hap' ++ drop a l)))
+  demand3-written l a e = rw (take-at hap' (drop a l) (2 * s .n) e) (R .demand3)
+
+  fragments-counted : length (sweepCase input .frags) ≡ s .f
+  unfolding sweepCase case
+  fragments-counted =
+      cases.frags-length (input .rates) (phasedFlags (decode (input .words) (input .bases)) (input .phase)) (decode (input .words) (input .bases))
+      ∙ fragments-are (known A) (input .bases)
+
+  -- a read's likelihood on haplotype 0 or 1
+  first-is : (cs : List Call) → likelihood (sweepCase input .phased) (alleleOn hap' 0) cs ≡ likelihood (sweepCase input .phased) (allele0 hap') cs
+  first-is cs = lik-cong (sweepCase input .phased) (sweepCase input .phased) (alleleOn hap' 0) (allele0 hap') cs (λ v t. refl) (λ v t u. ap (λ (i : ℕ). getD hap' i 0) (omega arith))
+
+  likelihood-is : (e b : ℕ) → e % 2 ≡ b → b < 2 → e < 2 * s .f → getD lik' e (pos 0) ≡ likelihoodAt input e
+  unfolding likelihoodAt
+  likelihood-is e zero q l h =
+      let w : 2 * (e / 2) ≡ e = omega arith in
+      let i : e / 2 < length (sweepCase input .frags) = omega (arith, fragments-counted) in
+      sym (ap (λ (x : ℕ). getD lik' x (pos 0)) w) ∙ R .liks .firsts (e / 2) i ∙ sym (first-is (getD (sweepCase input .frags) (e / 2) [])) ∙ rw (haps-are, q)
+  likelihood-is e (suc zero) q l h =
+      let w : 2 * (e / 2) + 1 ≡ e = omega arith in
+      let i : e / 2 < length (sweepCase input .frags) = omega (arith, fragments-counted) in
+      sym (ap (λ (x : ℕ). getD lik' x (pos 0)) w) ∙ R .liks .seconds (e / 2) i ∙ rw (haps-are, q)
+  likelihood-is e (suc (suc b)) q l h = absurd (omega arith)
+
+  pub likelihoods-written : (l : List ℤ) (a : ℕ) → a ≡ 2 * s .f → 2 * s .f ≤ length l → lik' ++ drop a l ≡ written (likelihoodAt input) (2 * s .f) l
+  likelihoods-written l a w h =
+      rw w (front-written (likelihoodAt input) (pos 0) (2 * s .f) l lik' h (R .liks .long ∙ ap (λ (x : ℕ). 2 * x) fragments-counted) (λ e k. likelihood-is e (e % 2) refl (omega arith) k))
+
+  pub returned-is : r ≡ returned input
+  unfolding returned
+  returned-is = rw (R .result-is, ← R .start-is, ← R .end-is, ← R .source-is)
+
+-- what is lent of a slice's front
+pub part-long : {X : Type 0} (l : List X) (a n : ℕ) → a ≡ n → n ≤ length l → length (take a l) ≡ n
+part-long l a n e h = rw e (length-take-le n l h)
