@@ -1,9 +1,7 @@
--- A round at a case that its words are known to stand for: the haplotypes and the answer of the same definitions, with that case in place
--- of the decoded one, so that what is computed next has no words in it.
+-- A round at a case that its words are known to stand for: the run and the answer of the same definitions with that
+-- case in place of the decoded one, so that what is computed next has no words in it.
 -- Assumes nothing.
 use mathlib.Core.Path.{_≡_, refl}
-use mathlib.Core.List.{List}
-use Prim.Native.Nat.{ℕ}
 use lib.ListN.{length}
 use Rattle.variants_and_fragments.specs.Case.{Case}
 use Rattle.variants_and_fragments.specs.Decode.{decode}

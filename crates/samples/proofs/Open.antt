@@ -1,4 +1,5 @@
--- Names for lists of definitions: `unfolding logs` opens all that the line under `logs` names. One list a section of document 01.
+-- Names for lists of definitions, by sections of document 01: a proof that says `unfolding logs` opens all that the
+-- line under `logs` names.
 -- Assumes nothing.
 use Rattle.steps.specs.Table.{knots}
 use Rattle.steps.specs.Knots.{T}
@@ -29,7 +30,6 @@ use Rattle.sweeps.specs.Sweeps.{putPair, sameHaps, sumTo, callTerm, likelihood,
 use Rattle.call_genotypes.specs.Held.{mixOf}
 use Rattle.call_genotypes.specs.Runs.{orderOf}
 use Rattle.call_genotypes.specs.SweepCaseOf.{sweepCaseOf}
-use Rattle.with_haplotypes.specs.Round.{case, sweepCase, start, orderOfSweep, result, returned}
 use Rattle.with_haplotypes.specs.Promise.{roundChecks}
 
 -- section 1
@@ -57,9 +57,9 @@ unfoldable pub phases : Unit {0}
 unfolding orderedFirst orderedSecond phasedTest phasedRule phased phasedFlags pairPlace startAllele startHaplotypes tabulateFrom
 phases = tt
 
--- section 6
+-- section 6, at a decoded case
 unfoldable pub rounds : Unit {0}
-unfolding layout priors phases case sweepCase start orderOfSweep result returned sweepCaseOf usableCalls only usable mixOf orderOf orderCount sumOver putPair sameHaps sumTo callTerm likelihood perCall readShare scoreWith score firstMax bestPair visit sweep run totalOf
+unfolding priors phases sweepCaseOf usableCalls only usable mixOf orderOf orderCount sumOver putPair sameHaps sumTo callTerm likelihood perCall readShare scoreWith score firstMax bestPair visit sweep run totalOf
 rounds = tt
 
 -- refusals 6 to 9

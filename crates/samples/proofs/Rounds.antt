@@ -19,7 +19,8 @@ module _ (orchard : Case) (phase order given left : List ℕ) (answer : RoundAns
   abbrev input : RoundInput
   input = roundOn orchard phase order
 
-  -- 1 order is checked
+  -- what is computed at the case: its start haplotypes, those that the run leaves, the answer, and that none of 6 to 10
+  -- is given, with one order and slices long enough
   pub record Computed : Type 0 where
     pub starts : startHaplotypes orchard phase ≡ given
     pub ends : resultAt input orchard .haps ≡ left

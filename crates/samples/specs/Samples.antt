@@ -1,5 +1,5 @@
--- 01, "Samples from the orchard": (a) to (k) over the definitions, as one record. `samples` of proofs/Samples.antt proves it.
--- Assumes nothing.
+-- 01, "Samples from the orchard": (a) to (k) over the definitions, as one record. `samples` of proofs/Samples.antt is
+-- its proof. Assumes nothing.
 use mathlib.Core.Path.{_≡_}
 use mathlib.Core.Bool.{true}
 use mathlib.Core.List.{List, [], _∷_, _++_, map}
@@ -59,7 +59,7 @@ reads a g = record { variants = variant ∷ []; fragments = replicate a (readOf 
 abbrev pub noVariants : Case
 noVariants = record { variants = []; fragments = []; cutoff = neg 2000 }
 
--- the sizes that an accepted head gives, each fragment having one call
+-- the sizes that the head of such a case gives: each fragment has one call
 abbrev pub sizes : Case → Sizes
 sizes orchard = record { n = length (orchard .variants); f = length (orchard .fragments); c = length (orchard .fragments); cut = 2000 }
 
@@ -85,6 +85,7 @@ pub record SampleRound (orchard : Case) (phase order given left : List ℕ) (ans
   -- the words and bases are accepted, and stand for the case
   pub accepted : caseOf (encodeWords orchard) (encodeBases orchard) ≡ done (sizes orchard)
   pub decoded : decode (encodeWords orchard) (encodeBases orchard) ≡ orchard
+  -- section 5's haplotypes, those that the run leaves, and what is returned
   pub starts : start (roundOn orchard phase order) ≡ given
   pub ends : result (roundOn orchard phase order) .haps ≡ left
   pub returns : returned (roundOn orchard phase order) ≡ answer
