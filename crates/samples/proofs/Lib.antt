@@ -1,0 +1,6 @@
+pub mod Open
+pub mod Laid
+pub mod AtCase
+pub mod Outcomes
+pub mod Rounds
+pub mod Samples
