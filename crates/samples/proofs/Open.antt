@@ -30,7 +30,7 @@ use Rattle.sweeps.specs.Sweeps.{putPair, sameHaps, sumTo, callTerm, likelihood,
 use Rattle.call_genotypes.specs.Held.{mixOf}
 use Rattle.call_genotypes.specs.Runs.{orderOf}
 use Rattle.call_genotypes.specs.SweepCaseOf.{sweepCaseOf}
-use Rattle.with_haplotypes.specs.Promise.{roundChecks}
+use Rattle.with_haplotypes.specs.Promise.{limitChecks, roundChecks}
 
 -- section 1
 unfoldable pub logs : Unit {0}
@@ -64,5 +64,5 @@ rounds = tt
 
 -- refusals 6 to 9
 unfoldable pub round-checks : Unit {0}
-unfolding priors roundChecks andThen unless setsOk phaseFaultAt ordersOutcome firstBadOrder orderCount orderAt permutes allBelow eachOnce times
+unfolding priors limitChecks roundChecks andThen unless setsOk phaseFaultAt ordersOutcome firstBadOrder orderCount orderAt permutes allBelow eachOnce times
 round-checks = tt

@@ -10,10 +10,10 @@ use Rattle.sweeps.specs.Sweeps.{RunResult}
 use Rattle.with_haplotypes.specs.declared.RoundAnswer.{RoundAnswer}
 use Rattle.with_haplotypes.specs.Round.{RoundInput, returned}
 use Rattle.with_haplotypes.specs.Promise.{roundChecks}
-use Rattle.samples.specs.Samples.{sizes, roundOn, setsOf, SampleRound}
+use Rattle.with_haplotypes.proofs.RoundAnswers.{outcome-done}
+use Rattle.samples.specs.Samples.{rates, sizes, roundOn, setsOf, SampleRound}
 use Rattle.samples.proofs.AtCase.{resultAt, returnedAt, start-at, result-at, returned-at}
 use Rattle.samples.proofs.Laid.{Laid}
-use Rattle.samples.proofs.Outcomes.{round-done}
 
 module _ (orchard : Case) (phase order given left : List ℕ) (answer : RoundAnswer) where
   abbrev input : RoundInput
@@ -25,7 +25,7 @@ module _ (orchard : Case) (phase order given left : List ℕ) (answer : RoundAns
     pub starts : startHaplotypes orchard phase ≡ given
     pub ends : resultAt input orchard .haps ≡ left
     pub returns : returnedAt input orchard ≡ answer
-    pub checked : roundChecks (sizes orchard) input (setsOf phase) 0 ≡ done 1
+    pub checked : roundChecks (sizes orchard .n) rates phase (setsOf phase) order 1000000 0 ≡ done 1
 
   pub sample-round : Laid orchard → Computed → SampleRound orchard phase order given left answer
   sample-round laid computed =
@@ -37,7 +37,7 @@ module _ (orchard : Case) (phase order given left : List ℕ) (answer : RoundAns
         ends = ap (λ (r : RunResult). r .haps) (result-at input orchard (laid .decoded)) ∙ computed .ends;
         returns = returns;
         outcome = λ slices room.
-            round-done input (sizes orchard) (laid .accepted) (setsOf phase) slices 1
-            (ap (roundChecks (sizes orchard) input (setsOf phase)) room ∙ computed .checked)
+            outcome-done input (setsOf phase) slices (sizes orchard) 1 (laid .accepted)
+            (ap (roundChecks (sizes orchard .n) rates phase (setsOf phase) order 1000000) room ∙ computed .checked)
             ∙ ap done returns;
       }
