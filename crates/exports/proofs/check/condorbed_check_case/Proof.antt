@@ -1,39 +1,42 @@
+-- `condorbed_check_case` meets its contract, by the operation's own promise.
+-- Assumes nothing.
+use mathlib.Core.Path.{sym, ap, _∙_}
 use borrow.Author.Needs.{needs}
+use Rattle.variants_and_fragments.specs.Check.{outcomeOf}
+use Rattle.exports.specs.Answers.{checkNumbers}
+use Rattle.exports.proofs.Numbers.{check-done, check-refused}
+use Rattle.exports.proofs.Promised.{check-case}
 use Rattle.exports.proofs.check.condorbed_check_case.Statement.{statement}
 use Rattle.exports.proofs.check.condorbed_check_case.Tie as tie
-use Rattle.exports.proofs.check.condorbed_check_case.Reads as reads
-use Rattle.exports.proofs.check.condorbed_check_case.Lts as lts
-use Rattle.variants_and_fragments.proofs.check_case.Reads as check-case-reads
-use Rattle.variants_and_fragments.proofs.number.Reads as number-reads
-use Rattle.variants_and_fragments.proofs.place.Reads as place-reads
 
--- src/check.rt:14:11
 check-case-requires : tie.Need-check-case-requires
 check-case-requires c κs = search needs
 
--- src/check.rt:15:27
 enum-known-s : tie.Need-enum-known-s
 enum-known-s c = search needs
 
--- src/check.rt:23:26
 enum-known-x : tie.Need-enum-known-x
 enum-known-x c = search needs
 
--- src/check.rt:24:21
 number-requires : tie.Need-number-requires
 number-requires c κs = search needs
 
--- src/check.rt:25:20
 place-requires : tie.Need-place-requires
 place-requires c κs = search needs
 
--- src/check.rt:10:1
 returns : tie.Need-returns
-returns c = ?
+unfolding outcomeOf checkNumbers
+returns c =
+    let s = c .before .s .given in
+    check-case (ap outcomeOf (sym (s .1)) ∙ c .before .before .before .check-case .ensures) (check-done (s .0 .0))
 
--- src/check.rt:10:1
 returns-2 : tie.Need-returns-2
-returns-2 c = ?
+unfolding outcomeOf checkNumbers
+returns-2 c =
+    let known = c .before .before .before in
+    let x = known .x .given in
+    rw (c .before .number .ensures, c .place .ensures)
+    (check-case (ap outcomeOf (sym (x .1)) ∙ known .before .before .check-case .ensures) (check-refused (x .0 .0)))
 
 pub condorbed-check-case-spec : {M : Type 1} → statement M
 condorbed-check-case-spec =

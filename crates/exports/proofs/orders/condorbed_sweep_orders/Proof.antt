@@ -1,47 +1,42 @@
+-- `condorbed_sweep_orders` meets its contract, by the operation's own promise.
+-- Assumes nothing.
 use borrow.Author.Needs.{needs}
+use Rattle.exports.proofs.Promised.{sweep-orders-done, sweep-orders-refused}
 use Rattle.exports.proofs.orders.condorbed_sweep_orders.Statement.{statement}
 use Rattle.exports.proofs.orders.condorbed_sweep_orders.Tie as tie
-use Rattle.exports.proofs.orders.condorbed_sweep_orders.Reads as reads
-use Rattle.exports.proofs.orders.condorbed_sweep_orders.Lts as lts
-use Rattle.exports.proofs.answers.done.Reads as done-reads
-use Rattle.exports.proofs.answers.refused.Reads as refused-reads
-use Rattle.shuffle.proofs.sweep_orders.Reads as sweep-orders-reads
 
--- src/orders.rt:19:11
+-- where the operation has answered, from the match on its answer
+abbrev called : tie.After-slice-known2 → tie.After-sweep-orders
+called c = c .before .before
+
 sweep-orders-requires : tie.Need-sweep-orders-requires
 sweep-orders-requires c κs = search needs
 
--- src/orders.rt:20:26
 enum-told : tie.Need-enum-told
 enum-told c = search needs
 
--- src/orders.rt:20:26
 done-requires : tie.Need-done-requires
 done-requires c κs = search needs
 
--- src/orders.rt:21:26
 enum-known-x : tie.Need-enum-known-x
 enum-known-x c = search needs
 
--- src/orders.rt:21:32
 refused-requires : tie.Need-refused-requires
 refused-requires c κs = search needs
 
--- src/orders.rt:10:1
 same-length : tie.Need-same-length
 same-length c = search needs
 
--- src/orders.rt:10:1
 returns : tie.Need-returns
-returns c = ?
+returns c = sweep-orders-done (called (c .before .before .before) .sweep-orders .ensures) (c .before .enum-told .given .1) (c .done .ensures)
 
--- src/orders.rt:10:1
 same-length-2 : tie.Need-same-length-2
 same-length-2 c = search needs
 
--- src/orders.rt:10:1
 returns-2 : tie.Need-returns-2
-returns-2 c = ?
+returns-2 c =
+    let x = c .before .before .x .given in
+    sweep-orders-refused (called (c .before .before .before .before) .sweep-orders .ensures) (x .0 .0) (x .1) (c .refused .ensures)
 
 pub condorbed-sweep-orders-spec : {M : Type 1} → statement M
 condorbed-sweep-orders-spec =
