@@ -47,8 +47,10 @@ pub fn done() -> Answer
 pub fn refused(x: Refusal) -> Answer
     ensures { λ a. ⌜ a ≡ answerOf (refusals.number x) (refusals.place x) ⌝ }
 {
+    let n = number(x);
+    let p = place(x);
     Answer {
-        number: number(x),
-        place: place(x),
+        number: n,
+        place: p,
     }
 }
