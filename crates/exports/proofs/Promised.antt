@@ -1,4 +1,4 @@
--- From an operation's own promise to that of the exported function, for numbers that are those of the operation's answer.
+-- From an operation's own promise to that of the exported function, for numbers that are those of its answer.
 -- Assumes nothing.
 use mathlib.Core.Path.{_≡_, ap, _∙_, subst}
 use mathlib.Core.Bool.{Bool}

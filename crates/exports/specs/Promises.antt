@@ -1,5 +1,5 @@
--- What each exported function promises: its numbers are those of the operation's outcome, and each lent slice afterwards is as the operation
--- promises.
+-- What each exported function promises: its numbers are those of the operation's outcome, and each lent slice
+-- afterwards is as the operation promises it.
 -- Assumes nothing.
 use mathlib.Core.Path.{_≡_}
 use mathlib.Core.Bool.{Bool}
