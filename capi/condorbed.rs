@@ -1,0 +1,236 @@
+//! A safe wrapper of libexports.a, which `rt staticlib exports` writes.
+//!
+//! The operations require nothing of their slices, and Rust's references have true lengths and do not overlap where
+//! they are `&mut`: so every call is safe. A call answers its result, or `Refused`, which leaves every slice as it was.
+//! It uses up to 1 MiB of stack. `condorbed.h` says how a case is laid out, and what is written.
+
+use std::fmt;
+
+/// Why an operation turned its input down: a number from 1 to 12, and the place of the fault.
+#[derive(Clone, Copy, Debug, PartialEq, Eq)]
+pub struct Refused {
+    pub number: usize,
+    pub place: usize,
+}
+
+impl fmt::Display for Refused {
+    fn fmt(&self, f: &mut fmt::Formatter) -> fmt::Result {
+        write!(f, "refused {} {}", self.number, self.place)
+    }
+}
+
+impl std::error::Error for Refused {}
+
+/// N, F, C, and how far the cutoff lies below 0.
+#[derive(Clone, Copy, Debug, PartialEq, Eq)]
+pub struct Sizes {
+    pub n: usize,
+    pub f: usize,
+    pub c: usize,
+    pub cut: usize,
+}
+
+/// How many bytes and lines were written.
+#[derive(Clone, Copy, Debug, PartialEq, Eq)]
+pub struct Amount {
+    pub bytes: usize,
+    pub lines: usize,
+}
+
+/// Each in -262144..=-1, in steps; the first four added up as probabilities are below certainty.
+#[repr(C)]
+#[derive(Clone, Copy, Debug, PartialEq, Eq)]
+pub struct Rates {
+    pub hom_snv: i64,
+    pub het_snv: i64,
+    pub hom_indel: i64,
+    pub het_indel: i64,
+    pub ts: i64,
+    pub tv: i64,
+}
+
+/// Variants are too dense where more than `n` others of quality `gq` or more stand within `len` bases.
+#[repr(C)]
+#[derive(Clone, Copy, Debug, PartialEq)]
+pub struct DensityParameters {
+    pub n: u32,
+    pub len: u32,
+    pub gq: f64,
+}
+
+/// The check of a case, which every other operation makes as well: numbers 1 to 5.
+pub fn check_case(words: &[i32], bases: &[u8]) -> Result<Sizes, Refused> {
+    let a = unsafe { c::condorbed_check_case(words.as_ptr(), words.len(), bases.as_ptr(), bases.len()) };
+    result(a.number, a.place, Sizes { n: a.n, f: a.f, c: a.c, cut: a.cut })
+}
+
+/// Writes N filters.
+pub fn var_filter(
+    words: &[i32],
+    bases: &[u8],
+    quals: &[f64],
+    density: DensityParameters,
+    max_depth: u32,
+    filters: &mut [u8],
+) -> Result<(), Refused> {
+    let a = unsafe {
+        c::condorbed_var_filter(
+            words.as_ptr(), words.len(), bases.as_ptr(), bases.len(), quals.as_ptr(), quals.len(),
+            density, max_depth, filters.as_mut_ptr(), filters.len(),
+        )
+    };
+    result(a.number, a.place, ())
+}
+
+/// Writes 9 priors a variant.
+pub fn genotype_priors(words: &[i32], bases: &[u8], rates: Rates, priors: &mut [i64]) -> Result<(), Refused> {
+    let a = unsafe {
+        c::condorbed_genotype_priors(
+            words.as_ptr(), words.len(), bases.as_ptr(), bases.len(),
+            rates, priors.as_mut_ptr(), priors.len(),
+        )
+    };
+    result(a.number, a.place, ())
+}
+
+/// Writes 13 values a variant, N quals and N gqs.
+pub fn call_genotypes_no_haplotypes(
+    words: &[i32],
+    bases: &[u8],
+    rates: Rates,
+    variants: &mut [i32],
+    quals: &mut [f64],
+    gqs: &mut [f64],
+) -> Result<(), Refused> {
+    let a = unsafe {
+        c::condorbed_call_genotypes_no_haplotypes(
+            words.as_ptr(), words.len(), bases.as_ptr(), bases.len(),
+            rates, variants.as_mut_ptr(), variants.len(), quals.as_mut_ptr(), quals.len(), gqs.as_mut_ptr(), gqs.len(),
+        )
+    };
+    result(a.number, a.place, ())
+}
+
+/// Writes 2 haplotype alleles a variant, N phased flags and N set names.
+pub fn given_phase(
+    words: &[i32],
+    bases: &[u8],
+    phase: &[u8],
+    sets: &[i32],
+    haplotypes: &mut [u8],
+    phased: &mut [u8],
+    names: &mut [u32],
+) -> Result<(), Refused> {
+    let a = unsafe {
+        c::condorbed_given_phase(
+            words.as_ptr(), words.len(), bases.as_ptr(), bases.len(),
+            phase.as_ptr(), phase.len(), sets.as_ptr(), sets.len(), haplotypes.as_mut_ptr(), haplotypes.len(),
+            phased.as_mut_ptr(), phased.len(), names.as_mut_ptr(), names.len(),
+        )
+    };
+    result(a.number, a.place, ())
+}
+
+/// Writes the fragment lines, each ended by a zero byte.
+pub fn generate_flist_buffer(
+    words: &[i32],
+    bases: &[u8],
+    single_reads: bool,
+    buffer: &mut [u8],
+) -> Result<Amount, Refused> {
+    let a = unsafe {
+        c::condorbed_generate_flist_buffer(
+            words.as_ptr(), words.len(), bases.as_ptr(), bases.len(),
+            single_reads, buffer.as_mut_ptr(), buffer.len(),
+        )
+    };
+    result(a.number, a.place, Amount { bytes: a.bytes, lines: a.lines })
+}
+
+/// Fills the slice with orders of the variants.
+pub fn sweep_orders(words: &[i32], bases: &[u8], seed: u64, orders: &mut [u32]) -> Result<(), Refused> {
+    let a = unsafe {
+        c::condorbed_sweep_orders(
+            words.as_ptr(), words.len(), bases.as_ptr(), bases.len(), seed, orders.as_mut_ptr(), orders.len(),
+        )
+    };
+    result(a.number, a.place, ())
+}
+
+// Number 0 is done.
+fn result<T>(number: usize, place: usize, values: T) -> Result<T, Refused> {
+    if number == 0 {
+        return Ok(values);
+    }
+    Err(Refused { number, place })
+}
+
+// What condorbed.h declares.
+mod c {
+    use super::{DensityParameters, Rates};
+
+    #[repr(C)]
+    pub struct Answer {
+        pub number: usize,
+        pub place: usize,
+    }
+
+    #[repr(C)]
+    pub struct CheckAnswer {
+        pub number: usize,
+        pub place: usize,
+        pub n: usize,
+        pub f: usize,
+        pub c: usize,
+        pub cut: usize,
+    }
+
+    #[repr(C)]
+    pub struct FlistAnswer {
+        pub number: usize,
+        pub place: usize,
+        pub bytes: usize,
+        pub lines: usize,
+    }
+
+    #[link(name = "exports", kind = "static")]
+    extern "C" {
+        pub fn condorbed_check_case(
+            words: *const i32, words_len: usize, bases: *const u8, bases_len: usize,
+        ) -> CheckAnswer;
+
+        pub fn condorbed_var_filter(
+            words: *const i32, words_len: usize, bases: *const u8, bases_len: usize,
+            quals: *const f64, quals_len: usize,
+            density: DensityParameters, max_depth: u32, filters: *mut u8, filters_len: usize,
+        ) -> Answer;
+
+        pub fn condorbed_genotype_priors(
+            words: *const i32, words_len: usize, bases: *const u8, bases_len: usize,
+            rates: Rates, priors: *mut i64, priors_len: usize,
+        ) -> Answer;
+
+        pub fn condorbed_call_genotypes_no_haplotypes(
+            words: *const i32, words_len: usize, bases: *const u8, bases_len: usize,
+            rates: Rates, variants: *mut i32, variants_len: usize,
+            quals: *mut f64, quals_len: usize, gqs: *mut f64, gqs_len: usize,
+        ) -> Answer;
+
+        pub fn condorbed_given_phase(
+            words: *const i32, words_len: usize, bases: *const u8, bases_len: usize,
+            phase: *const u8, phase_len: usize, sets: *const i32, sets_len: usize,
+            haplotypes: *mut u8, haplotypes_len: usize, phased: *mut u8, phased_len: usize,
+            names: *mut u32, names_len: usize,
+        ) -> Answer;
+
+        pub fn condorbed_generate_flist_buffer(
+            words: *const i32, words_len: usize, bases: *const u8, bases_len: usize,
+            single_reads: bool, buffer: *mut u8, buffer_len: usize,
+        ) -> FlistAnswer;
+
+        pub fn condorbed_sweep_orders(
+            words: *const i32, words_len: usize, bases: *const u8, bases_len: usize,
+            seed: u64, orders: *mut u32, orders_len: usize,
+        ) -> Answer;
+    }
+}

@@ -1,0 +1,13 @@
+// The static library: each operation as a C function over lent slices, whose answer is a struct of numbers. It requires
+// nothing of its caller but what no contract can say: true lengths, and no overlap (capi/condorbed.h).
+// One file an operation. A new one joins with its file here, its promise in specs/Promises.antt, its law in
+// proofs/Promised.antt, and its lines in each file of capi/.
+pub mod answers;
+pub mod check;
+pub mod filter;
+pub mod flist;
+pub mod inputs;
+pub mod no_haplotypes;
+pub mod orders;
+pub mod phase;
+pub mod priors;

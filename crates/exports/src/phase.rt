@@ -1,0 +1,26 @@
+// The given phase of a case.
+ghost use Rattle.exports.specs.Promises.{GivenPhase};
+use crate::answers::Answer;
+use crate::answers::done;
+use crate::answers::refused;
+use haplotype_assembly::Phased;
+use haplotype_assembly::given_phase;
+
+// `given_phase`.
+#[no_mangle]
+pub extern "C" fn condorbed_given_phase(
+    words: &[i32],
+    bases: &[u8],
+    phase: &[u8],
+    sets: &[i32],
+    haplotypes: &mut [u8],
+    phased: &mut [u8],
+    names: &mut [u32],
+) -> Answer
+    ensures { λ a. ⌜ GivenPhase (now (words .entry)) (now (bases .entry)) (now (phase .entry)) (now (sets .entry)) (now (haplotypes .entry)) (now (phased .entry)) (now (names .entry)) a (now (haplotypes .exit)) (now (phased .exit)) (now (names .exit)) ⌝ }
+{
+    match given_phase(words, bases, phase, sets, haplotypes, phased, names) {
+        Phased::Done => done(),
+        Phased::Refused(x) => refused(x),
+    }
+}
