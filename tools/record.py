@@ -1,105 +1,60 @@
 #!/usr/bin/env python3
 """Writes the recorded requests of the program and the answers that document 01 gives to them.
 
-Run at the repository's root: python3 tools/record.py
-It writes crates/condorbed/stdin and crates/condorbed/stdout. The answers come from tools/model.py, which is
-written from the document, so that the gate's comparison holds the proved program against a second reading.
+Run at the repository's root, after oracle/build: python3 tools/record.py
+It writes crates/condorbed/stdin and crates/condorbed/stdout. Accepted requests of the operations that longshot has are
+answered by the oracle, longshot's own code; refusals, `check` and `orders` by tools/model.py, which is written from the
+document. The model answers the others too, and a difference between the two ends this script without a list.
 A change of the layout is a change of the strides in tools/model.py and a new run of this script.
 """
 import random
+import sys
 
-import model
-from model import Call, Case, Fragment, Layout, Refused, Variant, encode, pattern
+from cases import random_case, random_numbering
+from model import Call, Case, Fragment, Layout, Variant, encode
+from protocol import OF_THE_SOURCE, Request, ask
 
-FILL = {"u8": 170, "i32": 77, "u32": 77, "i64": 77, "f64": pattern(77.0)}
-
-
-def slice_text(values):
-    return " ".join(map(str, [len(values)] + list(values)))
-
-
-def answer(refusal, fields, outputs):
-    first = "refused %d %d" % (refusal.number, refusal.place) if refusal else " ".join(["done"] + fields)
-    return "\n".join([first] + [" ".join(map(str, o)) for o in outputs]) + "\n"
+HEADER = """# Written by tools/record.py: %d requests and one that cannot be read. The answers in the file stdout are
+# longshot's own for %d of them (oracle/build compiles its files with the steps of document 01), those of tools/model.py
+# for refusals, check and orders.
+"""
 
 
 class Record:
-    """The requests and the answers, in order."""
+    """The requests with their notes, in order."""
 
     def __init__(self):
-        self.requests, self.answers = [], []
+        self.entries = []
 
     def note(self, text):
-        self.requests.append("# %s\n" % text)
+        self.entries.append("# %s\n" % text)
 
-    def add(self, request, reply):
-        self.requests.append(request + "\n")
-        self.answers.append(reply)
+    def add(self, word, words, bases, parts=(), rooms=()):
+        self.entries.append(Request(word, words, bases, parts, rooms))
 
     def check(self, words, bases):
-        try:
-            model.check(words, bases)
-            refusal = None
-        except Refused as r:
-            refusal = r
-        self.add("check\n%s\n%s" % (slice_text(words), slice_text(bases)), answer(refusal, [], []))
+        self.add("check", words, bases)
 
     def filter(self, words, bases, quals, density_qual, dist, count, max_depth, room):
-        before = [FILL["u8"]] * room
-        try:
-            after, refusal = model.var_filter(words, bases, quals, density_qual, dist, count, max_depth, before), None
-        except Refused as r:
-            after, refusal = before, r
-        request = "filter\n%s\n%s\n%s\n%d %d %d %d\n%d" % (
-            slice_text(words), slice_text(bases), slice_text([pattern(q) for q in quals]),
-            pattern(density_qual), dist, count, max_depth, room)
-        self.add(request, answer(refusal, [], [after]))
-
-
-    def operation(self, word, parts, call, outputs):
-        """A request whose answer is `call(*befores)`: the fields, and the output slices afterwards. `outputs` gives
-        each output slice's element type and length."""
-        befores = [[FILL[kind]] * room for kind, room in outputs]
-        try:
-            (fields, afters), refusal = call(*befores), None
-        except Refused as r:
-            fields, afters, refusal = [], befores, r
-        text = "\n".join([word] + parts + [str(room) for _, room in outputs])
-        self.add(text, answer(refusal, [str(x) for x in fields], afters))
+        self.add("filter", words, bases, (quals, density_qual, dist, count, max_depth), [room])
 
     def priors(self, words, bases, rates, room):
-        self.operation("priors", [slice_text(words), slice_text(bases), rate_text(rates)],
-                       lambda out: ([], [model.genotype_priors(words, bases, rates, out)]), [("i64", room)])
+        self.add("priors", words, bases, [rates], [room])
 
     def nohap(self, words, bases, rates, rooms):
-        self.operation("nohap", [slice_text(words), slice_text(bases), rate_text(rates)],
-                       lambda *out: ([], model.call_genotypes_no_haplotypes(words, bases, rates, *out)),
-                       list(zip(("i32", "f64", "f64"), rooms)))
+        self.add("nohap", words, bases, [rates], rooms)
 
     def phase(self, words, bases, phase, sets, rooms):
-        self.operation("phase", [slice_text(words), slice_text(bases), slice_text(phase), slice_text(sets)],
-                       lambda *out: ([], model.given_phase(words, bases, phase, sets, *out)),
-                       list(zip(("u8", "u8", "u32"), rooms)))
+        self.add("phase", words, bases, (phase, sets), rooms)
 
     def run(self, words, bases, rates, phase, sets, orders, limit, rooms):
-        self.operation("run", [slice_text(words), slice_text(bases), rate_text(rates), slice_text(phase), slice_text(sets),
-                               slice_text(orders), str(limit)],
-                       lambda *out: model.call_genotypes_with_haplotypes(words, bases, rates, phase, sets, orders, limit, *out),
-                       list(zip(("u8", "i64", "i64", "f64", "f64"), rooms)))
+        self.add("run", words, bases, (rates, phase, sets, orders, limit), rooms)
 
     def flist(self, words, bases, single_reads, room):
-        def call(out):
-            size, lines, after = model.generate_flist_buffer(words, bases, bool(single_reads), out)
-            return [size, lines], [after]
-        self.operation("flist", [slice_text(words), slice_text(bases), str(single_reads)], call, [("u8", room)])
+        self.add("flist", words, bases, [single_reads], [room])
 
     def orders(self, words, bases, seed, room):
-        self.operation("orders", [slice_text(words), slice_text(bases), str(seed)],
-                       lambda out: ([], [model.sweep_orders(words, bases, seed, out)]), [("u32", room)])
-
-
-def rate_text(rates):
-    return " ".join(map(str, rates))
+        self.add("orders", words, bases, [seed], [room])
 
 
 RATES = [-70000] * 4 + [-4096, -8192]
@@ -256,34 +211,11 @@ def filters(rec):
     rec.filter(words[:-1], bases, [], nan, 0, 0, 0, 2)
 
 
-def random_case(rng, most=6):
-    n = rng.randrange(most)
-    pos0, variants = 0, []
-    for _ in range(n):
-        pos0 += rng.choice([0, 1, 1, 2, 7])
-        k = rng.randint(1, 3)
-        alleles = ["".join(rng.choice("ACGT") for _ in range(rng.choice([1, 1, 1, 2, 3]))) for _ in range(k)]
-        variants.append(Variant(pos0, rng.choice([0, 3, 9]), (rng.randrange(k), rng.randrange(k)), alleles))
-    fragments = []
-    for _ in range(rng.randrange(most)):
-        chosen = sorted(rng.sample(range(n), rng.randint(0, n)))
-        fragments.append(Fragment(rng.randrange(2), [
-            Call(v, rng.randrange(len(variants[v].alleles)), -rng.choice([0, 1, 1999, 2000, 2001, 262144]), -rng.choice([0, 5, 262144]))
-            for v in chosen]))
-    return Case(variants, fragments, -rng.choice([0, 2000, 262144]))
-
-
 def damaged(rec, rng, count):
     rec.note("random small cases, whole and damaged")
     for i in range(count):
         case = random_case(rng)
-        total = sum(len(f.calls) for f in case.fragments)
-        places = sorted(range(1, total + 1), key=lambda _: rng.random())
-        by_fragment, start = [], 0
-        for f in case.fragments:
-            by_fragment += sorted(places[start:start + len(f.calls)])
-            start += len(f.calls)
-        words, bases = encode(case, by_fragment)
+        words, bases = encode(case, random_numbering(case, rng))
         for _ in range(i % 3):
             if words and rng.random() < 0.9:
                 at = rng.randrange(len(words))
@@ -446,7 +378,8 @@ def runs(rec, rng):
 LATER = [priors, orders, phase, flist, nohap]
 
 
-def main():
+def recorded():
+    """The whole list."""
     rec, rng = Record(), random.Random(1)
     for part in (accepted, heads, variants, alleles, calls, chains, order_of_numbers, filters):
         part(rec)
@@ -454,14 +387,32 @@ def main():
     random_filters(rec, rng, 60)
     for part in LATER:
         part(rec, rng)
-    rec.note("an integer that does not fit its type ends the program")
-    rec.add("check 1 2147483648 0", "unreadable\n")
-    rec.requests.append("check 4 0 0 0 0 0\n")
+    return rec.entries
+
+
+def answers(requests):
+    """Document 01's answers, by the oracle where the source has the operation and the request is accepted, else by the
+    model; both must agree."""
+    by_model = [request.answer() for request in requests]
+    asked = [i for i, r in enumerate(requests) if r.word in OF_THE_SOURCE and by_model[i].startswith("done")]
+    by_oracle = ask(["target/oracle/oracle"], [requests[i] for i in asked])
+    for i, answer in zip(asked, by_oracle):
+        if answer != by_model[i]:
+            sys.exit("the oracle and the model differ at:\n" + requests[i].text())
+    return by_model, len(asked)
+
+
+def main():
+    entries = recorded()
+    requests = [e for e in entries if isinstance(e, Request)]
+    replies, asked = answers(requests)
     with open("crates/condorbed/stdin", "w") as out:
-        out.write("# Written by tools/record.py.\n" + "".join(rec.requests))
+        out.write(HEADER % (len(requests), asked))
+        out.writelines(e.text() if isinstance(e, Request) else e for e in entries)
+        out.write("# an integer that does not fit its type ends the program\ncheck 1 2147483648 0\ncheck 4 0 0 0 0 0\n")
     with open("crates/condorbed/stdout", "w") as out:
-        out.write("".join(rec.answers))
-    print("%d requests" % len(rec.answers))
+        out.write("".join(replies) + "unreadable\n")
+    print("%d requests, %d answered by the oracle" % (len(requests), asked))
 
 
 if __name__ == "__main__":
