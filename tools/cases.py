@@ -10,6 +10,8 @@ from protocol import Request
 RATES = [-70000] * 4 + [-4096, -8192]
 MATCH, MISS = -1700, -5796
 LOWEST = -262144
+# The bytes that the fragment lines of a case can need.
+MOST_LINES = 172032
 
 
 def random_case(rng, most=6):
@@ -168,7 +170,7 @@ class Trial:
         n, f = len(self.case.variants), len(self.case.fragments)
         if word == "orders":
             return [n * len(self.orders)]
-        lines = sum(14 + 8 * len(x.calls) for x in self.case.fragments)
+        lines = min(sum(14 + 8 * len(x.calls) for x in self.case.fragments), MOST_LINES)
         needs = {"check": [], "priors": [9 * n], "nohap": [13 * n, n, n], "phase": [2 * n, n, n],
                  "run": [2 * n, 2 * f, 9 * n, n, n], "flist": [lines], "filter": [n]}[word]
         return [need + self.extra for need in needs]
