@@ -8,7 +8,7 @@ BAD_WORDS = [0, 1, -1, 2, 3, 4, 65, 1025, -262145, 2147483647, -2147483648]
 
 def set_word(rng, request, at):
     """Another value in this word: one next to it, or one at the end of some range."""
-    if at < len(request.words):
+    if 0 <= at < len(request.words):
         before = request.words[at]
         request.words[at] = rng.choice([x for x in (before + 1, before - 1) if abs(x) < 2**31] + BAD_WORDS)
 
@@ -46,7 +46,7 @@ def link(rng, request):
         return
     places = [at.call(rng.randint(1, at.c)) + CALL - 1, at.fragment(rng.randrange(at.f))]
     place = rng.choice(places)
-    if place < len(request.words):
+    if 0 <= place < len(request.words):
         request.words[place] = rng.randint(0, at.c + 1)
 
 
