@@ -61,7 +61,8 @@ def random_alleles(rng, k):
 
 def random_variant(rng, pos0, k=None):
     k = k or rng.choice([1, 2, 2, 2, 3])
-    return Variant(pos0, rng.choice([0, 3, 9, 31, 2147483647]), (rng.randrange(k), rng.randrange(k)), random_alleles(rng, k))
+    genotype = (rng.randrange(k), rng.randrange(k))
+    return Variant(pos0, rng.choice([0, 3, 9, 31, 2147483647]), genotype, random_alleles(rng, k))
 
 
 def random_positions(rng, n):
@@ -107,9 +108,9 @@ def mirror(read):
     return Fragment(read.strand, [Call(c.variant, (1, 0, 2)[c.allele], c.qual, c.one_minus_qual) for c in read.calls])
 
 
-def tree(rng, n, f, ties=False, k=None):
-    """n variants and f reads; for ties every variant has two alleles or more, and half of the reads mirror the others."""
-    variants = [random_variant(rng, p, k or (rng.choice([2, 2, 3]) if ties else None)) for p in random_positions(rng, n)]
+def tree(rng, n, f, ties=False):
+    """n variants and f reads; for ties every variant has two alleles or more, and half of the reads mirror the rest."""
+    variants = [random_variant(rng, p, rng.choice([2, 2, 3]) if ties else None) for p in random_positions(rng, n)]
     cutoff = rng.choice([0, -1, -2000, -2000, -2000, LOWEST, -rng.randint(0, 262144)])
     quality = random_qualities(rng, cutoff)
     reads = [random_read(rng, variants, quality, random_places(rng, n)) for _ in range(f // 2 if ties else f)]
@@ -216,9 +217,29 @@ def deep(rng):
     return Trial(rng, Case([variant], reads, -2000))
 
 
+def tangled(rng):
+    """Heterozygous single bases, long reads that disagree and common variants: several sweeps, by several orders."""
+    n = rng.randint(4, 12)
+    variants = [random_variant(rng, 10 * v) for v in range(n)]
+    for variant in variants:
+        if rng.random() < 0.9:
+            variant.alleles, variant.genotype = rng.sample("ACGT", rng.choice([2, 2, 3])), rng.choice([(0, 1), (1, 0)])
+    qualities = rng.choice([[(MISS, MATCH)], [(-9000, -40), (MISS, MATCH)], [(-20000, -10), (-9000, -300), (-6000, 0)]])
+    places = [sorted(rng.sample(range(n), min(n, rng.choice([2, 3, 5, 8])))) for _ in range(rng.randint(n, 3 * n))]
+    reads = [random_read(rng, variants, lambda: rng.choice(qualities), p) for p in places]
+    trial = Trial(rng, Case(variants, reads, -2000), [rng.choice([48, 49, 48, 49, 48, 49, 45]) for _ in range(n)])
+    common = [[-8193] * 4 + [-1, -1], [-12000, -8500, -40000, -40000, -1, -1], [-20000] * 4 + [-1000, -3000]]
+    trial.rates = rng.choice(common)
+    trial.orders = [rng.sample(range(n), n) for _ in range(rng.choice([1, 2, 3]))]
+    trial.limit = rng.choice([1, 2, 3, 4, 1000000, 1000000])
+    return trial
+
+
 def random_trial(rng, large):
     """A trial of any size; without `large` a small one."""
     kind = rng.random()
+    if rng.random() < 0.15:
+        return tangled(rng)
     if kind < 0.3:
         return Trial(rng, tree(rng, rng.randint(1, 6), 2 * rng.randint(0, 5), ties=True))
     if large and kind < 0.3005:

@@ -10,7 +10,7 @@ A change of the layout is a change of the strides in tools/model.py and a new ru
 import random
 import sys
 
-from cases import random_case, random_numbering
+from cases import RATES, random_case, random_numbering, tangled
 from model import Call, Case, Fragment, Layout, Variant, encode
 from protocol import OF_THE_SOURCE, Request, ask
 
@@ -57,9 +57,6 @@ class Record:
         self.add("orders", words, bases, [seed], [room])
 
 
-RATES = [-70000] * 4 + [-4096, -8192]
-
-
 def sample():
     """Four variants (a single base, three alleles, an indel, one allele) and five fragments."""
     variants = [
@@ -99,11 +96,12 @@ def heads(rec):
 
 
 def variants(rec):
-    rec.note("number 2: each field of a variant record out of its range; a position that falls has the later one's place")
+    rec.note("number 2: each field of a variant record out of its range; the later one's place where a position falls")
     words, bases = encode(sample())
     at = Layout(*words[:3])
-    faults = [(0, 0, -1), (2, 0, 9), (3, 0, 24), (1, 1, -1), (0, 2, -1), (0, 2, 2), (1, 3, 3), (3, 3, 1), (0, 4, 0), (1, 4, 4),
-              (2, 4, -1), (0, 5, 0), (1, 7, 65), (2, 7, 1), (3, 6, -1), (0, 7, 2147483647), (1, 0, -2147483648)]
+    faults = [(0, 0, -1), (2, 0, 9), (3, 0, 24), (1, 1, -1), (0, 2, -1), (0, 2, 2), (1, 3, 3), (3, 3, 1), (0, 4, 0),
+              (1, 4, 4), (2, 4, -1), (0, 5, 0), (1, 7, 65), (2, 7, 1), (3, 6, -1), (0, 7, 2147483647),
+              (1, 0, -2147483648)]
     for v, field, value in faults:
         rec.check(with_word(words, at.variant(v) + field, value), bases)
     two = with_word(with_word(words, at.variant(3) + 1, -1), at.variant(1) + 3, 9)
@@ -126,7 +124,8 @@ def calls(rec):
     rec.note("number 4: the record's number, from 1")
     words, bases = encode(sample())
     at = Layout(*words[:3])
-    faults = [(1, 0, -1), (8, 0, 4), (1, 1, 2), (2, 1, 3), (3, 1, -1), (4, 2, -262145), (5, 2, 1), (6, 3, -262145), (8, 3, 1)]
+    faults = [(1, 0, -1), (8, 0, 4), (1, 1, 2), (2, 1, 3), (3, 1, -1), (4, 2, -262145), (5, 2, 1), (6, 3, -262145),
+              (8, 3, 1)]
     for r, field, value in faults:
         rec.check(with_word(words, at.call(r) + field, value), bases)
     rec.check([0, 0, 1, 0, 0, 0, 0, 0, 0], [])
@@ -167,7 +166,8 @@ def accepted(rec):
     words, bases = encode(sample())
     rec.check(words, bases)
     rec.check(*encode(sample(), [2, 5, 8, 1, 3, 4, 6, 7]))
-    wide = Case([Variant(0, 0, (0, 0), ["A" * 64, "C" * 64, "G" * 64]), Variant(2147483647, 2147483647, (2, 2), ["A", "A", "A"])],
+    wide = Case([Variant(0, 0, (0, 0), ["A" * 64, "C" * 64, "G" * 64]),
+                 Variant(2147483647, 2147483647, (2, 2), ["A", "A", "A"])],
                 [Fragment(1, [Call(0, 2, -262144, -262144), Call(1, 2, 0, 0)])], -262144)
     rec.check(*encode(wide))
 
@@ -231,7 +231,8 @@ def random_filters(rec, rng, count):
         case = random_case(rng, 14)
         n = len(case.variants)
         quals = [rng.choice([1.0, 19.5, 20.0, 20.5, 500.0]) for _ in range(n)]
-        rec.filter(*encode(case), quals, 20.0, rng.randrange(12), rng.randrange(4), rng.choice([0, 2, 3, 8]), n + rng.randrange(2))
+        rec.filter(*encode(case), quals, 20.0, rng.randrange(12), rng.randrange(4), rng.choice([0, 2, 3, 8]),
+                   n + rng.randrange(2))
 
 
 def alone(alleles, genotype=(0, 0), reads=(), cutoff=-2000):
@@ -241,15 +242,16 @@ def alone(alleles, genotype=(0, 0), reads=(), cutoff=-2000):
 
 def priors(rec, rng):
     rec.note("priors: sample (g); AC/AG and AC/CA; A/A; one allele of two bases; indels; then refusals 6 and 10")
-    for alleles in (["A", "G"], ["AC", "AG"], ["AC", "CA"], ["A", "A"], ["AC"], ["C", "CA", "T"], ["GTT", "G", "GTTT"], ["ACGT", "ACGA", "ACCT"],
-                    ["A", "C", "T"], ["G", "A", "GA"], ["CT", "C", "CG"], ["TT", "TA", "AT"]):
+    for alleles in (["A", "G"], ["AC", "AG"], ["AC", "CA"], ["A", "A"], ["AC"], ["C", "CA", "T"], ["GTT", "G", "GTTT"],
+                    ["ACGT", "ACGA", "ACCT"], ["A", "C", "T"], ["G", "A", "GA"], ["CT", "C", "CG"], ["TT", "TA", "AT"]):
         rec.priors(*encode(alone(alleles)), RATES, 9)
     words, bases = encode(sample())
     rec.priors(words, bases, [-90000, -60000, -120001, -70001, -1000, -7777], 40)
     for i in range(6):
         for bad in (0, -262145, 5):
             rec.priors(words, bases, RATES[:i] + [bad] + RATES[i + 1:], 36)
-    for first in ([-8192] * 4, [-8193] * 4, [-1] * 4, [-4096, -4097, -262144, -262144], [-4096, -4096, -262144, -262144]):
+    lowest = -262144
+    for first in ([-8192] * 4, [-8193] * 4, [-1] * 4, [-4096, -4097, lowest, lowest], [-4096, -4096, lowest, lowest]):
         rec.priors(words, bases, first + [-1, -262144], 36)
     rec.priors(words, bases, RATES, 35)
     rec.priors(words, bases, [0] * 6, 0)
@@ -257,7 +259,8 @@ def priors(rec, rng):
     rec.priors(words[:-1], bases, [0] * 6, 0)
     for _ in range(25):
         case = random_case(rng)
-        rec.priors(*encode(case), [-rng.randrange(20000, 262145) for _ in range(4)] + [-rng.randrange(1, 262145) for _ in range(2)], 9 * len(case.variants))
+        rates = [-rng.randrange(20000, 262145) for _ in range(4)] + [-rng.randrange(1, 262145) for _ in range(2)]
+        rec.priors(*encode(case), rates, 9 * len(case.variants))
 
 
 def nohap(rec, rng):
@@ -265,8 +268,10 @@ def nohap(rec, rng):
     match, miss = -1700, -5796
     rec.nohap(*encode(alone(["A"])), RATES, (13, 1, 1))
     rec.nohap(*encode(alone(["A", "G"], (0, 1), [(1, miss, match, 0)])), RATES, (13, 1, 1))
-    rec.nohap(*encode(alone(["A", "G"], (0, 1), [(1, miss, match, s % 2) for s in range(30)] + [(0, miss, match, 1)] * 30)), RATES, (14, 2, 3))
-    rec.nohap(*encode(alone(["A", "G"], (0, 0), [(1, -2000, match, 0), (1, -2001, match, 1), (0, 0, -9, 0)])), RATES, (13, 1, 1))
+    both = [(1, miss, match, s % 2) for s in range(30)] + [(0, miss, match, 1)] * 30
+    rec.nohap(*encode(alone(["A", "G"], (0, 1), both)), RATES, (14, 2, 3))
+    edge = [(1, -2000, match, 0), (1, -2001, match, 1), (0, 0, -9, 0)]
+    rec.nohap(*encode(alone(["A", "G"], (0, 0), edge)), RATES, (13, 1, 1))
     rec.nohap(*encode(alone(["A", "A", "A"], (0, 0), [(2, -262144, 0, 0)] * 9)), RATES, (13, 1, 1))
     words, bases = encode(sample())
     rec.nohap(words, bases, RATES, (52, 4, 4))
@@ -277,7 +282,8 @@ def nohap(rec, rng):
     for _ in range(25):
         case = random_case(rng)
         n = len(case.variants)
-        rec.nohap(*encode(case), [-rng.randrange(20000, 262145) for _ in range(4)] + [-rng.randrange(1, 30000) for _ in range(2)], (13 * n, n, n))
+        rates = [-rng.randrange(20000, 262145) for _ in range(4)] + [-rng.randrange(1, 30000) for _ in range(2)]
+        rec.nohap(*encode(case), rates, (13 * n, n, n))
 
 
 def phase(rec, rng):
@@ -286,7 +292,8 @@ def phase(rec, rng):
     rec.phase(words, bases, [48, 49, 48, 49], [0, 0, 1, 1], (8, 4, 4))
     rec.phase(words, bases, [49, 48, 45, 0], [3, 3, 3, -1], (9, 5, 6))
     rec.phase(words, bases, [45, 49, 49, 48], [2, 2, -2147483648, 0], (8, 4, 4))
-    two = encode(Case([Variant(3, 0, (1, 0), ["A", "C"]), Variant(9, 0, (2, 1), ["A", "C", "GG"]), Variant(9, 0, (0, 1), ["A", "CC"])], [], 0))
+    two = encode(Case([Variant(3, 0, (1, 0), ["A", "C"]), Variant(9, 0, (2, 1), ["A", "C", "GG"]),
+                       Variant(9, 0, (0, 1), ["A", "CC"])], [], 0))
     for byte in (48, 49, 50):
         rec.phase(*two, [byte] * 3, [2, 1, 2], (6, 3, 3))
     rec.phase(words, bases, [48] * 3, [0] * 4, (8, 4, 4))
@@ -299,7 +306,8 @@ def phase(rec, rng):
     for _ in range(25):
         case = random_case(rng)
         n = len(case.variants)
-        rec.phase(*encode(case), [rng.choice([48, 49, 45]) for _ in range(n)], [rng.randrange(-1, n) for _ in range(n)], (2 * n, n, n))
+        phase, sets = [rng.choice([48, 49, 45]) for _ in range(n)], [rng.randrange(-1, n) for _ in range(n)]
+        rec.phase(*encode(case), phase, sets, (2 * n, n, n))
 
 
 def flist(rec, rng):
@@ -309,7 +317,8 @@ def flist(rec, rng):
     rec.flist(*encode(line), 0, 19)
     rec.flist(*encode(line), 0, 24)
     rec.flist(*encode(line), 1, 18)
-    many = Case(snv, [Fragment(1, [Call(9, 2, -262144, 0)]), Fragment(0, []), Fragment(1, [Call(8, 1, -2001, 0), Call(9, 2, -2000, 0), Call(10, 0, -5000, 0)]),
+    many = Case(snv, [Fragment(1, [Call(9, 2, -262144, 0)]), Fragment(0, []),
+                      Fragment(1, [Call(8, 1, -2001, 0), Call(9, 2, -2000, 0), Call(10, 0, -5000, 0)]),
                       Fragment(0, [Call(v, v % 3, -2001 - 1361 * v, 0) for v in range(12)])], -2000)
     for single in (0, 1):
         rec.flist(*encode(many), single, 120)
@@ -332,34 +341,50 @@ def orders(rec, rng):
         rec.orders(*encode(spread(list(range(n)))), rng.randrange(2**64), 3 * n)
 
 
-def runs(rec, rng):
-    rec.note("run: samples (h) to (k); refusals 6 to 10")
+def sample_runs(rec):
+    rec.note("run: samples (h) to (k); one more than the limit needs, and exactly as many")
     read = {a: (a, -5796, -1700, 0) for a in (0, 1)}
     snv = ["A", "G"]
-    rec.run(*encode(alone(snv, (0, 1), [read[1]])), RATES, [48], [0], [0], 10, (2, 2, 9, 1, 1))
+    one = encode(alone(snv, (0, 1), [read[1]]))
+    for limit in (10, 2, 1):
+        rec.run(*one, RATES, [48], [0], [0], limit, (2, 2, 9, 1, 1))
     for count in (112, 113):
         for byte in (48, 49):
-            rec.run(*encode(alone(snv, (0, 1), [read[0]] * count + [read[1]] * count)), RATES, [byte], [0], [0], 1000000, (2, 4 * count, 9, 1, 1))
+            both = alone(snv, (0, 1), [read[0]] * count + [read[1]] * count)
+            rec.run(*encode(both), RATES, [byte], [0], [0], 1000000, (2, 4 * count, 9, 1, 1))
     rec.run([0, 0, 0, 0], [], RATES, [], [], [], 1, (0, 0, 0, 0, 0))
+    rec.run([0, 2, 0, 0, 0, 0, 0, 1], [], RATES, [], [], [], 3, (1, 5, 2, 1, 1))
+
+
+def refused_runs(rec):
+    rec.note("run: refusals 6 to 10, alone and together")
     words, bases = encode(sample())
     full = (8, 10, 36, 4, 4)
     order = [0, 1, 2, 3]
     good = [words, bases, RATES, [48, 49, 48, 49], [0, 0, 1, 1], order, 5, full]
     rec.run(*good)
 
-    def changed(i, value):
-        return good[:i] + [value] + good[i + 1:]
+    def changed(parts, i, value):
+        return parts[:i] + [value] + parts[i + 1:]
 
     for limit in (0, 1000001, 4294967295, 1, 2):
-        rec.run(*changed(6, limit))
+        rec.run(*changed(good, 6, limit))
     for bad in ([], [0, 1, 2], [0, 1, 2, 3, 0], [0, 1, 2, 2], order + [3, 2, 1, 4], order + order + [1, 0, 3, 3]):
-        rec.run(*changed(5, bad))
-    rec.run(*changed(3, [48] * 3))
-    rec.run(*changed(4, [0, 0, 4, 1]))
-    rec.run(*changed(2, RATES[:3] + [0] + RATES[4:]))
+        rec.run(*changed(good, 5, bad))
+    rec.run(*changed(good, 3, [48] * 3))
+    rec.run(*changed(good, 4, [0, 0, 4, 1]))
+    rec.run(*changed(good, 2, RATES[:3] + [0] + RATES[4:]))
     for i, room in enumerate(full):
-        rec.run(*changed(7, full[:i] + (room - 1,) + full[i + 1:]))
+        rec.run(*changed(good, 7, full[:i] + (room - 1,) + full[i + 1:]))
     rec.run([0, 0, 0, 0], [], RATES, [], [], [0], 1, (0, 0, 0, 0, 0))
+    bad = changed(good, 7, (7, 9, 0, 3, 4))
+    for i, value in ((6, 0), (5, [0, 0, 1, 2]), (4, [0, 9, 0, 0]), (2, [0] * 6), (1, bases[1:])):
+        rec.run(*bad)
+        bad = changed(bad, i, value)
+    rec.run(*bad)
+
+
+def random_runs(rec, rng):
     rec.note("random small runs: ties, unphased mixes, several orders, short limits")
     for _ in range(60):
         case = random_case(rng, 7)
@@ -370,8 +395,18 @@ def runs(rec, rng):
                     c.qual, c.one_minus_qual = rng.choice([(-5796, -1700), (-5796, -1700), (-4096, -4096)])
         m = rng.randint(1, 3)
         lists = [v for _ in range(m) for v in rng.sample(range(n), n)] if n else []
-        rec.run(*encode(case), RATES, [rng.choice([48, 49, 45]) for _ in range(n)], [rng.randrange(-1, n) for _ in range(n)],
-                lists, rng.choice([1, 2, 50]), (2 * n + rng.randrange(2), 2 * f, 9 * n, n, n))
+        phase, sets = [rng.choice([48, 49, 45]) for _ in range(n)], [rng.randrange(-1, n) for _ in range(n)]
+        rec.run(*encode(case), RATES, phase, sets, lists, rng.choice([1, 2, 50]),
+                (2 * n + rng.randrange(2), 2 * f, 9 * n, n, n))
+    rec.note("reads that disagree: several sweeps, the later ones by other orders, settled and not")
+    for _ in range(25):
+        rec.entries += tangled(rng).requests(["run"])
+
+
+def runs(rec, rng):
+    sample_runs(rec)
+    refused_runs(rec)
+    random_runs(rec, rng)
 
 
 # The requests that the program has; a later operation joins the list with its library function.

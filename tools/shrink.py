@@ -15,7 +15,8 @@ def without_variants(trial, gone):
     trial.phase, trial.quals = kept(trial.phase), kept(trial.quals)
     trial.sets = [min(s, len(place) - 1) for s in kept(trial.sets)]
     trial.orders = [[place[v] for v in order if v in place] for order in trial.orders]
-    fragments = [Fragment(f.strand, [copy.copy(c) for c in f.calls if c.variant in place]) for f in trial.case.fragments]
+    reads = trial.case.fragments
+    fragments = [Fragment(f.strand, [copy.copy(c) for c in f.calls if c.variant in place]) for f in reads]
     for call in (c for f in fragments for c in f.calls):
         call.variant = place[call.variant]
     trial.case = Case(kept(trial.case.variants), fragments, trial.case.cutoff)

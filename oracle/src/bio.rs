@@ -1,7 +1,7 @@
 //! In place of bio::stats: document 01, section 1, written from its text.
 //!
 //! A LogProb is a whole number of steps, held in an f64 in which sums and differences of such numbers are exact. The
-//! mark is minus infinity. The source makes its LogProbs of Probs, so numbers of steps travel as Probs: see `From<Prob>`.
+//! mark is minus infinity. The source makes its LogProbs of Probs, so numbers of steps travel as Probs (`From<Prob>`).
 
 pub mod stats {
     use std::cell::{Cell, RefCell};
@@ -95,7 +95,7 @@ pub mod stats {
         }
 
         /// The source asks for this only to measure how far a sum is from certainty. Document 01 drops what is above
-        /// (the mark: within the source's tolerance); of a sum below, all of certainty is missing, and the source stops.
+        /// (the mark: within the source's tolerance); a sum below is far from it, and the source stops.
         pub fn ln_sub_exp(self, other: LogProb) -> LogProb {
             if self.0 == 0.0 && other.0 < 0.0 {
                 return self;

@@ -1,6 +1,6 @@
-//! The oracle: longshot's own files, compiled where they lie and unchanged, with stand-ins for what they lean on, behind
-//! the request stream. It takes accepted requests of the operations that the source has; `oracle/compare` holds the
-//! program against it.
+//! The oracle: longshot's own files, compiled where they lie and unchanged, with stand-ins for what they lean on,
+//! behind the request stream. It takes accepted requests of the operations that the source has; `oracle/compare` holds
+//! the program against it.
 //!
 //! oracle < REQUESTS               runs by the lent orders
 //! oracle --reference < REQUESTS   runs by document 01's own orders from seed 0

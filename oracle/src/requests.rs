@@ -15,8 +15,8 @@ use variants_and_fragments::{var_filter, Var};
 /// The source's own limit of sweeps.
 const MAX_ITERATIONS: usize = 1000000;
 
-/// The answer to a request whose word has been read; none where it cannot be read. With `reference` a run takes document
-/// 01's own orders from seed 0 instead of the lent ones.
+/// The answer to a request whose word has been read; none where it cannot be read. With `reference` a run takes
+/// document 01's own orders from seed 0 instead of the lent ones.
 pub fn answer(word: &[u8], tokens: &mut Tokens, reference: bool) -> Option<Answer> {
     match word {
         b"priors" => priors(tokens),

@@ -31,8 +31,8 @@ pub fn genotype_priors(rates: &[i32]) -> GenotypePriors {
     GenotypePriors::new(steps(0), steps(1), steps(2), steps(3), TS_TV_RATIO).expect("priors")
 }
 
-/// One round (an infinite ll_delta ends the outer loop after it) of sweeps by `orders` up to `limit`; the steps that the
-/// source turned into PHREDProbs on its way.
+/// One round (an infinite ll_delta ends the outer loop after it) of sweeps by `orders` up to `limit`; the steps that
+/// the source turned into PHREDProbs on its way.
 pub fn round(case: &mut Case, priors: &GenotypePriors, phase: &Phase, orders: Orders, limit: usize) -> Vec<f64> {
     let density = DensityParameters { n: 0, len: 0, gq: 0.0 };
     hapcut2::give(&phase.bytes, &phase.sets);
