@@ -108,12 +108,16 @@ def answer_text(first, outputs):
 
 
 def ask(command, requests):
-    """A program's answers to the requests, in order; the last ones are empty where it ends before them."""
-    text = "".join(request.text() for request in requests)
-    done = subprocess.run(command, input=text.encode(), stdout=subprocess.PIPE, check=False)
-    lines = done.stdout.decode().splitlines(keepends=True)
-    answers, start = [], 0
-    for request in requests:
-        answers.append("".join(lines[start:start + request.lines()]))
-        start += request.lines()
+    """A program's answers to the requests, in order. Where it ends within a request, what it wrote is the answer, and
+    the rest is asked anew."""
+    answers = []
+    while len(answers) < len(requests):
+        text = "".join(request.text() for request in requests[len(answers):])
+        done = subprocess.run(command, input=text.encode(), stdout=subprocess.PIPE, check=False)
+        lines, start = done.stdout.decode().splitlines(keepends=True), 0
+        for request in requests[len(answers):]:
+            answers.append("".join(lines[start:start + request.lines()]))
+            start += request.lines()
+            if start > len(lines) or answers[-1] == "unreadable\n":
+                break
     return answers
