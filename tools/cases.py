@@ -185,7 +185,7 @@ class Trial:
         """The run by document 01's own orders: as many of them as sweeps are allowed."""
         words, bases = encode(self.case, self.numbering)
         count = min(self.limit, 12)
-        orders = Request("orders", words, bases, [0], [len(self.case.variants) * count]).outputs()[0]
+        orders = Request("orders", words, bases, [0], [len(self.case.variants) * count]).result()[1][0]
         return Request("run", words, bases, [self.rates, self.phase, self.sets, orders, count], self.rooms("run"))
 
 

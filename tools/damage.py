@@ -108,6 +108,13 @@ def room(rng, request):
         request.rooms[i] = rng.choice([0, max(0, request.rooms[i] - rng.choice([1, 2, 17]))])
 
 
+def line_room(rng, request):
+    """Exactly the bytes that the lines need, or one fewer."""
+    if request.refusal() is None:
+        size = request.result()[0][0]
+        request.rooms[0] = max(0, size - rng.randrange(2))
+
+
 def order_room(rng, request):
     request.rooms[0] = max(0, request.rooms[0] + rng.choice([-1, 1, 2]))
 
@@ -123,8 +130,8 @@ def density_qual(rng, request):
 CASE = [head, variant, variant, fragment, call, call, link, link, words, bases]
 DAMAGES = {
     "check": CASE, "priors": [rates, room], "nohap": [rates, room, room], "phase": [given_phase, given_phase, room],
-    "run": [rates, given_phase, orders, limit, room], "flist": [room], "filter": [qualities, density_qual, room],
-    "orders": [order_room],
+    "run": [rates, given_phase, orders, limit, room], "flist": [room, line_room, line_room],
+    "filter": [qualities, density_qual, room], "orders": [order_room],
 }
 
 

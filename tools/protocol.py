@@ -78,9 +78,9 @@ class Request:
         """How many lines an answer has."""
         return 1 + len(self.rooms)
 
-    def outputs(self):
-        """The output slices afterwards, by tools/model.py; the request is an accepted one."""
-        return model.OPERATIONS[self.word][0](self.words, self.bases, *self.parts, *self.befores())[1]
+    def result(self):
+        """The fields and the output slices afterwards, by tools/model.py; the request is an accepted one."""
+        return model.OPERATIONS[self.word][0](self.words, self.bases, *self.parts, *self.befores())
 
     def refusal(self):
         """The refusal; None where the request is accepted."""
@@ -97,7 +97,7 @@ class Request:
     def answer(self):
         """The answer by tools/model.py."""
         try:
-            fields, afters = model.OPERATIONS[self.word][0](self.words, self.bases, *self.parts, *self.befores())
+            fields, afters = self.result()
         except Refused as refusal:
             return self.refused(refusal)
         return answer_text(plain_text(["done"] + fields), afters)

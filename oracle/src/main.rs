@@ -4,6 +4,7 @@
 //!
 //! oracle < REQUESTS               runs by the lent orders
 //! oracle --reference < REQUESTS   runs by document 01's own orders from seed 0
+//! oracle --time N < REQUESTS      for each run, instead of its answer: the best time of N of its round, in nanoseconds
 //!
 //! The first group of modules stands in for the source's dependencies (edition 2015: its paths start at this root), the
 //! second is the source, through the link that oracle/build makes, and the third asks it.
@@ -42,14 +43,15 @@ mod protocol;
 mod requests;
 mod rounds;
 
+use requests::Mode;
 use std::env;
 use std::io::{self, BufWriter, Read, Write};
 
-fn answers(input: &[u8], reference: bool) -> io::Result<()> {
+fn answers(input: &[u8], mode: Mode) -> io::Result<()> {
     let mut out = BufWriter::new(io::stdout());
     let mut tokens = protocol::Tokens::new(input);
     while let Some(word) = tokens.next() {
-        match requests::answer(word, &mut tokens, reference) {
+        match requests::answer(word, &mut tokens, mode) {
             Some(answer) => answer.write(&mut out)?,
             None => {
                 writeln!(out, "unreadable")?;
@@ -61,7 +63,13 @@ fn answers(input: &[u8], reference: bool) -> io::Result<()> {
 }
 
 fn main() {
-    let reference = env::args().nth(1).map_or(false, |option| option == "--reference");
+    let options: Vec<String> = env::args().skip(1).collect();
+    let mode = match options.first().map(|option| option.as_str()) {
+        None => Mode::Lent,
+        Some("--reference") => Mode::Reference,
+        Some("--time") => Mode::Time(options[1].parse().expect("a number of rounds")),
+        Some(option) => panic!("no option {}", option),
+    };
     let mut input = vec![];
-    io::stdin().read_to_end(&mut input).and_then(|_| answers(&input, reference)).expect("reading and writing");
+    io::stdin().read_to_end(&mut input).and_then(|_| answers(&input, mode)).expect("reading and writing");
 }

@@ -10,19 +10,30 @@ use rand::rngs::StdRng;
 use rand::seq::SliceRandom;
 use rand::{self, Orders, SeedableRng};
 use rounds::{genotype_priors, phased_case, phased_flags, phased_total, round, Phase};
+use std::time::Instant;
 use variants_and_fragments::{var_filter, Var};
 
 /// The source's own limit of sweeps.
 const MAX_ITERATIONS: usize = 1000000;
 
-/// The answer to a request whose word has been read; none where it cannot be read. With `reference` a run takes
-/// document 01's own orders from seed 0 instead of the lent ones.
-pub fn answer(word: &[u8], tokens: &mut Tokens, reference: bool) -> Option<Answer> {
+/// What is asked of a run.
+#[derive(Clone, Copy)]
+pub enum Mode {
+    /// The answer, by the lent orders.
+    Lent,
+    /// The answer, by document 01's own orders from seed 0.
+    Reference,
+    /// The best time of so many rounds by the lent orders.
+    Time(usize),
+}
+
+/// The answer to a request whose word has been read; none where it cannot be read.
+pub fn answer(word: &[u8], tokens: &mut Tokens, mode: Mode) -> Option<Answer> {
     match word {
         b"priors" => priors(tokens),
         b"nohap" => nohap(tokens),
         b"phase" => phase(tokens),
-        b"run" => run(tokens, reference),
+        b"run" => run(tokens, mode),
         b"flist" => flist(tokens),
         b"filter" => filter(tokens),
         b"orders" => orders(tokens),
@@ -115,30 +126,51 @@ fn lent_orders(tokens: &mut Tokens, n: usize) -> Option<Orders> {
     Some(Orders::Lent(flat.chunks(n).map(|order| order.to_vec()).collect()))
 }
 
-fn run(tokens: &mut Tokens, reference: bool) -> Option<Answer> {
+fn run(tokens: &mut Tokens, mode: Mode) -> Option<Answer> {
     let case = Case::read(tokens)?;
-    let priors = genotype_priors(&rates(tokens)?);
+    let rates = rates(tokens)?;
     let phase = given_phase(tokens)?;
     let lent = lent_orders(tokens, case.n())?;
     let limit = tokens.u32()? as usize;
     let rooms = rooms(tokens, 5)?;
-    let orders = if reference { Orders::Seeded } else { lent };
+    Some(match mode {
+        Mode::Lent => ran(&case, &rates, &phase, lent, limit, &rooms),
+        Mode::Reference => ran(&case, &rates, &phase, Orders::Seeded, limit, &rooms),
+        Mode::Time(rounds) => timed(&case, &rates, &phase, &lent, limit, rounds),
+    })
+}
+
+/// The best time of the source's work on one round, its priors included, as the one field of an answer.
+fn timed(case: &Case, rates: &[i32], phase: &Phase, lent: &Orders, limit: usize, rounds: usize) -> Answer {
+    let times = (0..rounds).map(|_| {
+        let (mut case, lent) = (case.clone(), lent.clone());
+        let start = Instant::now();
+        round(&mut case, &genotype_priors(rates), phase, lent, limit);
+        start.elapsed()
+    });
+    let best = times.min().expect("a round");
+    Answer::new(format!(" {}", best.as_secs() * 1000000000 + u64::from(best.subsec_nanos())), vec![])
+}
+
+fn ran(case: &Case, rates: &[i32], phase: &Phase, orders: Orders, limit: usize, rooms: &[usize]) -> Answer {
+    let priors = genotype_priors(rates);
     let mut called = case.clone();
-    let converted = round(&mut called, &priors, &phase, orders, limit);
+    let converted = round(&mut called, &priors, phase, orders, limit);
     let sweeps = rand::sweeps();
     assert!(sweeps < MAX_ITERATIONS, "the source's own limit does not tell whether its last sweep changed something");
     let settled = sweeps <= limit;
     let genotypes = |case: &Case| case.varlist.lst.iter().map(|v| v.genotype).collect::<Vec<Genotype>>();
-    let total = |at: &Case| phased_total(&case, &priors, &phased_flags(&case, &phase), &genotypes(at));
+    let flags = phased_flags(case, phase);
+    let total = |at: &Case| phased_total(case, &priors, &flags, &genotypes(at));
     let fields = format!(
         " {} {} {} {} {}",
         sweeps.min(limit),
         if settled { "settled" } else { "unsettled" },
-        total(&phased_case(&case, &phase)),
+        total(&phased_case(case, phase)),
         total(&called),
         source_total(&converted)
     );
-    Some(Answer::new(fields, run_outputs(&called, &rooms)))
+    Answer::new(fields, run_outputs(&called, rooms))
 }
 
 /// The source converts its last total, then compares it with the one before the round: the last three conversions.
