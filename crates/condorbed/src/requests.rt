@@ -16,6 +16,7 @@ use crate::nohap;
 use crate::orders;
 use crate::phase;
 use crate::priors;
+use crate::run;
 use protocol::input;
 use protocol::input::Reader;
 
@@ -29,6 +30,7 @@ pub enum Operation {
     Phase,
     Flist,
     Nohap,
+    Run,
     Unknown,
 }
 
@@ -49,6 +51,8 @@ const PHASE: u64 = 1582299181925;
 const FLIST: u64 = 1539417142132;
 
 const NOHAP: u64 = 1573827142000;
+
+const RUN: u64 = 24278382;
 
 // The operation that a word names; none at the end of the input.
 fn named(word: u64) -> Operation
@@ -77,6 +81,9 @@ fn named(word: u64) -> Operation
     }
     if word == NOHAP {
         return Operation::Nohap;
+    }
+    if word == RUN {
+        return Operation::Run;
     }
     Operation::Unknown
 }
@@ -119,6 +126,7 @@ fn answer(
         Operation::Phase => phase::answer(input, reader, output, words, bases),
         Operation::Flist => flist::answer(input, reader, output, words, bases),
         Operation::Nohap => nohap::answer(input, reader, output, words, bases),
+        Operation::Run => run::answer(input, reader, output, words, bases),
         Operation::Unknown => unreadable(output, reader),
     }
 }
