@@ -63,7 +63,7 @@ module _ (tab other : List ℤ) (k : ℕ) (low : 1 ≤ k) (same : (p : ℕ) → 
       let q = pair-in k p low h in
       rw (same (p / k * k + p % k) (place-in (p / k) (p % k) k (q .0) (q .1)), same (p % k * k + p / k) (place-in (p % k) (p / k) k (q .1) (q .0)))
 
-  genotype-same : (phased : Bool) → maxGenotype phased tab k ≡ maxGenotype phased other k
+  pub genotype-same : (phased : Bool) → maxGenotype phased tab k ≡ maxGenotype phased other k
   unfolding maxGenotype
   genotype-same phased = maximum-same (postAt phased tab k) (postAt phased other k) (k * k) (post-same phased)
 

@@ -4,3 +4,4 @@ pub mod ScoreBounds
 pub mod CheckLaws
 pub mod RoundLaws
 pub mod StartLaws
+pub mod FinishLaws

@@ -142,20 +142,20 @@ module _ (rates : Rates) (phased : ℕ → Bool) (w : List ℤ) (b : List ℕ) (
       (by-cond (hasCall v cs) _ (pos 0) (share-in (withOwn C v) h cs f) (down-zero (shareTop cs)))
 
   -- ---- scores
-  pub score-in : (v : ℕ) (h : List ℕ) (i j : ℕ) → DownTo (2 ^ 40) (scoreWith C v h i j)
+  score-down : (v : ℕ) (h : List ℕ) (i j : ℕ) → DownTo (2 ^ 36) (scoreWith C v h i j)
   unfolding scoreWith
-  score-in v h i j =
+  score-down v h i j =
       let own : List Call → ℤ = λ cs. perCall v cs (readShare C (withOwn C v) (putPair h v i j) cs) in
-      down-more (1052672 + countOver (C .frags) shareTop) (2 ^ 40) _ (omega (arith, frags-top))
+      down-more (1052672 + countOver (C .frags) shareTop) (2 ^ 36) _ (omega (arith, frags-top))
       (down-add 1052672 (countOver (C .frags) shareTop) (C .prior v i j) (sumOver (C .frags) own) (prior-in v i j) (down-sum (C .frags) shareTop own (all-imp (own-in v (putPair h v i j)) frags-in)))
 
-  pub score-small : (v : ℕ) (h : List ℕ) (i j : ℕ) → natAbs (scoreWith C v h i j) ≤ 2 ^ 40
-  score-small v h i j = down-abs (2 ^ 40) (scoreWith C v h i j) (score-in v h i j)
+  pub score-in : (v : ℕ) (h : List ℕ) (i j : ℕ) → DownTo (2 ^ 40) (scoreWith C v h i j)
+  score-in v h i j = down-more (2 ^ 36) (2 ^ 40) (scoreWith C v h i j) (omega arith) (score-down v h i j)
 
-  -- the same of the pair with the row-major number g
-  pub number-small : (v : ℕ) (h : List ℕ) (g : ℕ) → natAbs (score C v h g) ≤ 2 ^ 40
+  -- the same of the pair with the row-major number g, with what a sum over the pairs needs
+  pub number-small : (v : ℕ) (h : List ℕ) (g : ℕ) → natAbs (score C v h g) ≤ 2 ^ 36
   unfolding score
-  number-small v h g = score-small v h (g / C .k v) (g % C .k v)
+  number-small v h g = down-abs (2 ^ 36) (scoreWith C v h (g / C .k v) (g % C .k v)) (score-down v h (g / C .k v) (g % C .k v))
 
   -- ---- totals
   prior-share : (counts : ℕ → Bool) (h : List ℕ) (v : ℕ) → DownTo 1052672 (cond (counts v) (C .prior v (allele0 h v) (allele1 h v)) (pos 0))
