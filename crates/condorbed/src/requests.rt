@@ -4,7 +4,7 @@
 // its arrays in arrays.rt, and a file of three functions, as filter.rt: `read_parts` (contract: each length
 // `Counts` in its array), `answer`, which lends the fronts of the arrays, and `call`, which calls the
 // operation and prints the first line and one line for each output slice.
-// Where a request has many parts, `answer` lends what it read to a second function, as in phase.rt, so that
+// Where a request has many parts, `answer` lends what it read to a second function, as in phase.rt and run.rt, so that
 // no function's proof has too much to look through.
 ghost use mathlib.Core.Path.{_≡_};
 ghost use Rattle.condorbed.specs.Requests.{operationOf};
