@@ -59,7 +59,7 @@ faultless n bytes sets h =
     let p = fault-past (length bytes) (length sets) (firstFail (setsOk n sets) n) n h in
     record { bytes-long = p .0; sets-long = p .1; sets-ok = first-all (setsOk n sets) n (p .2) }
 
-none-earlier : (a b : ℕ) → earlier a b ≡ 0 → (a ≡ 0) × (b ≡ 0)
+pub none-earlier : (a b : ℕ) → earlier a b ≡ 0 → (a ≡ 0) × (b ≡ 0)
 none-earlier a b e = elim (ℕ-discrete a 0) [
   | yes p ↦ (p, earlier-right a b p ∙ e)
   | no p ↦ elim (ℕ-discrete b 0) [
@@ -71,7 +71,7 @@ none-earlier a b e = elim (ℕ-discrete a 0) [
   ]
 ]
 
-short-none : (need long : ℕ) → shortOf need long ≡ 0 → need ≤ long
+pub short-none : (need long : ℕ) → shortOf need long ≡ 0 → need ≤ long
 unfolding shortOf
 short-none need long e = elim (decLe need long) [ yes l ↦ l | no l ↦ let z : need ≡ 0 = rw (lt-leb need long (omega arith)) at e in omega arith ]
 

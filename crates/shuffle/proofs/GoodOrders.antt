@@ -52,7 +52,7 @@ written-permutation n (suc m) state (suc o) h =
     (written-permutation n m (stateAfter (n - 1) state) o (omega arith))
 
 -- ---- what is accepted
-unless-done : {X : Type 0} (b : Bool) (k p : ℕ) (rest : Outcome X) (x : X) → unless b k p rest ≡ done x → (b ≡ true) × (rest ≡ done x)
+pub unless-done : {X : Type 0} (b : Bool) (k p : ℕ) (rest : Outcome X) (x : X) → unless b k p rest ≡ done x → (b ≡ true) × (rest ≡ done x)
 unfolding unless
 unless-done true k p rest x e = (refl, e)
 unless-done false k p rest x e = let z : _≡_ {A = ℕ} 0 1 = cc in absurd (omega arith)

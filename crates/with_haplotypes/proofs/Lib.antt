@@ -5,3 +5,4 @@ pub mod CheckLaws
 pub mod RoundLaws
 pub mod StartLaws
 pub mod FinishLaws
+pub mod RoundAnswers

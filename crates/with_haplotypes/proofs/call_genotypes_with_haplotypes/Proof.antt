@@ -1,81 +1,98 @@
+-- `call_genotypes_with_haplotypes` meets its contract: each way out is one answer of `RoundAnswers`.
+-- Assumes nothing.
+use mathlib.Core.Path.{_≡_, sym, ap, _∙_}
+use Prim.Native.Nat.{_≤_}
+use native.Mathlib.Omega.{arith}
 use borrow.Author.Needs.{needs}
+use denote.Ref.{now}
+use lib.ListN.{length}
+use Rattle.variants_and_fragments.specs.declared.Sizes.{Sizes}
+use Rattle.variants_and_fragments.specs.Accepted.{CaseIn}
+use Rattle.variants_and_fragments.specs.Check.{caseOf}
+use Rattle.variants_and_fragments.specs.Refusals.{done}
+use Rattle.variants_and_fragments.proofs.Accepted.{case-in}
+use Rattle.haplotype_assembly.proofs.PhaseAnswers.{case-accepted, case-refused}
+use Rattle.with_haplotypes.specs.Promise.{roundShort, roundChecks}
+use Rattle.with_haplotypes.specs.Steps.{checkedAs}
+use Rattle.with_haplotypes.proofs.RoundAnswers.{admits, answer-case, answer-checks, answer-done}
 use Rattle.with_haplotypes.proofs.call_genotypes_with_haplotypes.Statement.{statement}
 use Rattle.with_haplotypes.proofs.call_genotypes_with_haplotypes.Tie as tie
-use Rattle.with_haplotypes.proofs.call_genotypes_with_haplotypes.Reads as reads
-use Rattle.with_haplotypes.proofs.call_genotypes_with_haplotypes.Lts as lts
-use Rattle.steps.proofs.table.Reads as table-reads
-use Rattle.variants_and_fragments.proofs.check_case.Reads as check-case-reads
-use Rattle.with_haplotypes.proofs.accepted.round_accepted.Reads as round-accepted-reads
-use Rattle.with_haplotypes.proofs.checks.round_checks.Reads as round-checks-reads
-use Rattle.with_haplotypes.proofs.checks.round_short.Reads as round-short-reads
 
--- src/lib.rt:51:11
+-- the start, the sizes of an accepted case, and what is known of it
+abbrev st : tie.After-s → tie.Start
+st c = c .before .before .before .before .before .before .before .before .before
+
+abbrev sizes : tie.After-s → Sizes
+sizes c = c .s .given .0 .0
+
+accepted : (c : tie.After-s) → caseOf (now (st c .args .words)) (now (st c .args .bases)) ≡ done (sizes c)
+accepted c = case-accepted _ _ _ _ (c .before .before .check-case .ensures) (c .s .given .1)
+
+inside : (c : tie.After-s) → CaseIn (now (st c .args .words)) (sizes c)
+inside c = case-in _ _ _ (accepted c)
+
+-- what the checks answer, of the lengths of the lent slices
+checked : (c : tie.After-round-checks) → let s = st (c .before .before .before .before .before) in checkedAs (c .round-checks .result) ≡ roundChecks (sizes (c .before .before .before .before .before) .n) (s .args .rates) (now (s .args .phase)) (now (s .args .sets)) (now (s .args .orders)) (s .args .limit) (roundShort (sizes (c .before .before .before .before .before) .n) (sizes (c .before .before .before .before .before) .f) (length (now (s .args .haplotypes))) (length (now (s .args .likelihoods))) (length (now (s .args .posteriors))) (length (now (s .args .quals))) (length (now (s .args .gqs))))
+checked c = rw (← c .before .before .round-short .ensures) (c .round-checks .ensures)
+
 check-case-requires : tie.Need-check-case-requires
 check-case-requires c κs = search needs
 
--- src/lib.rt:52:26
 enum-known-x : tie.Need-enum-known-x
 enum-known-x c = search needs
 
--- src/lib.rt:53:27
 enum-known-s : tie.Need-enum-known-s
 enum-known-s c = search needs
 
--- src/lib.rt:54:21
 table-requires : tie.Need-table-requires
 table-requires c κs = search needs
 
--- src/lib.rt:55:17
 round-short-requires : tie.Need-round-short-requires
-round-short-requires c κs = ?
+round-short-requires c κs = let k = inside (c .before .before) in (k .sized .n-top, k .sized .f-top)
 
--- src/lib.rt:64:19
 round-checks-requires : tie.Need-round-checks-requires
-round-checks-requires c κs = ?
+round-checks-requires c κs = (c .before .before .table .ensures, inside (c .before .before .before .before) .sized .n-top)
 
--- src/lib.rt:65:39
 enum-known-x-2 : tie.Need-enum-known-x-2
 enum-known-x-2 c = search needs
 
--- src/lib.rt:66:36
 enum-known-m : tie.Need-enum-known-m
 enum-known-m c = search needs
 
--- src/lib.rt:66:54
 round-accepted-requires : tie.Need-round-accepted-requires
-round-accepted-requires c κs = ?
+unfolding checkedAs
+round-accepted-requires c κs =
+    let k = c .before .before .before .before .before .before .before .before .before in
+    let a = admits _ _ _ _ _ (accepted (k .before .before .before .before .before)) (sym (ap checkedAs (sym (c .before .before .before .before .before .before .before .m .given .1)) ∙ checked k)) in
+    ((k .before .before .before .table .ensures, a .0), a .1)
 
--- src/lib.rt:35:1
 returns : tie.Need-returns
-returns c = ?
+returns c = answer-case _ _ _ _ (case-refused _ _ _ _ (c .before .before .before .check-case .ensures) (c .before .x .given .1))
 
--- src/lib.rt:35:1
 returns-2 : tie.Need-returns-2
-returns-2 c = ?
+unfolding checkedAs
+returns-2 c = let k = c .before .before .before in answer-checks _ _ _ _ _ (accepted (k .before .before .before .before .before)) (sym (ap checkedAs (sym (c .before .x2 .given .1)) ∙ checked k))
 
--- src/lib.rt:35:1
 same-length : tie.Need-same-length
 same-length c = search needs
 
--- src/lib.rt:35:1
 same-length-2 : tie.Need-same-length-2
 same-length-2 c = search needs
 
--- src/lib.rt:35:1
 same-length-3 : tie.Need-same-length-3
 same-length-3 c = search needs
 
--- src/lib.rt:35:1
 same-length-4 : tie.Need-same-length-4
 same-length-4 c = search needs
 
--- src/lib.rt:35:1
 same-length-5 : tie.Need-same-length-5
 same-length-5 c = search needs
 
--- src/lib.rt:35:1
 returns-3 : tie.Need-returns-3
-returns-3 c = ?
+unfolding checkedAs
+returns-3 c =
+    let k = c .before .before .before .before .before .before .before .before .before .before .before .before .before .before .before .before .before .before in
+    answer-done _ _ _ _ _ (accepted (k .before .before .before .before .before)) (sym (ap checkedAs (sym (c .before .before .before .before .before .before .before .before .before .before .before .before .before .before .before .before .m .given .1)) ∙ checked k)) _ _ (c .before .before .before .before .before .before .before .before .round-accepted .ensures)
 
 pub call-genotypes-with-haplotypes-spec : {M : Type 1} → statement M
 call-genotypes-with-haplotypes-spec =

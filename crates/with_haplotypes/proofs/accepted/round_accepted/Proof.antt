@@ -118,7 +118,7 @@ returns c =
       posteriors-are = finish.posteriors-written A K R (room .posteriors-long) N;
       quals-are = finish.quals-written A K R (room .posteriors-long) N F;
       gqs-are = finish.gqs-written A K R (room .posteriors-long) N F;
-      demand3 = finish.demand3-written A R _ _ long;
+      demand3 = finish.demand3-written A R (now (s .args .haplotypes)) (2 * s .args .s .n - 0) long;
     }
 
 pub round-accepted-spec : {M : Type 1} → statement M

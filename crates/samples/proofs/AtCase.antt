@@ -1,0 +1,43 @@
+-- A round at a case that its words are known to stand for: the run and the answer of the same definitions with that
+-- case in place of the decoded one, so that what is computed next has no words in it.
+-- Assumes nothing.
+use mathlib.Core.Path.{_≡_, refl}
+use lib.ListN.{length}
+use Rattle.variants_and_fragments.specs.Case.{Case}
+use Rattle.variants_and_fragments.specs.Decode.{decode}
+use Rattle.haplotype_assembly.specs.Phase.{phasedFlags, startHaplotypes}
+use Rattle.shuffle.specs.Orders.{orderCount}
+use Rattle.sweeps.specs.Sweeps.{SweepCase, RunResult, run, phasedTotal, sourceTotal}
+use Rattle.call_genotypes.specs.Runs.{orderOf}
+use Rattle.call_genotypes.specs.SweepCaseOf.{sweepCaseOf}
+use Rattle.with_haplotypes.specs.declared.RoundAnswer.{RoundAnswer}
+use Rattle.with_haplotypes.specs.Round.{RoundInput, case, sweepCase, start, orderOfSweep, result, returned}
+
+module _ (input : RoundInput) (c : Case) where
+  abbrev sweepCaseAt : SweepCase
+  sweepCaseAt = sweepCaseOf (input .rates) (phasedFlags c (input .phase)) c
+
+  unfoldable pub resultAt : RunResult
+  resultAt = run sweepCaseAt (orderOf (input .orders) (length (c .variants)) (orderCount (length (c .variants)) (length (input .orders)))) (input .limit) 0 (startHaplotypes c (input .phase))
+
+  unfoldable pub returnedAt : RoundAnswer
+  returnedAt = record {
+    sweeps = resultAt .sweeps;
+    settled = resultAt .settled;
+    start = phasedTotal sweepCaseAt (startHaplotypes c (input .phase));
+    end = phasedTotal sweepCaseAt (resultAt .haps);
+    source = sourceTotal sweepCaseAt (resultAt .haps);
+  }
+
+  module _ (decoded : decode (input .words) (input .bases) ≡ c) where
+    pub start-at : start input ≡ startHaplotypes c (input .phase)
+    unfolding start case
+    start-at = rw decoded refl
+
+    pub result-at : result input ≡ resultAt
+    unfolding result sweepCase start orderOfSweep case resultAt
+    result-at = rw decoded refl
+
+    pub returned-at : returned input ≡ returnedAt
+    unfolding returned result sweepCase start orderOfSweep case resultAt returnedAt
+    returned-at = rw decoded refl

@@ -1,0 +1,68 @@
+-- Names for lists of definitions, by sections of document 01: a proof that says `unfolding logs` opens all that the
+-- line under `logs` names.
+-- Assumes nothing.
+use Rattle.steps.specs.Table.{knots}
+use Rattle.steps.specs.Knots.{T}
+use Rattle.steps.specs.Addend.{addend}
+use Rattle.steps.specs.Logs.{larger, difference, addExp, sumExp}
+use Rattle.steps.specs.OneMinus.{low, first, lnOneMinusExp}
+use Rattle.variants_and_fragments.specs.Refusals.{stop, unless, andThen}
+use Rattle.variants_and_fragments.specs.Words.{within}
+use Rattle.variants_and_fragments.specs.First.{firstFailFrom, firstFail, firstFalse}
+use Rattle.variants_and_fragments.specs.Sums.{sumOver, countOver}
+use Rattle.variants_and_fragments.specs.Case.{usable}
+use Rattle.variants_and_fragments.specs.Layout.{headFault, variantOk, callOk}
+use Rattle.variants_and_fragments.specs.Chain.{linkTest, chainFrom, chainOf, memb, pushAll, reached, goodChain, fragmentTest, isReached, chainFaultAt}
+use Rattle.variants_and_fragments.specs.Alleles.{allelesStart, allelesOk, allelesFaultAt}
+use Rattle.variants_and_fragments.specs.Check.{caseOf}
+use Rattle.variants_and_fragments.specs.Decode.{tabulateFrom, alleleStart, alleleAt, variantFrom, callFrom, fragmentFrom, decode}
+use Rattle.variants_and_fragments.specs.Encode.{encodeWords, encodeBases}
+use Rattle.variants_and_fragments.specs.Pileup.{only, usableCalls}
+use Rattle.genotype_probs.specs.Rates.{rateOk, rateSum, rateTests, ratesFault}
+use Rattle.genotype_probs.specs.Letters.{letterOf, firstLetter, stopAt, compared}
+use Rattle.genotype_probs.specs.Priors.{finite, oneMinusExp, isIndel, transition, change, letterValue, haploid, homozygous, diploid, tableEntry, priorTable, tableIndex, tableValue, lookup, getPrior, allPriors}
+use Rattle.haplotype_assembly.specs.Phase.{orderedFirst, orderedSecond, phasedTest, phasedRule, phased, phasedFlags, pairPlace, startAllele, startHaplotypes}
+use Rattle.haplotype_assembly.specs.GivenPhase.{setsOk, phaseFaultAt}
+use Rattle.shuffle.specs.Permutation.{times, allBelow, eachOnce, permutes}
+use Rattle.shuffle.specs.Orders.{orderCount, orderAt}
+use Rattle.shuffle.specs.Answers.{firstBadOrder, ordersOutcome}
+use Rattle.sweeps.specs.Sweeps.{putPair, sameHaps, sumTo, callTerm, likelihood, perCall, readShare, scoreWith, score, firstMax, bestPair, visit, sweep, run, totalOf}
+use Rattle.call_genotypes.specs.Held.{mixOf}
+use Rattle.call_genotypes.specs.Runs.{orderOf}
+use Rattle.call_genotypes.specs.SweepCaseOf.{sweepCaseOf}
+use Rattle.with_haplotypes.specs.Promise.{limitChecks, roundChecks}
+
+-- section 1
+unfoldable pub logs : Unit {0}
+unfolding knots T addend larger difference addExp sumExp low first lnOneMinusExp
+logs = tt
+
+-- section 2: words of a case, and the case of words
+unfoldable pub layout : Unit {0}
+unfolding encodeWords encodeBases countOver decode tabulateFrom variantFrom alleleAt alleleStart allelesStart fragmentFrom callFrom chainOf chainFrom
+layout = tt
+
+-- refusals 1 to 5
+unfoldable pub checks : Unit {0}
+unfolding caseOf stop within headFault firstFalse firstFail firstFailFrom variantOk callOk linkTest chainFrom chainOf memb pushAll reached goodChain fragmentTest isReached chainFaultAt allelesStart allelesOk allelesFaultAt
+checks = tt
+
+-- section 3
+unfoldable pub priors : Unit {0}
+unfolding logs firstFailFrom firstFail rateOk rateSum rateTests ratesFault letterOf firstLetter stopAt compared finite oneMinusExp isIndel transition change letterValue haploid homozygous diploid tableEntry priorTable tabulateFrom tableIndex tableValue lookup getPrior allPriors
+priors = tt
+
+-- section 5
+unfoldable pub phases : Unit {0}
+unfolding orderedFirst orderedSecond phasedTest phasedRule phased phasedFlags pairPlace startAllele startHaplotypes tabulateFrom
+phases = tt
+
+-- section 6, at a decoded case
+unfoldable pub rounds : Unit {0}
+unfolding priors phases sweepCaseOf usableCalls only usable mixOf orderOf orderCount sumOver putPair sameHaps sumTo callTerm likelihood perCall readShare scoreWith score firstMax bestPair visit sweep run totalOf
+rounds = tt
+
+-- refusals 6 to 9
+unfoldable pub round-checks : Unit {0}
+unfolding priors limitChecks roundChecks andThen unless setsOk phaseFaultAt ordersOutcome firstBadOrder orderCount orderAt permutes allBelow eachOnce times
+round-checks = tt
