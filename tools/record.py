@@ -410,7 +410,7 @@ def runs(rec, rng):
 
 
 # The requests that the program has; a later operation joins the list with its library function.
-LATER = [priors, orders, phase, flist, nohap]
+LATER = [priors, orders, phase, flist, nohap, runs]
 
 
 def recorded():

@@ -7,9 +7,9 @@ use lib.Dec.{eqb, lit<}
 use borrow.Author.Tests.{eqb-true}
 use Rattle.protocol.specs.Word.{wordOf, pushedBytes}
 use Rattle.protocol.proofs.Words.{Bytes, none, more, word-same}
-use Rattle.condorbed.specs.Requests.{operationOf, orElse, checkName, filterName, priorsName, ordersName, phaseName, flistName, nohapName}
+use Rattle.condorbed.specs.Requests.{operationOf, orElse, checkName, filterName, priorsName, ordersName, phaseName, flistName, nohapName, runName}
 use Rattle.condorbed.specs.declared.requests.Operation.{Operation}
-use Rattle.condorbed.specs.declared.requests.Operation.the-variants.{End, Check, Filter, Priors, Orders, Phase, Flist, Nohap, Unknown}
+use Rattle.condorbed.specs.declared.requests.Operation.the-variants.{End, Check, Filter, Priors, Orders, Phase, Flist, Nohap, Run, Unknown}
 
 -- what a token is where it names an operation
 pub Named : List ℕ → Operation → Type 0
@@ -21,6 +21,7 @@ Named t Orders = t ≡ ordersName
 Named t Phase = t ≡ phaseName
 Named t Flist = t ≡ flistName
 Named t Nohap = t ≡ nohapName
+Named t Run = t ≡ runName
 Named t Unknown = Unit {0}
 
 check-bytes : Bytes checkName
@@ -44,6 +45,9 @@ flist-bytes = more (lit< tt) (more (lit< tt) (more (lit< tt) (more (lit< tt) (mo
 nohap-bytes : Bytes nohapName
 nohap-bytes = more (lit< tt) (more (lit< tt) (more (lit< tt) (more (lit< tt) (more (lit< tt) none))))
 
+run-bytes : Bytes runName
+run-bytes = more (lit< tt) (more (lit< tt) (more (lit< tt) none))
+
 module _ (t : List ℕ) (bytes : Bytes t) where
   -- One name more: where the word is the name's, the token is the name.
   by-test : (name : List ℕ) (op other : Operation) (same : Bool) → eqb (wordOf t) (wordOf name) ≡ same → Bytes name → wordOf name < 2 ^ 56 → (t ≡ name → Named t op) → Named t other → Named t (orElse (wordOf t) name op other)
@@ -64,7 +68,8 @@ module _ (t : List ℕ) (bytes : Bytes t) where
       (name-more ordersName Orders _ orders-bytes (lit< tt) (λ e. e)
       (name-more phaseName Phase _ phase-bytes (lit< tt) (λ e. e)
       (name-more flistName Flist _ flist-bytes (lit< tt) (λ e. e)
-      (name-more nohapName Nohap Unknown nohap-bytes (lit< tt) (λ e. e) tt)))))))
+      (name-more nohapName Nohap _ nohap-bytes (lit< tt) (λ e. e)
+      (name-more runName Run Unknown run-bytes (lit< tt) (λ e. e) tt))))))))
 
 -- Each word names its own operation.
 pub check-named : operationOf (wordOf checkName) ≡ Check
@@ -94,3 +99,7 @@ flist-named = refl
 pub nohap-named : operationOf (wordOf nohapName) ≡ Nohap
 unfolding operationOf wordOf pushedBytes
 nohap-named = refl
+
+pub run-named : operationOf (wordOf runName) ≡ Run
+unfolding operationOf wordOf pushedBytes
+run-named = refl

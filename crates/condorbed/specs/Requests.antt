@@ -5,7 +5,7 @@ use Prim.Native.Nat.{ℕ}
 use lib.Dec.{eqb}
 use Rattle.protocol.specs.Word.{wordOf}
 use Rattle.condorbed.specs.declared.requests.Operation.{Operation}
-use Rattle.condorbed.specs.declared.requests.Operation.the-variants.{End, Check, Filter, Priors, Orders, Phase, Flist, Nohap, Unknown}
+use Rattle.condorbed.specs.declared.requests.Operation.the-variants.{End, Check, Filter, Priors, Orders, Phase, Flist, Nohap, Run, Unknown}
 
 -- `check`
 abbrev pub checkName : List ℕ
@@ -35,6 +35,10 @@ flistName = 102 ∷ 108 ∷ 105 ∷ 115 ∷ 116 ∷ []
 abbrev pub nohapName : List ℕ
 nohapName = 110 ∷ 111 ∷ 104 ∷ 97 ∷ 112 ∷ []
 
+-- `run`
+abbrev pub runName : List ℕ
+runName = 114 ∷ 117 ∷ 110 ∷ []
+
 -- op where the word is the name's, else what the other names give
 abbrev pub orElse : ℕ → List ℕ → Operation → Operation → Operation
 orElse word name op other = cond (eqb word (wordOf name)) op other
@@ -49,4 +53,5 @@ operationOf word =
     (orElse word ordersName Orders
     (orElse word phaseName Phase
     (orElse word flistName Flist
-    (orElse word nohapName Nohap Unknown)))))))
+    (orElse word nohapName Nohap
+    (orElse word runName Run Unknown))))))))

@@ -60,6 +60,18 @@ pub fn haplotypes() -> [u8; 2064]
     [170; 2064]
 }
 
+pub fn likelihoods() -> [i64; 8208]
+    ensures { λ r. ⌜ 8208 ≡ length r ⌝ }
+{
+    [77; 8208]
+}
+
+pub fn posteriors() -> [i64; 9232]
+    ensures { λ r. ⌜ 9232 ≡ length r ⌝ }
+{
+    [77; 9232]
+}
+
 pub fn phased() -> [u8; 1040]
     ensures { λ r. ⌜ 1040 ≡ length r ⌝ }
 {

@@ -10,6 +10,7 @@ mod parts;
 mod phase;
 mod priors;
 mod requests;
+mod run;
 
 fn main() {
     let mut input = io::large_buffer();

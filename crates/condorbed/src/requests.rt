@@ -4,7 +4,7 @@
 // its arrays in arrays.rt, and a file of three functions, as filter.rt: `read_parts` (contract: each length
 // `Counts` in its array), `answer`, which lends the fronts of the arrays, and `call`, which calls the
 // operation and prints the first line and one line for each output slice.
-// Where a request has many parts, `answer` lends what it read to a second function, as in phase.rt, so that
+// Where a request has many parts, `answer` lends what it read to a second function, as in phase.rt and run.rt, so that
 // no function's proof has too much to look through.
 ghost use mathlib.Core.Path.{_≡_};
 ghost use Rattle.condorbed.specs.Requests.{operationOf};
@@ -16,6 +16,7 @@ use crate::nohap;
 use crate::orders;
 use crate::phase;
 use crate::priors;
+use crate::run;
 use protocol::input;
 use protocol::input::Reader;
 
@@ -29,6 +30,7 @@ pub enum Operation {
     Phase,
     Flist,
     Nohap,
+    Run,
     Unknown,
 }
 
@@ -49,6 +51,8 @@ const PHASE: u64 = 1582299181925;
 const FLIST: u64 = 1539417142132;
 
 const NOHAP: u64 = 1573827142000;
+
+const RUN: u64 = 24278382;
 
 // The operation that a word names; none at the end of the input.
 fn named(word: u64) -> Operation
@@ -77,6 +81,9 @@ fn named(word: u64) -> Operation
     }
     if word == NOHAP {
         return Operation::Nohap;
+    }
+    if word == RUN {
+        return Operation::Run;
     }
     Operation::Unknown
 }
@@ -119,6 +126,7 @@ fn answer(
         Operation::Phase => phase::answer(input, reader, output, words, bases),
         Operation::Flist => flist::answer(input, reader, output, words, bases),
         Operation::Nohap => nohap::answer(input, reader, output, words, bases),
+        Operation::Run => run::answer(input, reader, output, words, bases),
         Operation::Unknown => unreadable(output, reader),
     }
 }

@@ -56,8 +56,14 @@ returns-8 c =
 returns-9 : tie.Need-returns-9
 unfolding operationOf wordOf pushedBytes
 returns-9 c =
-    let w = c .before .before .before .before .before .before .before .before .args .word in
-    simp (ne-eqb w 1 (c .before .before .before .before .before .before .before .if1 .left), ne-eqb w 1526464865131 (c .before .before .before .before .before .before .if2 .left), ne-eqb w 394077953877362 (c .before .before .before .before .before .if3 .left), ne-eqb w 405111674204787 (c .before .before .before .before .if4 .left), ne-eqb w 404012078035571 (c .before .before .before .if5 .left), ne-eqb w 1582299181925 (c .before .before .if6 .left), ne-eqb w 1539417142132 (c .before .if7 .left), ne-eqb w 1573827142000 (c .if8 .left))
+    let w = c .before .before .before .before .before .before .before .before .before .args .word in
+    simp (ne-eqb w 1 (c .before .before .before .before .before .before .before .before .if1 .left), ne-eqb w 1526464865131 (c .before .before .before .before .before .before .before .if2 .left), ne-eqb w 394077953877362 (c .before .before .before .before .before .before .if3 .left), ne-eqb w 405111674204787 (c .before .before .before .before .before .if4 .left), ne-eqb w 404012078035571 (c .before .before .before .before .if5 .left), ne-eqb w 1582299181925 (c .before .before .before .if6 .left), ne-eqb w 1539417142132 (c .before .before .if7 .left), ne-eqb w 1573827142000 (c .before .if8 .left), eq-eqb w 24278382 (c .if9 .taken))
+
+returns-10 : tie.Need-returns-10
+unfolding operationOf wordOf pushedBytes
+returns-10 c =
+    let w = c .before .before .before .before .before .before .before .before .before .args .word in
+    simp (ne-eqb w 1 (c .before .before .before .before .before .before .before .before .if1 .left), ne-eqb w 1526464865131 (c .before .before .before .before .before .before .before .if2 .left), ne-eqb w 394077953877362 (c .before .before .before .before .before .before .if3 .left), ne-eqb w 405111674204787 (c .before .before .before .before .before .if4 .left), ne-eqb w 404012078035571 (c .before .before .before .before .if5 .left), ne-eqb w 1582299181925 (c .before .before .before .if6 .left), ne-eqb w 1539417142132 (c .before .before .if7 .left), ne-eqb w 1573827142000 (c .before .if8 .left), ne-eqb w 24278382 (c .if9 .left))
 
 pub named-spec : {M : Type 1} → statement M
-named-spec = tie.close (tie.spec returns returns-2 returns-3 returns-4 returns-5 returns-6 returns-7 returns-8 returns-9)
+named-spec = tie.close (tie.spec returns returns-2 returns-3 returns-4 returns-5 returns-6 returns-7 returns-8 returns-9 returns-10)

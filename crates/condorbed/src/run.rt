@@ -1,0 +1,320 @@
+// `run`: `<words i32>` `<bases u8>` six rates `<phase u8>` `<sets i32>` `<orders u32>` limit `[haplotypes u8]`
+// `[likelihoods i64]` `[posteriors i64]` `[quals f64]` `[gqs f64]`.
+ghost use Rattle.protocol.specs.Input.{Counts};
+use crate::answers::refused;
+use crate::answers::unreadable;
+use crate::arrays;
+use crate::parts::read_case;
+use crate::parts::read_phase;
+use crate::parts::read_rates;
+use genotype_probs::Rates;
+use protocol::input;
+use protocol::input::Reader;
+use protocol::output;
+use with_haplotypes::Round;
+use with_haplotypes::RoundAnswer;
+
+// The answer to the request; the reader after it, which failed where the request is unreadable.
+pub fn answer(
+    input: &mut [u8; 65536],
+    reader: Reader,
+    output: &mut [u8; 65536],
+    words: &mut [i32],
+    bases: &mut [u8],
+) -> Reader {
+    let case = read_case(input, reader, words, bases);
+    let w = case.words;
+    let b = case.bases;
+    let r1 = case.reader;
+    let given = read_rates(input, r1);
+    let rates = given.rates;
+    let after = given.reader;
+    answer_case(input, after, output, &words[..w], &bases[..b], rates)
+}
+
+// The same once the case and the rates are read.
+fn answer_case(
+    input: &mut [u8; 65536],
+    reader: Reader,
+    output: &mut [u8; 65536],
+    words: &[i32],
+    bases: &[u8],
+    rates: Rates,
+) -> Reader {
+    let mut phase = arrays::phase();
+    let mut sets = arrays::sets();
+    let given = read_phase(input, reader, &mut phase, &mut sets);
+    let p = given.phase;
+    let s = given.sets;
+    let after = given.reader;
+    answer_phase(
+        input,
+        after,
+        output,
+        words,
+        bases,
+        rates,
+        &phase[..p],
+        &sets[..s],
+    )
+}
+
+// The same once the given phase is read.
+fn answer_phase(
+    input: &mut [u8; 65536],
+    reader: Reader,
+    output: &mut [u8; 65536],
+    words: &[i32],
+    bases: &[u8],
+    rates: Rates,
+    phase: &[u8],
+    sets: &[i32],
+) -> Reader {
+    let mut orders = arrays::orders();
+    let lent = input::read_u32s(input, reader, &mut orders);
+    let o = lent.length;
+    let r1 = lent.reader;
+    let limit = input::read_u32(input, r1);
+    let after = limit.reader;
+    answer_given(
+        input,
+        after,
+        output,
+        words,
+        bases,
+        rates,
+        phase,
+        sets,
+        &orders[..o],
+        limit.value,
+    )
+}
+
+// The same once all that the operation reads is read.
+fn answer_given(
+    input: &mut [u8; 65536],
+    reader: Reader,
+    output: &mut [u8; 65536],
+    words: &[i32],
+    bases: &[u8],
+    rates: Rates,
+    phase: &[u8],
+    sets: &[i32],
+    orders: &[u32],
+    limit: u32,
+) -> Reader {
+    let mut haplotypes = arrays::haplotypes();
+    let mut likelihoods = arrays::likelihoods();
+    let mut posteriors = arrays::posteriors();
+    let fronts = read_fronts(input, reader, &haplotypes, &likelihoods, &posteriors);
+    let h = fronts.haplotypes;
+    let l = fronts.likelihoods;
+    let p = fronts.posteriors;
+    let after = fronts.reader;
+    answer_lent(
+        input,
+        after,
+        output,
+        words,
+        bases,
+        rates,
+        phase,
+        sets,
+        orders,
+        limit,
+        &mut haplotypes[..h],
+        &mut likelihoods[..l],
+        &mut posteriors[..p],
+    )
+}
+
+// The lengths of the first three output slices, and the reader after them.
+pub struct Fronts {
+    pub haplotypes: usize,
+    pub likelihoods: usize,
+    pub posteriors: usize,
+    pub reader: Reader,
+}
+
+// `[haplotypes u8]` `[likelihoods i64]` `[posteriors i64]`.
+fn read_fronts(
+    input: &mut [u8; 65536],
+    reader: Reader,
+    haplotypes: &[u8],
+    likelihoods: &[i64],
+    posteriors: &[i64],
+) -> Fronts
+    ensures { λ r. ⌜ Counts (r .haplotypes) (now (haplotypes .entry)) × Counts (r .likelihoods) (now (likelihoods .entry)) × Counts (r .posteriors) (now (posteriors .entry)) ⌝ }
+{
+    let h = input::read_front_u8(input, reader, haplotypes);
+    let r1 = h.reader;
+    let l = input::read_front_i64(input, r1, likelihoods);
+    let r2 = l.reader;
+    let p = input::read_front_i64(input, r2, posteriors);
+    let after = p.reader;
+    Fronts {
+        haplotypes: h.length,
+        likelihoods: l.length,
+        posteriors: p.length,
+        reader: after,
+    }
+}
+
+// The same once the haplotypes, likelihoods and posteriors are lent.
+fn answer_lent(
+    input: &mut [u8; 65536],
+    reader: Reader,
+    output: &mut [u8; 65536],
+    words: &[i32],
+    bases: &[u8],
+    rates: Rates,
+    phase: &[u8],
+    sets: &[i32],
+    orders: &[u32],
+    limit: u32,
+    haplotypes: &mut [u8],
+    likelihoods: &mut [i64],
+    posteriors: &mut [i64],
+) -> Reader {
+    let mut quals = arrays::quals();
+    let mut gqs = arrays::gqs();
+    let part = read_qualities(input, reader, &quals, &gqs);
+    let q = part.quals;
+    let g = part.gqs;
+    if !part.reader.ok {
+        return unreadable(output, part.reader);
+    }
+    call(
+        output,
+        words,
+        bases,
+        rates,
+        phase,
+        sets,
+        orders,
+        limit,
+        haplotypes,
+        likelihoods,
+        posteriors,
+        &mut quals[..q],
+        &mut gqs[..g],
+    );
+    part.reader
+}
+
+// The lengths of the slices of qualities, and the reader after them.
+pub struct QualitiesPart {
+    pub quals: usize,
+    pub gqs: usize,
+    pub reader: Reader,
+}
+
+// `[quals f64]` `[gqs f64]`.
+fn read_qualities(
+    input: &mut [u8; 65536],
+    reader: Reader,
+    quals: &[f64],
+    gqs: &[f64],
+) -> QualitiesPart
+    ensures { λ r. ⌜ Counts (r .quals) (now (quals .entry)) × Counts (r .gqs) (now (gqs .entry)) ⌝ }
+{
+    let q = input::read_front_f64(input, reader, quals);
+    let r1 = q.reader;
+    let g = input::read_front_f64(input, r1, gqs);
+    let after = g.reader;
+    QualitiesPart {
+        quals: q.length,
+        gqs: g.length,
+        reader: after,
+    }
+}
+
+// Calls the operation and prints its answer.
+fn call(
+    output: &mut [u8; 65536],
+    words: &[i32],
+    bases: &[u8],
+    rates: Rates,
+    phase: &[u8],
+    sets: &[i32],
+    orders: &[u32],
+    limit: u32,
+    haplotypes: &mut [u8],
+    likelihoods: &mut [i64],
+    posteriors: &mut [i64],
+    quals: &mut [f64],
+    gqs: &mut [f64],
+) {
+    let answer = with_haplotypes::call_genotypes_with_haplotypes(
+        words,
+        bases,
+        rates,
+        phase,
+        sets,
+        orders,
+        limit,
+        haplotypes,
+        likelihoods,
+        posteriors,
+        quals,
+        gqs,
+    );
+    let first = first_line(output, answer);
+    print_slices(
+        output,
+        first,
+        haplotypes,
+        likelihoods,
+        posteriors,
+        quals,
+        gqs,
+    );
+}
+
+// The first line: refused, or done with the fields.
+fn first_line(output: &mut [u8; 65536], answer: Round) -> usize {
+    match answer {
+        Round::Done(x) => done_with(output, x),
+        Round::Refused(r) => refused(output, r),
+    }
+}
+
+// `done SWEEPS settled START END SOURCE`, or `unsettled` in place of `settled`.
+fn done_with(output: &mut [u8; 65536], x: RoundAnswer) -> usize {
+    let mut used = output::text(output, 0, b"done ");
+    used = output::natural(output, used, x.sweeps as u64);
+    used = settled_word(output, used, x.settled);
+    used = output::integer(output, used, x.start);
+    used = output::byte(output, used, b' ');
+    used = output::integer(output, used, x.end);
+    used = output::byte(output, used, b' ');
+    used = output::integer(output, used, x.source);
+    output::byte(output, used, b'\n')
+}
+
+// ` settled ` or ` unsettled `.
+fn settled_word(output: &mut [u8; 65536], used: usize, settled: bool) -> usize {
+    if settled {
+        output::text(output, used, b" settled ")
+    } else {
+        output::text(output, used, b" unsettled ")
+    }
+}
+
+// One line for each output slice.
+fn print_slices(
+    output: &mut [u8; 65536],
+    first: usize,
+    haplotypes: &[u8],
+    likelihoods: &[i64],
+    posteriors: &[i64],
+    quals: &[f64],
+    gqs: &[f64],
+) {
+    let mut used = output::line_u8(output, first, haplotypes);
+    used = output::line_i64(output, used, likelihoods);
+    used = output::line_i64(output, used, posteriors);
+    used = output::line_f64(output, used, quals);
+    used = output::line_f64(output, used, gqs);
+    output::flush(output, used);
+}
