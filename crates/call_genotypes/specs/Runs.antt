@@ -3,12 +3,11 @@ use mathlib.Core.Path.{_≡_}
 use mathlib.Core.Bool.{Bool}
 use mathlib.Core.List.{List}
 use Prim.Native.Nat.{ℕ, _*_, _%_, _≤_}
-use lib.Dec.{T}
 use lib.ListN.{length, take, drop}
 use lib.IntN.{ℤ}
+use Rattle.shuffle.specs.Permutation.{Permutation}
 use Rattle.sweeps.specs.Sweeps.{SweepCase, RunResult, GoodHaps, run}
 use Rattle.sweeps.specs.Demand3.{Demand3}
-use Rattle.sweeps.specs.Incremental.{below, distinct}
 use Rattle.sweeps.specs.Posts.{posts}
 use Rattle.call_genotypes.specs.Held.{Held, Liks}
 use Rattle.call_genotypes.specs.Scores.{rawScores}
@@ -29,8 +28,7 @@ pub record RunStart (C : SweepCase) (ks ph : List ℕ) (pri : List ℤ) (ends wh
   pub some-sweep : 1 ≤ limit
   pub limit-top : limit ≤ 1000000
   pub orders-long : length orders ≡ m * n
-  pub orders-in : (s : ℕ) → T (below n (orderOf orders n m s))
-  pub no-twice : (s : ℕ) → T (distinct (orderOf orders n m s))
+  pub orders-good : (s : ℕ) → Permutation n (orderOf orders n m s)
 
 -- what the run returns and leaves
 abbrev pub resultOf : ℕ → Bool → List ℕ → RunResult
