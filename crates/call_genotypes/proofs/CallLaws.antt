@@ -60,10 +60,6 @@ module _ (tab other : List ℤ) (k : ℕ) (low : 1 ≤ k) (same : (p : ℕ) → 
   unfolding qualFrom
   qual-same = rw (same 0 (omega (arith, place-in 0 0 k low low)))
 
-  pub gq-same : gqFrom tab k ≡ gqFrom other k
-  unfolding gqFrom
-  gq-same = rw called-same
-
 -- ---- the maximum is small, and no certainty is passed
 capped-low : (z : ℤ) → leZ (atMostOne z) (pos 0) ≡ true
 unfolding atMostOne

@@ -10,6 +10,7 @@ use lib.Dec.{T}
 use lib.ListN.{length, take, drop, length-take, length-drop}
 use lib.IntN.{ℤ}
 use Rattle.shuffle.specs.Permutation.{Permutation, allBelow}
+use Rattle.shuffle.specs.Orders.{orderAt}
 use Rattle.sweeps.specs.Sweeps.{SweepCase, GoodHaps, sameHaps, sweep, run}
 use Rattle.sweeps.specs.Demand3.{after}
 use Rattle.sweeps.specs.Posts.{posts}
@@ -43,7 +44,7 @@ module _ {C : SweepCase} {ks ph : List ℕ} {pri : List ℤ} {ends who : List �
 
   -- the part that the code hands over
   pub part-is : (s : ℕ) → take (s % m * n + n - s % m * n) (drop (s % m * n) orders) ≡ o s
-  unfolding orderOf
+  unfolding orderOf orderAt
   part-is s = let e : s % m * n + n - s % m * n ≡ n = omega arith in rw e
 
   order-good : (s : ℕ) → Permutation (C .n) (o s)

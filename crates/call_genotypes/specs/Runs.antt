@@ -3,9 +3,10 @@ use mathlib.Core.Path.{_≡_}
 use mathlib.Core.Bool.{Bool}
 use mathlib.Core.List.{List}
 use Prim.Native.Nat.{ℕ, _*_, _%_, _≤_}
-use lib.ListN.{length, take, drop}
+use lib.ListN.{length}
 use lib.IntN.{ℤ}
 use Rattle.shuffle.specs.Permutation.{Permutation}
+use Rattle.shuffle.specs.Orders.{orderAt}
 use Rattle.sweeps.specs.Sweeps.{SweepCase, RunResult, GoodHaps, run}
 use Rattle.sweeps.specs.Demand3.{Demand3}
 use Rattle.sweeps.specs.Posts.{posts}
@@ -14,7 +15,7 @@ use Rattle.call_genotypes.specs.Scores.{rawScores}
 
 -- sweep s (from 0) uses lent order s mod m, of m orders of n entries each
 unfoldable pub orderOf : List ℕ → ℕ → ℕ → ℕ → List ℕ
-orderOf orders n m s = take n (drop (s % m * n) orders)
+orderOf orders n m s = orderAt n orders (s % m)
 
 -- what stands before the run: the slices hold C, lik the likelihoods of the haplotypes h, and each order has every variant once
 pub record RunStart (C : SweepCase) (ks ph : List ℕ) (pri : List ℤ) (ends who : List ℕ) (quals one-minus-quals : List ℤ) (orders h : List ℕ) (lik post : List ℤ) (n m limit : ℕ) : Type 0 where

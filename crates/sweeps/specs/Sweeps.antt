@@ -7,13 +7,18 @@ use mathlib.Core.List.{List, [], _∷_}
 use Prim.Native.Nat.{ℕ, zero, suc, _+_, _*_, _/_, _%_, _<_, _≤_}
 use lib.Dec.{T, eqb, leb}
 use lib.ListN.{length, getD, set}
-use lib.IntN.{ℤ, pos, _+ℤ_}
+use lib.IntN.{ℤ, pos, _+ℤ_, _-ℤ_}
+use Rattle.steps.specs.Logs.{addExp}
 use Rattle.variants_and_fragments.specs.Case.{Call, rising}
 use Rattle.variants_and_fragments.specs.Sums.{sumOver}
 use Rattle.genotype_probs.specs.Posteriors.{firstMaximum}
 
+-- `ln_add_exp` of a read's two likelihoods less 4,096 each
+unfoldable pub mixOf : ℤ → ℤ → ℤ
+mixOf a b = addExp (a -ℤ pos 4096) (b -ℤ pos 4096)
+
 -- what the sweeps use of a case: N, each variant's k, which variants are phased, the prior of pair (i, j) at a variant, the usable calls
--- of each fragment, and `mix` of a read's two likelihoods: `ln_add_exp` of them less 4,096 each
+-- of each fragment, and `mix` of a read's two likelihoods, which is `mixOf`; what demand 3 says holds whatever `mix` is
 pub record SweepCase : Type 0 where
   pub n : ℕ
   pub k : ℕ → ℕ

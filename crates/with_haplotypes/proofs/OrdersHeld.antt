@@ -3,9 +3,9 @@ use mathlib.Core.List.{List}
 use Prim.Native.Nat.{ℕ, _%_}
 use native.Mathlib.Nat.{mod-lt}
 use Rattle.shuffle.specs.Permutation.{Permutation}
-use Rattle.shuffle.specs.Orders.{orderAt, GoodOrders}
+use Rattle.shuffle.specs.Orders.{GoodOrders}
 use Rattle.call_genotypes.specs.Runs.{orderOf}
 
 pub order-good : (n m : ℕ) (orders : List ℕ) → GoodOrders n orders m → (s : ℕ) → Permutation n (orderOf orders n m s)
-unfolding orderOf orderAt
+unfolding orderOf
 order-good n m orders good s = good .permutation (s % m) (mod-lt s (good .some))

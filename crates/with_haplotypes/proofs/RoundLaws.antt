@@ -49,8 +49,10 @@ module _ {input : RoundInput} {s : Sizes} {m : ℕ} (A : Admitted input s m) whe
   variants-counted = counted (input .rates) (phasedFlags (decode (input .words) (input .bases)) (input .phase)) (input .words) (input .bases) s (A .accepted)
 
   pub orders-same : orderOfSweep input ≡ orderOf (input .orders) (s .n) m
-  unfolding orderOfSweep case
-  orders-same = rw (variants-are known (input .bases), ← A .count-is)
+  unfolding orderOfSweep case orderOf
+  orders-same =
+      ap (λ (n : ℕ). orderOf (input .orders) n (orderCount n (length (input .orders)))) (variants-are known (input .bases))
+      ∙ ap (orderOf (input .orders) (s .n)) (sym (A .count-is))
 
   pub orders-good : (q : ℕ) → Permutation (sweepCase input .n) (orderOfSweep input q)
   orders-good q = rw (variants-counted, orders-same) (order-good (s .n) m (input .orders) (A .good-orders) q)

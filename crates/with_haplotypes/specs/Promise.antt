@@ -20,7 +20,6 @@ use Rattle.haplotype_assembly.specs.GivenPhase.{phaseFault, shortOf}
 use Rattle.shuffle.specs.Answers.{ordersOutcome}
 use Rattle.sweeps.specs.Demand3.{Demand3}
 use Rattle.call_genotypes.specs.Normalized.{firstNotNormal}
-use Rattle.call_genotypes.specs.Runs.{resultOf}
 use Rattle.with_haplotypes.specs.declared.RoundAnswer.{RoundAnswer}
 use Rattle.with_haplotypes.specs.declared.Round.{Round}
 use Rattle.with_haplotypes.specs.declared.Round.the-variants.{Done, Refused}
@@ -81,4 +80,4 @@ pub record CalledWithHaplotypes (input : RoundInput) (sets : List ℤ) (before :
   pub quals-after : after .quals ≡ afterwards (outcomeOf r) (written (λ v. final input v .qual) (length (case input .variants)) (before .quals)) (before .quals)
   pub gqs-after : after .gqs ≡ afterwards (outcomeOf r) (written (λ v. final input v .gq) (length (case input .variants)) (before .gqs)) (before .gqs)
   pub demand3 : (x : RoundAnswer) → outcomeOf r ≡ done x
-      → Demand3 (sweepCase input) (orderOfSweep input) (input .limit) (start input) (resultOf (x .sweeps) (x .settled) (take (2 * length (case input .variants)) (after .haplotypes)))
+      → Demand3 (sweepCase input) (orderOfSweep input) (input .limit) (start input) (record { sweeps = x .sweeps; settled = x .settled; haps = take (2 * length (case input .variants)) (after .haplotypes) })
