@@ -31,31 +31,13 @@ use Rattle.genotype_probs.specs.declared.posteriors.GenotypePost.{GenotypePost}
 use Rattle.genotype_probs.specs.Places.{writtenFrom}
 use Rattle.genotype_probs.specs.Posteriors.{entryAt, postOf, postAt, firstMaximum, maxGenotype, atMostOne, maxGenotypePost, normalized, TableAt}
 use Rattle.genotype_probs.proofs.AlleleLaws.{nine}
-use Rattle.genotype_probs.proofs.Maxima.{genotype-maximum}
+use Rattle.genotype_probs.proofs.Maxima.{genotype-maximum, maximum-same}
 use Rattle.genotype_probs.proofs.TableSums.{tabulate-cong, place-in, pair-in}
 use Rattle.call_genotypes.specs.NoHaplotypes.{calledFrom, qualFrom, gqFrom, alleleCalls, strandCalls, depthAfter, answerFrom}
 use Rattle.call_genotypes.specs.Tally.{countPlace, scoredFrom, PosteriorsMade, madeFrom, answerValues, VariantCalled}
 use Rattle.call_genotypes.proofs.CountLaws.{pile-counted, place-count, forward-reverse}
 
 -- ---- the maximum goes by the k × k entries
-by-pick : (t : Bool) (a b n : ℕ) → a ≤ n → b ≤ n → cond t a b ≤ n
-by-pick true a b n h k = h
-by-pick false a b n h k = k
-
-maximum-in : (f : ℕ → ℤ) (n : ℕ) → firstMaximum f n ≤ n
-unfolding firstMaximum
-maximum-in f zero = omega arith
-maximum-in f (suc n) = by-pick (ltZ (f (firstMaximum f n)) (f n)) n (firstMaximum f n) (suc n) (omega arith) (omega (arith, maximum-in f n))
-
-maximum-same : (f g : ℕ → ℤ) (n : ℕ) → ((p : ℕ) → p < n → f p ≡ g p) → firstMaximum f n ≡ firstMaximum g n
-unfolding firstMaximum
-maximum-same f g zero h = refl
-maximum-same f g (suc n) h =
-    let e = maximum-same f g n (λ p l. h p (omega arith)) in
-    let b = maximum-in f n in
-    let x : f (firstMaximum f n) ≡ g (firstMaximum g n) = h (firstMaximum f n) (omega arith) ∙ ap g e in
-    rw (x, h n (omega arith), e)
-
 module _ (tab other : List ℤ) (k : ℕ) (low : 1 ≤ k) (same : (p : ℕ) → p < k * k → getD tab p (pos 0) ≡ getD other p (pos 0)) where
   post-same : (phased : Bool) (p : ℕ) → p < k * k → postAt phased tab k p ≡ postAt phased other k p
   unfolding postAt postOf entryAt
@@ -77,10 +59,6 @@ module _ (tab other : List ℤ) (k : ℕ) (low : 1 ≤ k) (same : (p : ℕ) → 
   pub qual-same : qualFrom tab ≡ qualFrom other
   unfolding qualFrom
   qual-same = rw (same 0 (omega (arith, place-in 0 0 k low low)))
-
-  pub gq-same : gqFrom tab k ≡ gqFrom other k
-  unfolding gqFrom
-  gq-same = rw called-same
 
 -- ---- the maximum is small, and no certainty is passed
 capped-low : (z : ℤ) → leZ (atMostOne z) (pos 0) ≡ true

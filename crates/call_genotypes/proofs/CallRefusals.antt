@@ -20,7 +20,7 @@ use Rattle.variants_and_fragments.specs.Case.{alleleCount, variantOf}
 use Rattle.variants_and_fragments.specs.Check.{caseOf}
 use Rattle.variants_and_fragments.specs.Check as check
 use Rattle.variants_and_fragments.specs.Decode.{tabulate, decode}
-use Rattle.variants_and_fragments.specs.Refusals.{Outcome, done, number, place, andThen, unless, stop}
+use Rattle.variants_and_fragments.specs.Refusals.{Outcome, done, number, place, andThen, unless, stop, afterwards}
 use Rattle.variants_and_fragments.specs.Written.{written}
 use Rattle.variants_and_fragments.proofs.Accepted.{case-in, bases-in}
 use Rattle.variants_and_fragments.proofs.Decoded.{variants-are, allele-count-is, tabulate-at}
@@ -33,7 +33,7 @@ use Rattle.genotype_probs.specs.Rates.{rateTests, ratesFault}
 use Rattle.genotype_probs.proofs.AlleleLaws.{nine}
 use Rattle.call_genotypes.specs.declared.no_haplotypes.Called.the-variants.{Done, Refused}
 use Rattle.call_genotypes.specs.Normalized.{firstNotNormal}
-use Rattle.call_genotypes.specs.NoHaplotypes.{scoreAt, posteriors, calledOf, outcomeOf, after, CalledNoHaplotypes}
+use Rattle.call_genotypes.specs.NoHaplotypes.{scoreAt, posteriors, calledOf, outcomeOf, CalledNoHaplotypes}
 use Rattle.call_genotypes.specs.Tally.{FewCalls, AcceptedCalled}
 use Rattle.call_genotypes.proofs.Calling.{few-calls}
 use Rattle.call_genotypes.proofs.NormalizedLaws.{none-not-normal}
@@ -49,7 +49,7 @@ module _ (w : List ℤ) (b : List ℕ) (rates : Rates) (variants : List ℤ) (qu
   answers = calledOf w b rates (length variants) (length quals) (length gqs)
 
   refused-with : (x : Refusal) → outcomeOf (Refused x) ≡ answers → CalledNoHaplotypes w b rates variants quals gqs (Refused x) variants quals gqs
-  unfolding outcomeOf after
+  unfolding outcomeOf afterwards
   refused-with x e = record { answer = e; variants-after = refl; quals-after = refl; gqs-after = refl }
 
   pub case-refused : (x : Refusal) → check.outcomeOf (NotAccepted x) ≡ caseOf w b → CalledNoHaplotypes w b rates variants quals gqs (Refused x) variants quals gqs
@@ -115,7 +115,7 @@ module _ (w : List ℤ) (b : List ℕ) (rates : Rates) (variants : List ℤ) (qu
         variants-short h = refused-with (Short (13 * (s .n))) (rw (past-quals, lt-leb (13 * (s .n)) (length variants) h))
 
         pub all-called : 13 * (s .n) ≤ length variants → {variants' : List ℤ} {quals' gqs' : List Float} → AcceptedCalled w b rates (s .n) variants quals gqs variants' quals' gqs' → CalledNoHaplotypes w b rates variants quals gqs Done variants' quals' gqs'
-        unfolding outcomeOf unless after
+        unfolding outcomeOf unless afterwards
         all-called h c =
             let n = variants-are accepted-case b in
             record {

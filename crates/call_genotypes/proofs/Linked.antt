@@ -17,12 +17,12 @@ use Rattle.variants_and_fragments.specs.Pile.{whoOf, pileStart}
 use Rattle.variants_and_fragments.specs.Rows.{rowQual, rowOneMinusQual}
 use Rattle.variants_and_fragments.specs.Decode.{tabulateFrom}
 use Rattle.variants_and_fragments.proofs.Alls.{all-at, all-imp}
-use Rattle.sweeps.specs.Sweeps.{SweepCase, allele0, allele1, score, scoreWith}
+use Rattle.sweeps.specs.Sweeps.{SweepCase, allele0, allele1, score, scoreWith, mixOf}
 use Rattle.sweeps.specs.Incremental.{rowsIn, pileupFrom, share, whichValue, rowValue}
 use Rattle.sweeps.proofs.Basics.{sumOver-cong}
 use Rattle.sweeps.proofs.Scored.{score-pileup}
 use Rattle.sweeps.proofs.Fours.{share-value, allele-sums}
-use Rattle.call_genotypes.specs.Held.{mixOf, GoodRow, Held, Liks}
+use Rattle.call_genotypes.specs.Held.{GoodRow, Held, Liks}
 use Rattle.call_genotypes.specs.Scores.{rowAt, rowsAt, rowFour, PileIn, Within, AlleleSums, pairSum, scoresOf, ScoresRoom, Standing, rawScores}
 use Rattle.call_genotypes.proofs.Sizes.{down-abs, which-low}
 use Rattle.call_genotypes.proofs.Tables.{table-length, table-from, table-same}

@@ -9,12 +9,13 @@ use native.Mathlib.Numerals.{add-one}
 use lib.Dec.{T}
 use lib.ListN.{length, take, drop, length-take, length-drop}
 use lib.IntN.{ℤ}
-use Rattle.sweeps.specs.Sweeps.{SweepCase, GoodHaps, GoodOrder, sameHaps, sweep, run}
+use Rattle.shuffle.specs.Permutation.{Permutation, allBelow}
+use Rattle.shuffle.specs.Orders.{orderAt}
+use Rattle.sweeps.specs.Sweeps.{SweepCase, GoodHaps, sameHaps, sweep, run}
 use Rattle.sweeps.specs.Demand3.{after}
-use Rattle.sweeps.specs.Incremental.{below}
 use Rattle.sweeps.specs.Posts.{posts}
 use Rattle.sweeps.proofs.Link.{flag-same}
-use Rattle.sweeps.proofs.Perm.{perm-good}
+use Rattle.sweeps.proofs.Perm.{permutation-below, permutation-distinct}
 use Rattle.sweeps.proofs.Posts.{length-recorded}
 use Rattle.sweeps.proofs.Run.{demand3}
 use Rattle.sweeps.proofs.Sweep.{sweep-swept}
@@ -43,18 +44,14 @@ module _ {C : SweepCase} {ks ph : List ℕ} {pri : List ℤ} {ends who : List �
 
   -- the part that the code hands over
   pub part-is : (s : ℕ) → take (s % m * n + n - s % m * n) (drop (s % m * n) orders) ≡ o s
-  unfolding orderOf
+  unfolding orderOf orderAt
   part-is s = let e : s % m * n + n - s % m * n ≡ n = omega arith in rw e
 
-  order-length : (s : ℕ) → length (o s) ≡ n
-  unfolding orderOf
-  order-length s = simp (length-take, length-drop) (omega (arith, end-fits s))
+  order-good : (s : ℕ) → Permutation (C .n) (o s)
+  order-good s = subst (λ (x : ℕ). Permutation x (o s)) (R .n-is) (R .orders-good s)
 
-  order-in : (s : ℕ) → T (below (C .n) (o s))
-  order-in s = subst (λ (x : ℕ). T (below x (o s))) (R .n-is) (R .orders-in s)
-
-  order-good : (s : ℕ) → GoodOrder (C .n) (o s)
-  order-good s = perm-good (C .n) (o s) (order-length s ∙ R .n-is) (order-in s) (R .no-twice s)
+  order-in : (s : ℕ) → T (allBelow (C .n) (o s))
+  order-in s = permutation-below (order-good s)
 
   -- ---- the loop
   pub running-start : Running C o limit h₀ h₀ lik₀ post₀ post₀ 0
@@ -83,7 +80,7 @@ module _ {C : SweepCase} {ks ph : List ℕ} {pri : List ℤ} {ends who : List �
     unfolding run
     run-step =
         let e : limit - s ≡ suc (limit - (s + 1)) = omega arith in
-        let f = flag-same C (R .held .good) (o s) h (order-good s .within) (R .no-twice s) (r .good) in
+        let f = flag-same C (R .held .good) (o s) h (order-good s .within) (permutation-distinct (order-good s)) (r .good) in
         let g : sameHaps h (sweep C (o s) h) ≡ not flag = f ∙ ap not (sym (w .told)) in
         r .left ∙ rw (e, w .haps, ← g, add-one)
 

@@ -11,10 +11,9 @@ use Rattle.steps.proofs.Signed.{zlin, up-pos, dn-pos, neg-up, neg-dn, natAbs-pa
 use Rattle.steps.proofs.AddExp.{add-size}
 use Rattle.variants_and_fragments.specs.Case.{Call}
 use Rattle.variants_and_fragments.specs.Sums.{DownTo}
-use Rattle.sweeps.specs.Sweeps.{callTerm}
+use Rattle.sweeps.specs.Sweeps.{callTerm, mixOf}
 use Rattle.sweeps.specs.Incremental.{fourValue, whichValue}
 use Rattle.call_genotypes.specs.declared.score.Four.{Four}
-use Rattle.call_genotypes.specs.Held.{mixOf}
 use Rattle.call_genotypes.specs.Scores.{rowAt, valueOf, rowFour, RowIn, Within, ofAllele, pairSum}
 
 -- a number in −n..0

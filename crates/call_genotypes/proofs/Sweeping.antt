@@ -10,7 +10,8 @@ use lib.ListN.{length, getD, drop, drop-of-length-le}
 use lib.Seq.{length-sets, drop-cons}
 use lib.IntN.{ℤ}
 use Rattle.sweeps.specs.Sweeps.{SweepCase, GoodHaps, score, visit, sweep}
-use Rattle.sweeps.specs.Incremental.{changed, below}
+use Rattle.shuffle.specs.Permutation.{allBelow}
+use Rattle.sweeps.specs.Incremental.{changed}
 use Rattle.sweeps.specs.Posts.{recorded}
 use Rattle.sweeps.proofs.Basics.{and-l, and-r}
 use Rattle.sweeps.proofs.Visit.{visit-good}
@@ -18,11 +19,11 @@ use Rattle.call_genotypes.specs.Held.{Liks}
 use Rattle.call_genotypes.specs.Scores.{rawScores, Standing}
 use Rattle.call_genotypes.specs.Visits.{Visited, SweepStart, Swept}
 
-pub below-at : (n : ℕ) (vs : List ℕ) (p : ℕ) → T (below n vs) → p < length vs → getD vs p 0 < n
-unfolding below
+pub below-at : (n : ℕ) (vs : List ℕ) (p : ℕ) → T (allBelow n vs) → p < length vs → getD vs p 0 < n
+unfolding allBelow
 below-at n [] p t l = absurd (omega arith)
-below-at n (v ∷ vs) zero t l = ltb→lt v n (and-l (ltb v n) (below n vs) t)
-below-at n (v ∷ vs) (suc p) t l = below-at n vs p (and-r (ltb v n) (below n vs) t) (omega arith)
+below-at n (v ∷ vs) zero t l = ltb→lt v n (and-l (ltb v n) (allBelow n vs) t)
+below-at n (v ∷ vs) (suc p) t l = below-at n vs p (and-r (ltb v n) (allBelow n vs) t) (omega arith)
 
 pub record Sweeping (C : SweepCase) (order h₀ h : List ℕ) (lik post₀ post : List ℤ) (flag : Bool) (p : ℕ) : Type 0 where
   pub good : GoodHaps C h

@@ -11,9 +11,8 @@ use Rattle.steps.proofs.Signed.{minus-abs}
 use Rattle.steps.proofs.AddExp.{add-size}
 use Rattle.variants_and_fragments.specs.Sums.{sumOver}
 use Rattle.variants_and_fragments.specs.Decode.{tabulate}
-use Rattle.sweeps.specs.Sweeps.{SweepCase, allele0, allele1, sumTo, likelihood, readShare, totalOf}
+use Rattle.sweeps.specs.Sweeps.{SweepCase, allele0, allele1, sumTo, likelihood, readShare, totalOf, mixOf}
 use Rattle.sweeps.proofs.Basics.{sumTo-cong, lik-cong}
-use Rattle.call_genotypes.specs.Held.{mixOf}
 use Rattle.call_genotypes.specs.Likelihoods.{CallSlices, callsOf, flagged, alleleOn}
 use Rattle.call_genotypes.specs.Totals.{pairPrior, heldCase, priorShare, fragmentShare, PriorsIn}
 use Rattle.call_genotypes.proofs.RunningSums.{table-sum}

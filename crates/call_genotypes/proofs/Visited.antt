@@ -10,15 +10,17 @@ use lib.Dec.{T, eqb, eqb→eq, eqb-refl}
 use lib.ListN.{length, getD, set}
 use lib.Seq.{sets}
 use lib.IntN.{ℤ, pos}
-use Rattle.sweeps.specs.Sweeps.{SweepCase, allele0, allele1, putPair, sameHaps, score, firstMax, bestPair, visit}
+use Rattle.sweeps.specs.Sweeps.{SweepCase, allele0, allele1, putPair, sameHaps, score, bestPair, visit}
 use Rattle.sweeps.proofs.Basics.{and-in, and-l, and-r, same-eq, same-refl, put-self, at0-same, at1-same}
+use Rattle.genotype_probs.specs.Posteriors.{firstMaximum}
+use Rattle.genotype_probs.proofs.Maxima.{maximum-same}
 use Rattle.sweeps.proofs.Visit.{best-first}
 use Rattle.sweeps.proofs.Run.{is-true}
 use Rattle.call_genotypes.specs.Held.{Liks}
 use Rattle.call_genotypes.specs.Scores.{Standing, rawScores}
 use Rattle.call_genotypes.specs.Visits.{Visited}
 use Rattle.call_genotypes.proofs.Tables.{table-length, table-at, sets-at}
-use Rattle.call_genotypes.proofs.Written.{nine, max-same}
+use Rattle.call_genotypes.proofs.Written.{nine}
 
 -- two tests that follow from each other are one
 iff : (a b : Bool) → (T a → T b) → (T b → T a) → a ≡ b
@@ -56,7 +58,7 @@ module _ {C : SweepCase} {ks ph : List ℕ} {pri : List ℤ} {ends who : List �
   unfolding table
   table-nine = table-length (pos 0) (score C v h) 0 (C .k v * C .k v)
 
-  module _ (post' : List ℤ) (b : ℕ) (ep : post' ≡ sets post (9 * v) (rawScores (C .k v) (score C v h))) (eb : b ≡ firstMax (λ g. getD post' (9 * v + g) (pos 0)) (getD ks v 0 * getD ks v 0)) where
+  module _ (post' : List ℤ) (b : ℕ) (ep : post' ≡ sets post (9 * v) (rawScores (C .k v) (score C v h))) (eb : b ≡ firstMaximum (λ g. getD post' (9 * v + g) (pos 0)) (getD ks v 0 * getD ks v 0)) where
     score-at : (g : ℕ) → g < C .k v * C .k v → getD post' (9 * v + g) (pos 0) ≡ score C v h g
     unfolding table
     score-at g l =
@@ -65,10 +67,10 @@ module _ {C : SweepCase} {ks ph : List ℕ} {pri : List ℤ} {ends who : List �
 
     best-is : b ≡ bestPair C v h
     unfolding bestPair
-    best-is = eb ∙ rw k-is (max-same (λ g. getD post' (9 * v + g) (pos 0)) (score C v h) (C .k v * C .k v) score-at)
+    best-is = eb ∙ rw k-is (maximum-same (λ g. getD post' (9 * v + g) (pos 0)) (score C v h) (C .k v * C .k v) score-at)
 
     best-low : b < 9
-    best-low = rw best-is (omega (arith, best-first C (S .held .good) v (S .v-in) h (S .haps) .below, nine (C .k v) (S .held .good .three-alleles v (S .v-in))))
+    best-low = rw best-is (omega (arith, best-first C (S .held .good) v (S .v-in) h (S .haps) .inside, nine (C .k v) (S .held .good .three-alleles v (S .v-in))))
 
     pub first-low : b / getD ks v 0 < 9
     first-low = omega (arith, best-low, div-le-self b (getD ks v 0))

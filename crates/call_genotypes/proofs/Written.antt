@@ -16,7 +16,7 @@ use mir.Val.{toZ, ofZ}
 use mir.ValLaws.{toZ-ofZ}
 use Rattle.variants_and_fragments.specs.Decode.{tabulateFrom, tabulate}
 use Rattle.variants_and_fragments.proofs.Tabulated.{table-start, table-more, table-end}
-use Rattle.sweeps.specs.Sweeps.{firstMax}
+use Rattle.genotype_probs.specs.Posteriors.{firstMaximum}
 use Rattle.sweeps.proofs.Basics.{cond-ind}
 
 pub nine : (k : ℕ) → k ≤ 3 → k * k ≤ 9
@@ -79,23 +79,9 @@ pub pair-mod : (k p i j : ℕ) → p ≡ i * k + j → j < k → p % k ≡ j
 pair-mod k p i j e h = rw e (digits-mod i h)
 
 -- one more number looked at
-pub max-step : (f : ℕ → ℤ) (b b' g : ℕ) (t : Bool) → mag (f b) < 2 ^ 63 → mag (f g) < 2 ^ 63 → b ≡ firstMax f g
-    → ltZ (toZ w64 (ofZ w64 (f b))) (toZ w64 (ofZ w64 (f g))) ≡ t → b' ≡ cond t g b → b' ≡ firstMax f (g + 1)
-unfolding firstMax
+pub max-step : (f : ℕ → ℤ) (b b' g : ℕ) (t : Bool) → mag (f b) < 2 ^ 63 → mag (f g) < 2 ^ 63 → b ≡ firstMaximum f g
+    → ltZ (toZ w64 (ofZ w64 (f b))) (toZ w64 (ofZ w64 (f g))) ≡ t → b' ≡ cond t g b → b' ≡ firstMaximum f (g + 1)
+unfolding firstMaximum
 max-step f b b' g t x y e q r =
     let q' = rw (toZ-ofZ w64 (f b) (record { sfits = x }), toZ-ofZ w64 (f g) (record { sfits = y })) at q in
     rw add-one (cc (q', e, r))
-
--- the first of the greatest is among the numbers looked at
-pub max-low : (f : ℕ → ℤ) (m : ℕ) → firstMax f m ≤ m
-unfolding firstMax
-max-low f zero = omega arith
-max-low f (suc m) = cond-ind (λ b. b ≤ suc m) (ltZ (f (firstMax f m)) (f m)) m (firstMax f m) (λ t. omega arith) (λ t. omega (arith, max-low f m))
-
-pub max-same : (f g : ℕ → ℤ) (m : ℕ) → ((i : ℕ) → i < m → f i ≡ g i) → firstMax f m ≡ firstMax g m
-unfolding firstMax
-max-same f g zero e = refl
-max-same f g (suc m) e =
-    let b = max-same f g m (λ i l. e i (omega arith)) in
-    let x = e (firstMax f m) (omega (arith, max-low f m)) in
-    let y = e m (omega arith) in cc

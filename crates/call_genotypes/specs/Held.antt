@@ -6,20 +6,15 @@ use mathlib.Core.List.{List, [], map}
 use Prim.Native.Nat.{ℕ, _+_, _*_, _/_, _%_, _^_, _<_, _≤_}
 use lib.ListN.{length, getD}
 use lib.Seq.{slice}
-use lib.IntN.{ℤ, pos, natAbs, _-ℤ_}
+use lib.IntN.{ℤ, pos, natAbs}
 use mathlib.Core.Bool.{Bool}
-use Rattle.steps.specs.Logs.{addExp}
 use Rattle.variants_and_fragments.specs.Case.{All}
 use Rattle.variants_and_fragments.specs.Pileup.{Row}
 use Rattle.variants_and_fragments.specs.Pile.{whoOf, pileStart}
 use Rattle.variants_and_fragments.specs.Rows.{rowQual, rowOneMinusQual}
 use Rattle.variants_and_fragments.specs.Sums.{DownTo}
-use Rattle.sweeps.specs.Sweeps.{SweepCase, GoodSweepCase, allele0, allele1, likelihood}
+use Rattle.sweeps.specs.Sweeps.{SweepCase, GoodSweepCase, allele0, allele1, likelihood, mixOf}
 use Rattle.sweeps.specs.Incremental.{pileupFrom}
-
--- 01, section 6: `ln_add_exp` of the two likelihoods less 4,096 each
-unfoldable pub mixOf : ℤ → ℤ → ℤ
-mixOf a b = addExp (a -ℤ pos 4096) (b -ℤ pos 4096)
 
 -- a usable call of one of n fragments: its allele is one of three, and both qualities are in −262144..0
 pub record GoodRow (n : ℕ) (row : Row) : Type 0 where

@@ -13,7 +13,7 @@ use Rattle.steps.specs.OneMinus.{lnOneMinusExp}
 use Rattle.steps.specs.Phred.{phredOf, capped}
 use Rattle.variants_and_fragments.specs.Sums.{sumOver, countOver}
 use Rattle.variants_and_fragments.specs.Case.{Case, Call, alleleCount, variantOf, fragmentOf}
-use Rattle.variants_and_fragments.specs.Refusals.{number, place, Outcome, refused, done, andThen, unless, stop}
+use Rattle.variants_and_fragments.specs.Refusals.{number, place, Outcome, refused, done, andThen, unless, stop, afterwards}
 use Rattle.variants_and_fragments.specs.Check.{caseOf}
 use Rattle.variants_and_fragments.specs.Decode.{tabulate, decode}
 use Rattle.variants_and_fragments.specs.Pileup.{Row, only, pileOf, ambiguousCount}
@@ -132,14 +132,9 @@ unfoldable pub outcomeOf : Called → Outcome Unit
 outcomeOf Done = done tt
 outcomeOf (Refused x) = refused (number x) (place x)
 
--- a lent slice afterwards: with its first n elements written where the answer is done, else as it was
-unfoldable pub after : {X : Type 0} → Outcome Unit → (ℕ → X) → ℕ → List X → List X
-after (done u) g n before = written g n before
-after (refused m p) g n before = before
-
 -- what the operation promises
 pub record CalledNoHaplotypes (w : List ℤ) (b : List ℕ) (rates : Rates) (variants : List ℤ) (quals gqs : List Float) (r : Called) (variants' : List ℤ) (quals' gqs' : List Float) : Type 0 where
   pub answer : outcomeOf r ≡ calledOf w b rates (length variants) (length quals) (length gqs)
-  pub variants-after : variants' ≡ after (outcomeOf r) (answerAt (priorTable rates) (decode w b)) (13 * length (decode w b .variants)) variants
-  pub quals-after : quals' ≡ after (outcomeOf r) (qualAt (priorTable rates) (decode w b)) (length (decode w b .variants)) quals
-  pub gqs-after : gqs' ≡ after (outcomeOf r) (gqAt (priorTable rates) (decode w b)) (length (decode w b .variants)) gqs
+  pub variants-after : variants' ≡ afterwards (outcomeOf r) (written (answerAt (priorTable rates) (decode w b)) (13 * length (decode w b .variants)) variants) variants
+  pub quals-after : quals' ≡ afterwards (outcomeOf r) (written (qualAt (priorTable rates) (decode w b)) (length (decode w b .variants)) quals) quals
+  pub gqs-after : gqs' ≡ afterwards (outcomeOf r) (written (gqAt (priorTable rates) (decode w b)) (length (decode w b .variants)) gqs) gqs

@@ -3,19 +3,19 @@ use mathlib.Core.Path.{_≡_}
 use mathlib.Core.Bool.{Bool}
 use mathlib.Core.List.{List}
 use Prim.Native.Nat.{ℕ, _*_, _%_, _≤_}
-use lib.Dec.{T}
-use lib.ListN.{length, take, drop}
+use lib.ListN.{length}
 use lib.IntN.{ℤ}
+use Rattle.shuffle.specs.Permutation.{Permutation}
+use Rattle.shuffle.specs.Orders.{orderAt}
 use Rattle.sweeps.specs.Sweeps.{SweepCase, RunResult, GoodHaps, run}
 use Rattle.sweeps.specs.Demand3.{Demand3}
-use Rattle.sweeps.specs.Incremental.{below, distinct}
 use Rattle.sweeps.specs.Posts.{posts}
 use Rattle.call_genotypes.specs.Held.{Held, Liks}
 use Rattle.call_genotypes.specs.Scores.{rawScores}
 
 -- sweep s (from 0) uses lent order s mod m, of m orders of n entries each
 unfoldable pub orderOf : List ℕ → ℕ → ℕ → ℕ → List ℕ
-orderOf orders n m s = take n (drop (s % m * n) orders)
+orderOf orders n m s = orderAt n orders (s % m)
 
 -- what stands before the run: the slices hold C, lik the likelihoods of the haplotypes h, and each order has every variant once
 pub record RunStart (C : SweepCase) (ks ph : List ℕ) (pri : List ℤ) (ends who : List ℕ) (quals one-minus-quals : List ℤ) (orders h : List ℕ) (lik post : List ℤ) (n m limit : ℕ) : Type 0 where
@@ -29,8 +29,7 @@ pub record RunStart (C : SweepCase) (ks ph : List ℕ) (pri : List ℤ) (ends wh
   pub some-sweep : 1 ≤ limit
   pub limit-top : limit ≤ 1000000
   pub orders-long : length orders ≡ m * n
-  pub orders-in : (s : ℕ) → T (below n (orderOf orders n m s))
-  pub no-twice : (s : ℕ) → T (distinct (orderOf orders n m s))
+  pub orders-good : (s : ℕ) → Permutation n (orderOf orders n m s)
 
 -- what the run returns and leaves
 abbrev pub resultOf : ℕ → Bool → List ℕ → RunResult

@@ -8,10 +8,10 @@ use lib.Seq.{sets}
 use lib.IntN.{ℤ, pos, natAbs, _+ℤ_}
 use Rattle.variants_and_fragments.specs.Pileup.{Row, rowOf}
 use Rattle.variants_and_fragments.specs.Decode.{tabulateFrom, tabulate}
-use Rattle.sweeps.specs.Sweeps.{SweepCase, GoodHaps, score}
+use Rattle.sweeps.specs.Sweeps.{SweepCase, GoodHaps, score, mixOf}
 use Rattle.sweeps.specs.Incremental.{without, fourValue, whichValue, alleleSum}
 use Rattle.call_genotypes.specs.declared.score.Four.{Four}
-use Rattle.call_genotypes.specs.Held.{mixOf, Held, Liks}
+use Rattle.call_genotypes.specs.Held.{Held, Liks}
 
 -- the row of a pile of v that stands at p
 unfoldable pub rowAt : ℕ → List ℕ → List ℤ → List ℤ → ℕ → Row

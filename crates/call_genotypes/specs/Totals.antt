@@ -6,8 +6,7 @@ use Prim.Native.Nat.{ℕ, _+_, _*_, _^_, _≤_, _<_}
 use lib.IntN.{ℤ, pos, natAbs}
 use lib.ListN.{length, getD}
 use Rattle.variants_and_fragments.specs.Decode.{tabulate}
-use Rattle.sweeps.specs.Sweeps.{SweepCase, allele0, allele1, likelihood}
-use Rattle.call_genotypes.specs.Held.{mixOf}
+use Rattle.sweeps.specs.Sweeps.{SweepCase, allele0, allele1, likelihood, mixOf}
 use Rattle.call_genotypes.specs.Likelihoods.{CallSlices, callsOf, flagged, alleleOn}
 
 -- the prior of the pair (i, j) at v, nine places a variant

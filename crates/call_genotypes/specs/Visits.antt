@@ -10,7 +10,8 @@ use lib.IntN.{ℤ, pos, _+ℤ_, _-ℤ_}
 use Rattle.variants_and_fragments.specs.Pileup.{Row}
 use Rattle.variants_and_fragments.specs.Sums.{sumOver}
 use Rattle.sweeps.specs.Sweeps.{SweepCase, GoodHaps, sameHaps, callTerm, score, visit, sweep}
-use Rattle.sweeps.specs.Incremental.{changed, below}
+use Rattle.shuffle.specs.Permutation.{allBelow}
+use Rattle.sweeps.specs.Incremental.{changed}
 use Rattle.sweeps.specs.Posts.{recorded}
 use Rattle.call_genotypes.specs.Held.{Held, Liks}
 use Rattle.call_genotypes.specs.Scores.{Within, rawScores}
@@ -49,7 +50,7 @@ pub record SweepStart (C : SweepCase) (ks ph : List ℕ) (pri : List ℤ) (ends 
   pub haps : GoodHaps C h
   pub liks : Liks C h lik
   pub room : 9 * C .n ≤ length post
-  pub order-in : T (below (C .n) order)
+  pub order-in : T (allBelow (C .n) order)
 
 -- one sweep visits all variants in a given order; the flag says whether a visit changed its pair
 pub record Swept (C : SweepCase) (order h h' : List ℕ) (lik' post post' : List ℤ) (flag : Bool) : Type 0 where

@@ -8,9 +8,9 @@ ghost use lib.Seq.{sets};
 ghost use lib.IntN.{pos, natAbs, _+ℤ_, _-ℤ_};
 ghost use Rattle.steps.specs.Table.{knots};
 ghost use Rattle.variants_and_fragments.specs.Case.{Call};
-ghost use Rattle.sweeps.specs.Sweeps.{SweepCase, firstMax, score};
+ghost use Rattle.genotype_probs.specs.Posteriors.{firstMaximum};
+ghost use Rattle.sweeps.specs.Sweeps.{SweepCase, score, mixOf};
 ghost use Rattle.sweeps.specs.Incremental.{fourValue};
-ghost use Rattle.call_genotypes.specs.Held.{mixOf};
 ghost use Rattle.call_genotypes.specs.Scores.{valueOf, rowAt, rowsAt, rowFour, RowIn, PileIn, Within, AlleleSums, addFour, ofAllele, pairSum, scoresOf, ScoresRoom, Some, Standing, rawScores};
 use steps::logs::add_exp;
 use variants_and_fragments::pileup::pile_start;
@@ -215,7 +215,7 @@ fn write_scores(pri: &[i64], post: &mut [i64], acc: &[i64; 12], v: usize, k: usi
 // The first of the greatest among the m numbers at `at`. At the loop's head b is the first of the greatest among the first g.
 pub fn first_max(s: &[i64], at: usize, m: usize) -> usize
     requires { ⌜ at + m ≤ length (now s) ⌝ }
-    ensures { λ r. ⌜ r ≡ firstMax (λ g. getD (now (s .entry)) (at + g) (pos 0)) m ⌝ }
+    ensures { λ r. ⌜ r ≡ firstMaximum (λ g. getD (now (s .entry)) (at + g) (pos 0)) m ⌝ }
 {
     let mut b: usize = 0;
     let mut g: usize = 0;

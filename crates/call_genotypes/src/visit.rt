@@ -7,7 +7,8 @@ ghost use lib.Dec.{eqb};
 ghost use lib.ListN.{length, getD, set};
 ghost use lib.IntN.{ℤ, pos, natAbs, _+ℤ_, _-ℤ_};
 ghost use Rattle.steps.specs.Table.{knots};
-ghost use Rattle.sweeps.specs.Sweeps.{SweepCase, GoodHaps, allele0, allele1, putPair, firstMax};
+ghost use Rattle.genotype_probs.specs.Posteriors.{firstMaximum};
+ghost use Rattle.sweeps.specs.Sweeps.{SweepCase, GoodHaps, allele0, allele1, putPair};
 ghost use Rattle.call_genotypes.specs.Held.{Held, Liks};
 ghost use Rattle.call_genotypes.specs.Scores.{rowsAt, PileIn, Within, Some, Standing};
 ghost use Rattle.call_genotypes.specs.Visits.{Moved, Movable, Visited, SweepStart, Swept};
@@ -93,7 +94,7 @@ fn move_pair(
 // The number of v's first pair with the greatest score.
 fn best_pair(ks: &[u8], post: &[i64], v: usize) -> usize
     requires { ⌜ (v < 1024) × (v < length (now ks)) × (getD (now ks) v 0 ≤ 3) × (9 * v + 9 ≤ length (now post)) ⌝ }
-    ensures { λ r. ⌜ r ≡ firstMax (λ g. getD (now (post .entry)) (9 * v + g) (pos 0)) (getD (now (ks .entry)) v 0 * getD (now (ks .entry)) v 0) ⌝ }
+    ensures { λ r. ⌜ r ≡ firstMaximum (λ g. getD (now (post .entry)) (9 * v + g) (pos 0)) (getD (now (ks .entry)) v 0 * getD (now (ks .entry)) v 0) ⌝ }
 {
     let k = ks[v] as usize;
     first_max(post, 9 * v, k * k)

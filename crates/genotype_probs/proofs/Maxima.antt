@@ -1,6 +1,6 @@
 -- The search for the first maximum meets its statement, which one number alone meets.
 -- Assumes nothing.
-use mathlib.Core.Path.{_≡_, sym, subst}
+use mathlib.Core.Path.{_≡_, refl, sym, ap, _∙_, subst}
 use mathlib.Core.Bool.{Bool, true, false, cond}
 use mathlib.Core.List.{List}
 use Prim.Native.Nat.{ℕ, zero, suc, _+_, _*_, _≤_, _<_}
@@ -80,6 +80,25 @@ module _ (f : ℕ → ℤ) where
   pub maximum-kept : (b n : ℕ) → b ≡ firstMaximum f n → ltZ (f b) (f n) ≡ false → b ≡ firstMaximum f (n + 1)
   unfolding firstMaximum
   maximum-kept b n e t = rw (add-one, ← e, t)
+
+-- it is among the numbers looked at, and goes by them alone
+by-pick : (t : Bool) (a b n : ℕ) → a ≤ n → b ≤ n → cond t a b ≤ n
+by-pick true a b n h k = h
+by-pick false a b n h k = k
+
+maximum-in : (f : ℕ → ℤ) (n : ℕ) → firstMaximum f n ≤ n
+unfolding firstMaximum
+maximum-in f zero = omega arith
+maximum-in f (suc n) = by-pick (ltZ (f (firstMaximum f n)) (f n)) n (firstMaximum f n) (suc n) (omega arith) (omega (arith, maximum-in f n))
+
+pub maximum-same : (f g : ℕ → ℤ) (n : ℕ) → ((p : ℕ) → p < n → f p ≡ g p) → firstMaximum f n ≡ firstMaximum g n
+unfolding firstMaximum
+maximum-same f g zero h = refl
+maximum-same f g (suc n) h =
+    let e = maximum-same f g n (λ p l. h p (omega arith)) in
+    let b = maximum-in f n in
+    let x : f (firstMaximum f n) ≡ g (firstMaximum g n) = h (firstMaximum f n) (omega arith) ∙ ap g e in
+    rw (x, h n (omega arith), e)
 
 -- the genotype that is kept is the first maximum of its table
 pub genotype-maximum : (phased : Bool) (tab : List ℤ) (k : ℕ) → 1 ≤ k → FirstMaximum (postAt phased tab k) (k * k) (maxGenotype phased tab k)

@@ -11,7 +11,7 @@ use lib.ListN.{length}
 use Rattle.variants_and_fragments.specs.declared.Sizes.{Sizes}
 use Rattle.variants_and_fragments.specs.declared.Refusal.{Refusal}
 use Rattle.variants_and_fragments.specs.declared.Refusal.the-variants.{Rates as RatesAt, Short}
-use Rattle.variants_and_fragments.specs.Refusals.{number, place, refused, done, andThen, unless, stop}
+use Rattle.variants_and_fragments.specs.Refusals.{number, place, refused, done, andThen, unless, stop, afterwards}
 use Rattle.variants_and_fragments.specs.Check.{caseOf}
 use Rattle.variants_and_fragments.specs.Decode.{decode}
 use Rattle.variants_and_fragments.specs.Written.{written}
@@ -23,7 +23,7 @@ use Rattle.genotype_probs.specs.declared.Priored.the-variants.{Done, Ref
 use Rattle.genotype_probs.specs.Rates.{ratesFault}
 use Rattle.genotype_probs.specs.Priors.{tableEntry, priorTable, priorAt}
 use Rattle.genotype_probs.specs.Places.{TableIn, AllelesIn}
-use Rattle.genotype_probs.specs.Answers.{outcomeOf, prioredOf, priorsAfter, GenotypePriors}
+use Rattle.genotype_probs.specs.Answers.{outcomeOf, prioredOf, GenotypePriors}
 use Rattle.genotype_probs.proofs.RateLaws.{rates-in}
 use Rattle.genotype_probs.proofs.PriorBounds.{entry-down}
 
@@ -45,7 +45,7 @@ table-in rates e =
 module _ (w : List ℤ) (b : List ℕ) (rates : Rates) (before : List ℤ) where
   -- refused, whatever the number: the slice is as it was
   pub refused-with : (x : Refusal) → refused (number x) (place x) ≡ prioredOf w b rates (length before) → GenotypePriors w b rates before (Refused x) before
-  unfolding outcomeOf priorsAfter
+  unfolding outcomeOf afterwards
   refused-with x q = record { answer = q; priors-after = rw (← q) }
 
   -- numbers 1 to 5
@@ -72,7 +72,7 @@ module _ (w : List ℤ) (b : List ℕ) (rates : Rates) (before : List ℤ) where
 
     -- done
     pub all-written : (after : List ℤ) → 7 ≤ ratesFault rates → 9 * (s .n) ≤ length before → after ≡ written (priorAt (priorTable rates) (decode w b)) (9 * (s .n)) before → GenotypePriors w b rates before Done after
-    unfolding unless outcomeOf priorsAfter
+    unfolding unless outcomeOf afterwards
     all-written after h k q =
         let d : prioredOf w b rates (length before) ≡ done tt = past-case ∙ sym (stop-on 6 (ratesFault rates) 7 _ h) ∙ rw (le-leb (9 * (s .n)) (length before) k) in
         let n : length (decode w b .variants) ≡ s .n = variant-count w b ∙ ap (λ (z : Sizes). z .n) (sym (case-in w b s e .shape)) in

@@ -121,16 +121,4 @@ module _ (rates : Rates) (good : RatesIn rates) where
       (prior-down (alleleOf variant 0) (alleleOf variant (p / k)) (alleleOf variant (p % k)))
       (down-more (omega arith) zero-down)
 
-  pub prior-at-down : (case : Case) (e : ℕ) → Down 1052672 (priorAt (priorTable rates) case e)
-  unfolding priorAt
-  prior-at-down case e = all-priors-down (variantOf case (e / 9)) (e % 9)
-
 -- ---- the table's entry of two letters and a reference base
-pub table-diploid : (rates : Rates) (base first second : ℕ) → base < 4 → first < 6 → second < 6 → getD (priorTable rates) (tableIndex base first second) (pos 0) ≡ diploid rates base first second
-unfolding priorTable tableIndex tableEntry
-table-diploid rates base first second h k l =
-    let i = 36 * base + 6 * first + second in
-    let x : i / 36 ≡ base = omega arith in
-    let y : i / 6 % 6 ≡ first = omega arith in
-    let z : i % 6 ≡ second = omega arith in
-    tabulate-at 144 (tableEntry rates) i (pos 0) (omega arith) ∙ rw (x, y, z)

@@ -129,19 +129,3 @@ sum-small : (f : ℕ → ℤ) (n k : ℕ) → 1 ≤ k → ((j : ℕ) → j < k �
 sum-small f n k h each =
     let r = from-small f n n (f 0) 1 (k - 1) (omega arith) (each 0 h) (λ j m. each j (omega arith)) in
     rw (sum-first f k h) (omega arith)
-
--- the sum of row sums of k × k entries
-pub table-sum-small : (tab : List ℤ) (n k : ℕ) → 1 ≤ k → ((p : ℕ) → p < k * k → natAbs (getD tab p (pos 0)) ≤ n) → natAbs (tableSum tab k) ≤ n + 4096 * k + 4096 * k
-unfolding tableSum rowSum entryAt
-table-sum-small tab n k h each =
-    sum-small (rowSum tab k) (n + 4096 * k) k h
-    (λ i m. sum-small (entryAt tab k i) n k h (λ j l. each (i * k + j) (place-in i j k m l)))
-
--- the slice that `normalize` leaves has a table there whose sum of row sums is 0
-pub normalized-slice : (post : List ℤ) (at k : ℕ) → TableAt post at k → tableSum (drop at (writtenFrom (normalized (drop at post) k) at 9 post)) k ≡ pos 0
-normalized-slice post at k t =
-    let g = normalized (drop at post) k in
-    normal-sum (drop at post) (drop at (writtenFrom g at 9 post)) k (t .k-low)
-    (λ p h.
-    let m = nine k (t .k-high) in
-    getD-drop at (writtenFrom g at 9 post) p (pos 0) ∙ from-at g at 9 post p (pos 0) (t .inside) (omega arith))

@@ -6,7 +6,7 @@ use Prim.Native.Nat.{ℕ, _*_}
 use lib.Dec.{leb}
 use lib.IntN.{ℤ}
 use lib.ListN.{length}
-use Rattle.variants_and_fragments.specs.Refusals.{number, place, Outcome, refused, done, andThen, unless, stop}
+use Rattle.variants_and_fragments.specs.Refusals.{number, place, Outcome, refused, done, andThen, unless, stop, afterwards}
 use Rattle.variants_and_fragments.specs.Check.{caseOf}
 use Rattle.variants_and_fragments.specs.Decode.{decode}
 use Rattle.variants_and_fragments.specs.Written.{written}
@@ -27,12 +27,7 @@ prioredOf w b rates places =
     andThen (caseOf w b)
     (λ s. stop 6 (ratesFault rates) 7 (unless (leb (9 * (s .n)) places) 10 (9 * (s .n)) (done tt)))
 
--- the slice afterwards: each variant's nine places where the answer is done, else as it was
-unfoldable pub priorsAfter : Outcome Unit → List ℤ → List ℕ → Rates → List ℤ → List ℤ
-priorsAfter (done x) w b rates before = written (priorAt (priorTable rates) (decode w b)) (9 * length (decode w b .variants)) before
-priorsAfter (refused n p) w b rates before = before
-
--- what the operation promises
+-- what the operation promises: each variant's nine places written where it is done
 pub record GenotypePriors (w : List ℤ) (b : List ℕ) (rates : Rates) (before : List ℤ) (r : Priored) (after : List ℤ) : Type 0 where
   pub answer : outcomeOf r ≡ prioredOf w b rates (length before)
-  pub priors-after : after ≡ priorsAfter (prioredOf w b rates (length before)) w b rates before
+  pub priors-after : after ≡ afterwards (prioredOf w b rates (length before)) (written (priorAt (priorTable rates) (decode w b)) (9 * length (decode w b .variants)) before) before

@@ -12,13 +12,12 @@ use lib.Seq.{sets, sets-eq}
 use Rattle.variants_and_fragments.specs.declared.Sizes.{Sizes}
 use Rattle.variants_and_fragments.specs.declared.Refusal.{Refusal}
 use Rattle.variants_and_fragments.specs.declared.Refusal.the-variants.{Short}
-use Rattle.variants_and_fragments.specs.Refusals.{Outcome, refused, done, number, place, andThen, unless}
+use Rattle.variants_and_fragments.specs.Refusals.{Outcome, refused, done, number, place, andThen, unless, afterwards}
 use Rattle.variants_and_fragments.specs.Check.{caseOf}
 use Rattle.variants_and_fragments.specs.Decode.{decode}
 use Rattle.haplotype_assembly.specs.declared.Buffered.the-variants.{Done, Refused}
 use Rattle.haplotype_assembly.specs.Lines.{flistBuffer}
 use Rattle.haplotype_assembly.specs.LinesRead.{linesAt, linesCount}
-use Rattle.haplotype_assembly.specs.GivenPhase.{whenDone}
 use Rattle.haplotype_assembly.specs.FlistBuffer.{flistChecks, flistOutcome, bufferedOutcome, startingWith, FlistBuffer}
 use Rattle.haplotype_assembly.proofs.LinesDecoded.{buffer-is, lines-are}
 
@@ -29,7 +28,7 @@ starting bytes l h = let e : 0 + length bytes ≡ length bytes = omega arith in 
 
 module _ (w : List ℤ) (b : List ℕ) (single : Bool) (buffer : List ℕ) where
   turned-down : (x : Refusal) → flistOutcome w b single (length buffer) ≡ refused (number x) (place x) → FlistBuffer w b single buffer (Refused x) buffer
-  unfolding bufferedOutcome whenDone
+  unfolding bufferedOutcome afterwards
   turned-down x e = record { outcome = refused (number x) (place x); outcome-is = sym e; answer = refl; buffer-after = refl }
 
   -- 1 to 5
@@ -52,7 +51,7 @@ module _ (w : List ℤ) (b : List ℕ) (single : Bool) (buffer : List ℕ) where
 
     pub buffer-done : (n m : ℕ) → n ≡ length (linesAt w s single 0 0 (s .f)) → m ≡ linesCount w s single 0 (s .f) → n ≤ length buffer
         → (buffer2 : List ℕ) → buffer2 ≡ sets buffer 0 (linesAt w s single 0 0 (s .f)) → FlistBuffer w b single buffer (Done n m) buffer2
-    unfolding flistChecks unless bufferedOutcome whenDone
+    unfolding flistChecks unless bufferedOutcome afterwards
     buffer-done n m q p h buffer2 x = record {
       outcome = done (record { bytes = n; lines = m });
       outcome-is = sym (checks ∙ rw (← (need n q), ← (p ∙ lines-are w b s e single), le-leb n (length buffer) h));

@@ -16,12 +16,12 @@ use Rattle.variants_and_fragments.specs.declared.Checked.{Checked}
 use Rattle.variants_and_fragments.specs.declared.Checked.the-variants.{Accepted, Refused as CaseRefused}
 use Rattle.variants_and_fragments.specs.First.{firstFail}
 use Rattle.variants_and_fragments.specs.Written.{written}
-use Rattle.variants_and_fragments.specs.Refusals.{Outcome, refused, done, number, place, andThen, unless}
+use Rattle.variants_and_fragments.specs.Refusals.{Outcome, refused, done, number, place, andThen, unless, afterwards}
 use Rattle.variants_and_fragments.specs.Check.{caseOf, outcomeOf as checkedOutcome}
 use Rattle.haplotype_assembly.specs.declared.Phased.the-variants.{Done, Refused}
 use Rattle.haplotype_assembly.specs.Phase.{earlier}
 use Rattle.haplotype_assembly.specs.PhaseRead.{startAt, flagsAt, phaseNameAt}
-use Rattle.haplotype_assembly.specs.GivenPhase.{setsOk, phaseFaultAt, phaseFault, shortOf, phaseShort, phaseChecks, phaseOutcome, outcomeOf, whenDone, GivenPhase}
+use Rattle.haplotype_assembly.specs.GivenPhase.{setsOk, phaseFaultAt, phaseFault, shortOf, phaseShort, phaseChecks, phaseOutcome, outcomeOf, GivenPhase}
 use Rattle.haplotype_assembly.proofs.Cited.{first-all}
 use Rattle.haplotype_assembly.proofs.Names.{earlier-right, earlier-left, earlier-first, earlier-second}
 use Rattle.haplotype_assembly.proofs.Decodes.{start-is, flags-are, names-are}
@@ -93,7 +93,7 @@ module _ (w : List ℤ) (b bytes : List ℕ) (sets : List ℤ) (haplotypes phase
   whole = phaseOutcome w b bytes sets (length haplotypes) (length phased) (length names)
 
   turned-down : (x : Refusal) → whole ≡ refused (number x) (place x) → GivenPhase w b bytes sets haplotypes phased names (Refused x) haplotypes phased names
-  unfolding outcomeOf whenDone
+  unfolding outcomeOf afterwards
   turned-down x e = record {
     outcome = refused (number x) (place x);
     outcome-is = sym e;
@@ -127,7 +127,7 @@ module _ (w : List ℤ) (b bytes : List ℕ) (sets : List ℤ) (haplotypes phase
       pub answer-done : phaseShort (s .n) (length haplotypes) (length phased) (length names) ≡ 0 → (haplotypes2 phased2 names2 : List ℕ)
           → haplotypes2 ≡ written (startAt w bytes) (2 * s .n) haplotypes → phased2 ≡ written (flagsAt w bytes) (s .n) phased → names2 ≡ written (phaseNameAt w bytes sets (s .n)) (s .n) names
           → GivenPhase w b bytes sets haplotypes phased names Done haplotypes2 phased2 names2
-      unfolding phaseChecks unless outcomeOf whenDone
+      unfolding phaseChecks unless outcomeOf afterwards
       answer-done z haplotypes2 phased2 names2 x y t = record {
         outcome = done tt;
         outcome-is = sym (checks ∙ rw (lt-ltb (s .n) (phaseFault (s .n) bytes sets) clean, eq-eqb _ _ z));

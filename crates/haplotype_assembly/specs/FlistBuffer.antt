@@ -7,14 +7,13 @@ use Prim.Native.Nat.{ℕ}
 use lib.Dec.{leb}
 use lib.IntN.{ℤ}
 use lib.ListN.{length, drop}
-use Rattle.variants_and_fragments.specs.Refusals.{Outcome, refused, done, number, place, andThen, unless}
+use Rattle.variants_and_fragments.specs.Refusals.{Outcome, refused, done, number, place, andThen, unless, afterwards}
 use Rattle.variants_and_fragments.specs.Check.{caseOf}
 use Rattle.variants_and_fragments.specs.Case.{Case}
 use Rattle.variants_and_fragments.specs.Decode.{decode}
 use Rattle.haplotype_assembly.specs.declared.Buffered.{Buffered}
 use Rattle.haplotype_assembly.specs.declared.Buffered.the-variants.{Done, Refused}
 use Rattle.haplotype_assembly.specs.Lines.{flistBuffer, flistLines}
-use Rattle.haplotype_assembly.specs.GivenPhase.{whenDone}
 
 -- how many bytes and lines are written
 pub record Amount : Type 0 where
@@ -45,4 +44,4 @@ pub record FlistBuffer (w : List ℤ) (b : List ℕ) (single : Bool) (buffer : L
   pub outcome : Outcome Amount
   pub outcome-is : outcome ≡ flistOutcome w b single (length buffer)
   pub answer : bufferedOutcome r ≡ outcome
-  pub buffer-after : buffer2 ≡ whenDone outcome (startingWith (flistBuffer (decode w b) single) buffer) buffer
+  pub buffer-after : buffer2 ≡ afterwards outcome (startingWith (flistBuffer (decode w b) single) buffer) buffer

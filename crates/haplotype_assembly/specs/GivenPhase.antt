@@ -9,7 +9,7 @@ use lib.IntN.{ℤ, pos, negsuc}
 use lib.ListN.{length, getD}
 use Rattle.variants_and_fragments.specs.First.{firstFail}
 use Rattle.variants_and_fragments.specs.Written.{written}
-use Rattle.variants_and_fragments.specs.Refusals.{Outcome, refused, done, number, place, andThen, unless}
+use Rattle.variants_and_fragments.specs.Refusals.{Outcome, refused, done, number, place, andThen, unless, afterwards}
 use Rattle.variants_and_fragments.specs.Check.{caseOf}
 use Rattle.variants_and_fragments.specs.Decode.{decode}
 use Rattle.haplotype_assembly.specs.declared.Phased.{Phased}
@@ -61,16 +61,11 @@ unfoldable pub outcomeOf : Phased → Outcome Unit
 outcomeOf Done = done tt
 outcomeOf (Refused x) = refused (number x) (place x)
 
--- what is written where the operation is done, and what stands where it is refused
-unfoldable pub whenDone : {X A : Type 0} → Outcome X → A → A → A
-whenDone (done x) new old = new
-whenDone (refused n p) new old = old
-
 -- the answer, and each lent slice afterwards
 pub record GivenPhase (w : List ℤ) (b bytes : List ℕ) (sets : List ℤ) (haplotypes phased names : List ℕ) (r : Phased) (haplotypes2 phased2 names2 : List ℕ) : Type 0 where
   pub outcome : Outcome Unit
   pub outcome-is : outcome ≡ phaseOutcome w b bytes sets (length haplotypes) (length phased) (length names)
   pub answer : outcomeOf r ≡ outcome
-  pub haplotypes-after : haplotypes2 ≡ whenDone outcome (written (startAllele (decode w b) bytes) (2 * length (decode w b .variants)) haplotypes) haplotypes
-  pub phased-after : phased2 ≡ whenDone outcome (written (λ v. flagOf (phasedFlags (decode w b) bytes v)) (length (decode w b .variants)) phased) phased
-  pub names-after : names2 ≡ whenDone outcome (written (phaseName (decode w b) bytes sets) (length (decode w b .variants)) names) names
+  pub haplotypes-after : haplotypes2 ≡ afterwards outcome (written (startAllele (decode w b) bytes) (2 * length (decode w b .variants)) haplotypes) haplotypes
+  pub phased-after : phased2 ≡ afterwards outcome (written (λ v. flagOf (phasedFlags (decode w b) bytes v)) (length (decode w b .variants)) phased) phased
+  pub names-after : names2 ≡ afterwards outcome (written (phaseName (decode w b) bytes sets) (length (decode w b .variants)) names) names

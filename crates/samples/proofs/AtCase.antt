@@ -1,14 +1,14 @@
 -- A round at a case that its words are known to stand for: the run and the answer of the same definitions with that
 -- case in place of the decoded one, so that what is computed next has no words in it.
 -- Assumes nothing.
-use mathlib.Core.Path.{_≡_, refl}
+use mathlib.Core.Path.{_≡_, ap}
+use Prim.Native.Nat.{_%_}
 use lib.ListN.{length}
 use Rattle.variants_and_fragments.specs.Case.{Case}
 use Rattle.variants_and_fragments.specs.Decode.{decode}
 use Rattle.haplotype_assembly.specs.Phase.{phasedFlags, startHaplotypes}
-use Rattle.shuffle.specs.Orders.{orderCount}
+use Rattle.shuffle.specs.Orders.{orderCount, orderAt}
 use Rattle.sweeps.specs.Sweeps.{SweepCase, RunResult, run, phasedTotal, sourceTotal}
-use Rattle.call_genotypes.specs.Runs.{orderOf}
 use Rattle.call_genotypes.specs.SweepCaseOf.{sweepCaseOf}
 use Rattle.with_haplotypes.specs.declared.RoundAnswer.{RoundAnswer}
 use Rattle.with_haplotypes.specs.Round.{RoundInput, case, sweepCase, start, orderOfSweep, result, returned}
@@ -18,7 +18,7 @@ module _ (input : RoundInput) (c : Case) where
   sweepCaseAt = sweepCaseOf (input .rates) (phasedFlags c (input .phase)) c
 
   unfoldable pub resultAt : RunResult
-  resultAt = run sweepCaseAt (orderOf (input .orders) (length (c .variants)) (orderCount (length (c .variants)) (length (input .orders)))) (input .limit) 0 (startHaplotypes c (input .phase))
+  resultAt = run sweepCaseAt (λ s. orderAt (length (c .variants)) (input .orders) (s % orderCount (length (c .variants)) (length (input .orders)))) (input .limit) 0 (startHaplotypes c (input .phase))
 
   unfoldable pub returnedAt : RoundAnswer
   returnedAt = record {
@@ -29,15 +29,15 @@ module _ (input : RoundInput) (c : Case) where
     source = sourceTotal sweepCaseAt (resultAt .haps);
   }
 
-  module _ (decoded : decode (input .words) (input .bases) ≡ c) where
-    pub start-at : start input ≡ startHaplotypes c (input .phase)
-    unfolding start case
-    start-at = rw decoded refl
+module _ (input : RoundInput) (c : Case) (decoded : decode (input .words) (input .bases) ≡ c) where
+  pub start-at : start input ≡ startHaplotypes c (input .phase)
+  unfolding start case
+  start-at = ap (λ (x : Case). startHaplotypes x (input .phase)) decoded
 
-    pub result-at : result input ≡ resultAt
-    unfolding result sweepCase start orderOfSweep case resultAt
-    result-at = rw decoded refl
+  pub result-at : result input ≡ resultAt input c
+  unfolding result sweepCase start orderOfSweep case resultAt
+  result-at = ap (resultAt input) decoded
 
-    pub returned-at : returned input ≡ returnedAt
-    unfolding returned result sweepCase start orderOfSweep case resultAt returnedAt
-    returned-at = rw decoded refl
+  pub returned-at : returned input ≡ returnedAt input c
+  unfolding returned result sweepCase start orderOfSweep case resultAt returnedAt
+  returned-at = ap (returnedAt input) decoded

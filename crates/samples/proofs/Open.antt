@@ -21,14 +21,13 @@ use Rattle.variants_and_fragments.specs.Pileup.{only, usableCalls}
 use Rattle.genotype_probs.specs.Rates.{rateOk, rateSum, rateTests, ratesFault}
 use Rattle.genotype_probs.specs.Letters.{letterOf, firstLetter, stopAt, compared}
 use Rattle.genotype_probs.specs.Priors.{finite, oneMinusExp, isIndel, transition, change, letterValue, haploid, homozygous, diploid, tableEntry, priorTable, tableIndex, tableValue, lookup, getPrior, allPriors}
+use Rattle.genotype_probs.specs.Posteriors.{firstMaximum}
 use Rattle.haplotype_assembly.specs.Phase.{orderedFirst, orderedSecond, phasedTest, phasedRule, phased, phasedFlags, pairPlace, startAllele, startHaplotypes}
 use Rattle.haplotype_assembly.specs.GivenPhase.{setsOk, phaseFaultAt}
 use Rattle.shuffle.specs.Permutation.{times, allBelow, eachOnce, permutes}
 use Rattle.shuffle.specs.Orders.{orderCount, orderAt}
 use Rattle.shuffle.specs.Answers.{firstBadOrder, ordersOutcome}
-use Rattle.sweeps.specs.Sweeps.{putPair, sameHaps, sumTo, callTerm, likelihood, perCall, readShare, scoreWith, score, firstMax, bestPair, visit, sweep, run, totalOf}
-use Rattle.call_genotypes.specs.Held.{mixOf}
-use Rattle.call_genotypes.specs.Runs.{orderOf}
+use Rattle.sweeps.specs.Sweeps.{putPair, sameHaps, sumTo, callTerm, likelihood, perCall, readShare, scoreWith, score, bestPair, visit, sweep, run, totalOf, mixOf}
 use Rattle.call_genotypes.specs.SweepCaseOf.{sweepCaseOf}
 use Rattle.with_haplotypes.specs.Promise.{limitChecks, roundChecks}
 
@@ -59,7 +58,7 @@ phases = tt
 
 -- section 6, at a decoded case
 unfoldable pub rounds : Unit {0}
-unfolding priors phases sweepCaseOf usableCalls only usable mixOf orderOf orderCount sumOver putPair sameHaps sumTo callTerm likelihood perCall readShare scoreWith score firstMax bestPair visit sweep run totalOf
+unfolding priors phases sweepCaseOf usableCalls only usable mixOf orderAt orderCount sumOver putPair sameHaps sumTo callTerm likelihood perCall readShare scoreWith score firstMaximum bestPair visit sweep run totalOf
 rounds = tt
 
 -- refusals 6 to 9

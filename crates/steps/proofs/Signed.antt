@@ -268,9 +268,6 @@ module _ (w : Width) {x y : ℤ} (fx : SFits w x) (fy : SFits w y) where
   pub read-le : leZ (toZ w (ofZ w x)) (toZ w (ofZ w y)) ≡ leZ x y
   read-le = rw (toZ-ofZ fx, toZ-ofZ fy)
 
-  pub read-lt : ltZ (toZ w (ofZ w x)) (toZ w (ofZ w y)) ≡ ltZ x y
-  read-lt = rw (toZ-ofZ fx, toZ-ofZ fy)
-
   -- two values with one pattern of bits are equal
   pub read-eq : ofZ w x ≡ ofZ w y → x ≡ y
   read-eq e = sym (toZ-ofZ fx) ∙ ap (toZ w) e ∙ toZ-ofZ fy

@@ -1,5 +1,4 @@
 pub mod Basics
-pub mod Top
 pub mod Visit
 pub mod Sweep
 pub mod Run

@@ -10,8 +10,9 @@ use lib.ListN.{length, getD}
 use lib.IntN.{ℤ, pos, _+ℤ_, +ℤ-idl, +ℤ-idr, +ℤ-comm}
 use Rattle.variants_and_fragments.specs.Case.{Call}
 use Rattle.variants_and_fragments.specs.Sums.{sumOver}
-use Rattle.sweeps.specs.Sweeps.{SweepCase, allele0, allele1, putPair, sameHaps, sumTo, callTerm, likelihood, hasCall, bestPair, visit, sweep, member, GoodSweepCase, GoodHaps}
-use Rattle.sweeps.specs.Incremental.{termAt, changed, below, distinct}
+use Rattle.shuffle.specs.Permutation.{member}
+use Rattle.sweeps.specs.Sweeps.{SweepCase, allele0, allele1, putPair, sameHaps, sumTo, callTerm, likelihood, hasCall, bestPair, visit, sweep, GoodSweepCase, GoodHaps}
+use Rattle.sweeps.specs.Incremental.{termAt, changed, distinct}
 use Rattle.sweeps.proofs.Basics.{which, cond-yes, cond-no, or-l, or-r, or-cases, and-l, and-r, eqb-no, at0-other, at1-other, same-eq, same-refl, sumTo-cong}
 use Rattle.steps.proofs.Signed.{up-pos, dn-pos, parts-add, zlin}
 use Rattle.sweeps.proofs.Visit.{visit-good, visit-at0, visit-at1, fixed-stays}

@@ -12,11 +12,13 @@ use lib.Dec.{T, eqb}
 use lib.ListN.{length, getD}
 use lib.IntN.{ℤ, pos, negℤ, _+ℤ_, _-ℤ_, _*ℤ_}
 use lib.Signed.{_≤ℤ_, _<ℤ_, ≤ℤ-refl}
-use Rattle.sweeps.specs.Sweeps.{SweepCase, RunResult, allele0, allele1, sameHaps, scoreWith, score, countTo, bestPair, visit, sweep, run, phasedTotal, pairNumber, phasedCount, member, times, GoodSweepCase, GoodHaps, GoodOrder}
+use Rattle.shuffle.specs.Permutation.{Permutation, member, times}
+use Rattle.shuffle.proofs.Times.{times-member}
+use Rattle.genotype_probs.specs.Posteriors.{FirstMaximum}
+use Rattle.sweeps.specs.Sweeps.{SweepCase, RunResult, allele0, allele1, sameHaps, scoreWith, score, countTo, bestPair, visit, sweep, run, phasedTotal, pairNumber, phasedCount, GoodSweepCase, GoodHaps}
 use Rattle.sweeps.specs.Demand3.{after, Stands, Ends, Demand3}
 use Rattle.sweeps.proofs.Basics.{which, cond-ind, same-eq, same-refl, countTo-le}
 use Rattle.steps.proofs.Signed.{up, dn, up-pos, dn-pos, parts-add, neg-up, neg-dn, parts-times, zlin}
-use Rattle.sweeps.proofs.Top.{First}
 use Rattle.sweeps.proofs.Visit.{Gain, Fixed, places, total-cong, places-cong, best-first, idx-below, square-nine}
 use Rattle.sweeps.proofs.Sweep.{Quiet, Swept, sweep-swept, fixed-sweep}
 
@@ -32,19 +34,10 @@ pub is-false : (b : Bool) → T (not b) → b ≡ false
 is-false true t = absurd t
 is-false false t = refl
 
-some-time : (v : ℕ) (vs : List ℕ) → 1 ≤ times v vs → T (member v vs)
-unfolding times member
-some-time v [] l = absurd (omega arith)
-some-time v (w ∷ ws) l = go (eqb w v) l (some-time v ws)
-  where
-    go : (b : Bool) → 1 ≤ cond b 1 0 + times v ws → (1 ≤ times v ws → T (member v ws)) → T (b || member v ws)
-    go true k f = tt
-    go false k f = f (omega arith)
+pub each-of : {n : ℕ} {vs : List ℕ} → Permutation n vs → (v : ℕ) → v < n → T (member v vs)
+each-of {n} {vs} q v l = times-member v vs (omega (arith, q .once v l))
 
-pub each-of : {n : ℕ} {vs : List ℕ} → GoodOrder n vs → (v : ℕ) → v < n → T (member v vs)
-each-of {n} {vs} q v l = some-time v vs (omega (arith, q .once v l))
-
-module _ (C : SweepCase) (g : GoodSweepCase C) (o : ℕ → List ℕ) (ok : (s : ℕ) → GoodOrder (C .n) (o s)) where
+module _ (C : SweepCase) (g : GoodSweepCase C) (o : ℕ → List ℕ) (ok : (s : ℕ) → Permutation (C .n) (o s)) where
   -- where every variant is fixed, the next sweep is the last
   pub record Rests (s : ℕ) (h : List ℕ) (r : RunResult) : Type 0 where
     pub same-haps : r .haps ≡ h
@@ -183,11 +176,11 @@ module _ (C : SweepCase) (g : GoodSweepCase C) (o : ℕ → List ℕ) (ok : (s :
 
   fixed-stands : (h : List ℕ) → GoodHaps C h → (v : ℕ) → v < C .n → Fixed C v h → Stands C h v
   fixed-stands h H v l fx = record {
-    most = λ i j a b. rw (← score-pair h v i j b, ← score-here) (r .most (i * C .k v + j) (digits-lt a b));
-    first = λ i j a b c. rw (← score-pair h v i j b, ← score-here) (r .before (i * C .k v + j) (rw here at c));
+    most = λ i j a b. rw (← score-pair h v i j b, ← score-here) (r .greatest (i * C .k v + j) (digits-lt a b));
+    first = λ i j a b c. rw (← score-pair h v i j b, ← score-here) (r .first (i * C .k v + j) (rw here at c));
   }
     where
-      r : First (score C v h) (C .k v * C .k v) (bestPair C v h)
+      r : FirstMaximum (score C v h) (C .k v * C .k v) (bestPair C v h)
       r = best-first C g v l h H
 
       here : pairNumber C h v ≡ bestPair C v h

@@ -119,14 +119,6 @@ module _ (m : ℕ → Bool) (v : ℕ) (a a' : ℕ → ℕ) (f : (w : ℕ) → w 
       go w (inl t) = rw (is-true (eqb w v) t, eqb→eq w v t) (is-true (m v) p)
       go w (inr t) = rw (ne-eqb w v (eqb-no w v t))
 
-  -- v phased, the fragment's call at v being c
-  pub lik-moves : T (m v) → (c : Call) → ((x : ℕ) → termAt v cs x ≡ callTerm c x) → likelihood m a' cs ≡ step true (likelihood m a cs) c (a v) (a' v)
-  lik-moves p c q = mask p ∙ shift (likelihood (λ w. eqb w v || m w) a' cs) (likelihood m a cs) (callTerm c (a v)) (callTerm c (a' v))
-      (ap (λ z. likelihood (λ w. eqb w v || m w) a' cs +ℤ z) (sym (rw (is-true (m v) p) (q (a v)))) ∙ lik-own m v a a' f cs ∙ ap (λ z. likelihood m a cs +ℤ z) (q (a' v)))
-    where
-      shift : (x y o n : ℤ) → x +ℤ o ≡ y +ℤ n → x ≡ (y -ℤ o) +ℤ n
-      shift x y o n e = omega (zlin, parts-add x o, parts-add y n, parts-add y (negℤ o), neg-up o, neg-dn o, parts-add (y -ℤ o) n)
-
   -- no call at v, or v not phased
   pub lik-stays : ((w : ℕ) → T (hasCall w cs) → T (m w) → w ≢ v) → likelihood m a' cs ≡ likelihood m a cs
   lik-stays g = lik-cong m m a' a cs (λ w t. refl) (λ w t u. f w (g w t u))

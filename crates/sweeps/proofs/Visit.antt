@@ -13,10 +13,11 @@ use lib.IntN.{ℤ, pos, _+ℤ_}
 use lib.Signed.{_≤ℤ_, _<ℤ_}
 use Rattle.variants_and_fragments.specs.Case.{Call, risingFrom, rising}
 use Rattle.variants_and_fragments.specs.Sums.{sumOver}
-use Rattle.sweeps.specs.Sweeps.{SweepCase, allele0, allele1, putPair, sumTo, countTo, hasCall, readShare, allOf, perCall, totalOf, withOwn, scoreWith, score, firstMax, bestPair, visit, phasedTotal, pairNumber, phasedCount, GoodSweepCase, GoodHaps}
+use Rattle.sweeps.specs.Sweeps.{SweepCase, allele0, allele1, putPair, sumTo, countTo, hasCall, readShare, allOf, perCall, totalOf, withOwn, scoreWith, score, bestPair, visit, phasedTotal, pairNumber, phasedCount, GoodSweepCase, GoodHaps}
 use Rattle.sweeps.proofs.Basics.{which, lt-or-ge, cond-yes, cond-no, cond-under, or-r, or-cases, eqb-no, length-put, at0-same, at1-same, at0-other, at1-other, put-self, sumTo-cong, countTo-cong, sumOver-cong, sumOver-cong-of, one-call, less, lessN, sumTo-split, countTo-split, countTo-le, sumOver-split, mixed-cong}
 use Rattle.steps.proofs.Signed.{up, dn, parts-add, zlin}
-use Rattle.sweeps.proofs.Top.{First, top-first, top-cong}
+use Rattle.genotype_probs.specs.Posteriors.{FirstMaximum}
+use Rattle.genotype_probs.proofs.Maxima.{meets, maximum-same}
 
 or-not : (a b : Bool) → T (a || b) → T (not a) → T b
 or-not true b t u = absurd u
@@ -153,12 +154,12 @@ module _ (C : SweepCase) where
       has-room : 2 * v + 1 < length h
       has-room = omega (arith, H .len)
 
-      pub best-first : First (score C v h) (C .k v * C .k v) (bestPair C v h)
+      pub best-first : FirstMaximum (score C v h) (C .k v * C .k v) (bestPair C v h)
       unfolding bestPair
-      best-first = top-first (score C v h) (C .k v * C .k v) square-pos
+      best-first = meets (score C v h) (C .k v * C .k v) square-pos
 
       low-fits : bestPair C v h / C .k v < C .k v
-      low-fits = div-lt-iff-lt-mul k-pos .1 (best-first .below)
+      low-fits = div-lt-iff-lt-mul k-pos .1 (best-first .inside)
 
       high-fits : bestPair C v h % C .k v < C .k v
       high-fits = mod-lt (bestPair C v h) k-pos
@@ -245,7 +246,7 @@ module _ (C : SweepCase) where
               zlin,
               total-before,
               total-after,
-              best-first .most (pairNumber C h v) idx-below,
+              best-first .greatest (pairNumber C h v) idx-below,
               parts-add (rest h v) (score C v h (bestPair C v h)),
               parts-add (rest h v) (score C v h (pairNumber C h v)),
             )
@@ -260,8 +261,8 @@ module _ (C : SweepCase) where
                   zlin,
                   total-before,
                   total-after,
-                  best-first .before (pairNumber C h v) l',
-                  best-first .below,
+                  best-first .first (pairNumber C h v) l',
+                  best-first .inside,
                   square-nine,
                   places-before,
                   places-after,
@@ -294,7 +295,7 @@ module _ (C : SweepCase) where
     -- the choice looks at phased pairs only
     pub best-cong : (h h' : List ℕ) → GoodHaps C h → GoodHaps C h' → Agree h h' → bestPair C v h ≡ bestPair C v h'
     unfolding bestPair score
-    best-cong h h' H H' e = top-cong _ _ (C .k v * C .k v) (λ g. scoreWith-cong h h' v _ _ (has-room h H) (has-room h' H') e)
+    best-cong h h' H H' e = maximum-same _ _ (C .k v * C .k v) (λ g l. scoreWith-cong h h' v _ _ (has-room h H) (has-room h' H') e)
 
   -- where no phased pair changes, the visited variant becomes fixed, and a fixed one stays so
   module _ (good : GoodSweepCase C) (v : ℕ) (k : v < C .n) (h : List ℕ) (H : GoodHaps C h) (e : Agree h (visit C v h)) where

@@ -4,12 +4,13 @@
 use mathlib.Core.Bool.{Bool, true, false, not, cond, _&&_, _||_}
 use mathlib.Core.List.{List, [], _∷_, _++_}
 use Prim.Native.Nat.{ℕ, zero, suc, _+_}
-use lib.Dec.{eqb, ltb}
+use lib.Dec.{eqb}
 use lib.IntN.{ℤ, pos, _+ℤ_, _-ℤ_}
 use Rattle.variants_and_fragments.specs.Case.{Call}
 use Rattle.variants_and_fragments.specs.Pileup.{Row, rowOf}
 use Rattle.variants_and_fragments.specs.Sums.{sumOver}
-use Rattle.sweeps.specs.Sweeps.{SweepCase, callTerm, allele0, allele1, sameHaps, visit, member}
+use Rattle.shuffle.specs.Permutation.{member}
+use Rattle.sweeps.specs.Sweeps.{SweepCase, callTerm, allele0, allele1, sameHaps, visit}
 
 -- ---- the pile of a variant, from the usable calls of each fragment
 unfoldable pub rowsIn : ℕ → ℕ → List Call → List Row
@@ -65,11 +66,6 @@ alleleSum value rows x w = sumOver rows (λ row. cond (eqb (row .call .allele) x
 unfoldable pub changed : SweepCase → List ℕ → List ℕ → Bool
 changed C [] h = false
 changed C (v ∷ vs) h = not (sameHaps h (visit C v h)) || changed C vs (visit C v h)
-
--- every entry of an order is below n
-unfoldable pub below : ℕ → List ℕ → Bool
-below n [] = true
-below n (v ∷ vs) = ltb v n && below n vs
 
 -- no entry of an order stands in it twice
 unfoldable pub distinct : List ℕ → Bool

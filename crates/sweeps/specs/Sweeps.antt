@@ -7,13 +7,18 @@ use mathlib.Core.List.{List, [], _∷_}
 use Prim.Native.Nat.{ℕ, zero, suc, _+_, _*_, _/_, _%_, _<_, _≤_}
 use lib.Dec.{T, eqb, leb}
 use lib.ListN.{length, getD, set}
-use lib.IntN.{ℤ, pos, _+ℤ_}
-use lib.Signed.{ltZ}
+use lib.IntN.{ℤ, pos, _+ℤ_, _-ℤ_}
+use Rattle.steps.specs.Logs.{addExp}
 use Rattle.variants_and_fragments.specs.Case.{Call, rising}
 use Rattle.variants_and_fragments.specs.Sums.{sumOver}
+use Rattle.genotype_probs.specs.Posteriors.{firstMaximum}
+
+-- `ln_add_exp` of a read's two likelihoods less 4,096 each
+unfoldable pub mixOf : ℤ → ℤ → ℤ
+mixOf a b = addExp (a -ℤ pos 4096) (b -ℤ pos 4096)
 
 -- what the sweeps use of a case: N, each variant's k, which variants are phased, the prior of pair (i, j) at a variant, the usable calls
--- of each fragment, and `mix` of a read's two likelihoods: `ln_add_exp` of them less 4,096 each
+-- of each fragment, and `mix` of a read's two likelihoods, which is `mixOf`; what demand 3 says holds whatever `mix` is
 pub record SweepCase : Type 0 where
   pub n : ℕ
   pub k : ℕ → ℕ
@@ -91,11 +96,6 @@ module _ (C : SweepCase) where
   unfoldable pub score : ℕ → List ℕ → ℕ → ℤ
   score v h g = scoreWith v h (g / C .k v) (g % C .k v)
 
--- the first of the greatest among s 0 .. s (m − 1)
-unfoldable pub firstMax : (ℕ → ℤ) → ℕ → ℕ
-firstMax s zero = 0
-firstMax s (suc m) = let b = firstMax s m in cond (ltZ (s b) (s m)) m b
-
 -- what a run returns of its sweeps, and the haplotypes that it leaves
 pub record RunResult : Type 0 where
   pub sweeps : ℕ
@@ -105,7 +105,7 @@ pub record RunResult : Type 0 where
 module _ (C : SweepCase) where
   -- the first maximum is taken
   unfoldable pub bestPair : ℕ → List ℕ → ℕ
-  bestPair v h = firstMax (score C v h) (C .k v * C .k v)
+  bestPair v h = firstMaximum (score C v h) (C .k v * C .k v)
 
   unfoldable pub visit : ℕ → List ℕ → List ℕ
   visit v h = let g = bestPair v h in putPair h v (g / C .k v) (g % C .k v)
@@ -143,7 +143,7 @@ module _ (C : SweepCase) where
   unfoldable pub phasedCount : ℕ
   phasedCount = countTo (C .n) (λ w. cond (C .phased w) 1 0)
 
--- ---- what an accepted run has: its case, its haplotypes and its orders
+-- ---- what an accepted run has: its case and its haplotypes; each of its orders is a `Permutation` (shuffle)
 pub record GoodSweepCase (C : SweepCase) : Type 0 where
   pub some-allele : (v : ℕ) → v < C .n → 1 ≤ C .k v
   pub three-alleles : (v : ℕ) → v < C .n → C .k v ≤ 3
@@ -153,17 +153,3 @@ pub record GoodHaps (C : SweepCase) (h : List ℕ) : Type 0 where
   pub len : length h ≡ 2 * C .n
   pub low : (v : ℕ) → v < C .n → allele0 h v < C .k v
   pub high : (v : ℕ) → v < C .n → allele1 h v < C .k v
-
-unfoldable pub member : ℕ → List ℕ → Bool
-member v [] = false
-member v (w ∷ ws) = eqb w v || member v ws
-
--- how often v stands in an order
-unfoldable pub times : ℕ → List ℕ → ℕ
-times v [] = 0
-times v (w ∷ ws) = cond (eqb w v) 1 0 + times v ws
-
--- a permutation of 0..n−1: its entries are below n, and each variant stands in it once
-pub record GoodOrder (n : ℕ) (vs : List ℕ) : Type 0 where
-  pub within : (v : ℕ) → T (member v vs) → v < n
-  pub once : (v : ℕ) → v < n → times v vs ≡ 1

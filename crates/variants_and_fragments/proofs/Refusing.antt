@@ -14,14 +14,14 @@ use Rattle.variants_and_fragments.specs.declared.Refusal.{Refusal}
 use Rattle.variants_and_fragments.specs.declared.Refusal.the-variants.{Short, DensityQual}
 use Rattle.variants_and_fragments.specs.declared.Checked.the-variants.{Accepted, Refused as NotAccepted}
 use Rattle.variants_and_fragments.specs.declared.Filtered.the-variants.{Done, Refused}
-use Rattle.variants_and_fragments.specs.Refusals.{done, number, place, andThen, unless}
+use Rattle.variants_and_fragments.specs.Refusals.{done, number, place, andThen, unless, afterwards}
 use Rattle.variants_and_fragments.specs.Check.{outcomeOf, caseOf}
 use Rattle.variants_and_fragments.specs.Accepted.{CaseIn}
 use Rattle.variants_and_fragments.proofs.Accepted.{case-in}
 use Rattle.variants_and_fragments.specs.Decode.{decode}
 use Rattle.variants_and_fragments.specs.Written.{written}
 use Rattle.variants_and_fragments.specs.Filter.{Limits, filterOf}
-use Rattle.variants_and_fragments.specs.Filtered.{isFinite, varFilterOf, filtersAfter, filteredOutcome, VarFiltered}
+use Rattle.variants_and_fragments.specs.Filtered.{isFinite, varFilterOf, filteredOutcome, VarFiltered}
 use Rattle.variants_and_fragments.proofs.Decoded.{variant-count}
 
 pub case-accepted : (w : List ℤ) (b : List ℕ) (s : Sizes) → outcomeOf (Accepted s) ≡ caseOf w b → CaseIn w s
@@ -30,7 +30,7 @@ case-accepted w b s e = case-in w b s (sym e)
 
 module _ (w : List ℤ) (b : List ℕ) (quals : List Float) (limits : Limits) (before : List ℕ) where
   refused-with : (x : Refusal) → filteredOutcome (Refused x) ≡ varFilterOf w b quals (length before) limits → VarFiltered w b quals limits before (Refused x) before
-  unfolding filteredOutcome filtersAfter
+  unfolding filteredOutcome afterwards
   refused-with x e = record { answer = e; filters-after = rw (← e) }
 
   pub case-refused : (x : Refusal) → outcomeOf (NotAccepted x) ≡ caseOf w b → VarFiltered w b quals limits before (Refused x) before
@@ -60,7 +60,7 @@ module _ (w : List ℤ) (b : List ℕ) (quals : List Float) (limits : Limits) (b
       not-finite t = refused-with (DensityQual 0) (rw (past-length, t))
 
       pub filtered : isFinite (limits .density-qual) ≡ true → {after : List ℕ} → after ≡ written (filterOf (decode w b) quals limits) (s .n) before → VarFiltered w b quals limits before Done after
-      unfolding filteredOutcome unless filtersAfter
+      unfolding filteredOutcome unless afterwards
       filtered t {after} e =
           let finite : varFilterOf w b quals (length before) limits ≡ done tt = rw (past-length, t) in
           let count : length (decode w b .variants) ≡ s .n = variant-count w b ∙ sym (ap (λ (z : Sizes). z .n) (case-accepted w b s accepted .shape)) in

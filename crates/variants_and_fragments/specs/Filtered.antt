@@ -10,9 +10,8 @@ use lib.ListN.{length}
 use lib.Ieee.{Float, nan, inf, fin}
 use Rattle.variants_and_fragments.specs.declared.Filtered.{Filtered}
 use Rattle.variants_and_fragments.specs.declared.Filtered.the-variants.{Done, Refused}
-use Rattle.variants_and_fragments.specs.Refusals.{Outcome, refused, done, number, place, andThen, unless}
+use Rattle.variants_and_fragments.specs.Refusals.{Outcome, refused, done, number, place, andThen, unless, afterwards}
 use Rattle.variants_and_fragments.specs.Check.{caseOf}
-use Rattle.variants_and_fragments.specs.Case.{Case}
 use Rattle.variants_and_fragments.specs.Decode.{decode}
 use Rattle.variants_and_fragments.specs.Written.{written}
 use Rattle.variants_and_fragments.specs.Filter.{Limits, filterOf}
@@ -31,16 +30,12 @@ varFilterOf w b quals room limits =
     (unless (isFinite (limits .density-qual)) 11 0
     (done tt)))
 
--- the lent filters afterwards: where refused, untouched; where done, a value a variant, and what lies past them unchanged
-unfoldable pub filtersAfter : Outcome Unit → Case → List Float → Limits → List ℕ → List ℕ
-filtersAfter (refused n p) case quals limits before = before
-filtersAfter (done u) case quals limits before = written (filterOf case quals limits) (length (case .variants)) before
-
 -- the answer of `var_filter` in 01's terms
 unfoldable pub filteredOutcome : Filtered → Outcome Unit
 filteredOutcome Done = done tt
 filteredOutcome (Refused x) = refused (number x) (place x)
 
+-- the answer, and the lent filters afterwards: a value a variant, and what lies past them unchanged
 pub record VarFiltered (w : List ℤ) (b : List ℕ) (quals : List Float) (limits : Limits) (before : List ℕ) (r : Filtered) (after : List ℕ) : Type 0 where
   pub answer : filteredOutcome r ≡ varFilterOf w b quals (length before) limits
-  pub filters-after : after ≡ filtersAfter (varFilterOf w b quals (length before) limits) (decode w b) quals limits before
+  pub filters-after : after ≡ afterwards (varFilterOf w b quals (length before) limits) (written (filterOf (decode w b) quals limits) (length (decode w b .variants)) before) before

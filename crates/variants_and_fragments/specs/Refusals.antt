@@ -46,6 +46,11 @@ unfoldable pub andThen : {X Y : Type 0} → Outcome X → (X → Outcome Y) → 
 andThen (refused n p) next = refused n p
 andThen (done x) next = next x
 
+-- "All slices remain untouched" by a refusal: a lent slice afterwards is `new` where the operation is done, else as it was
+unfoldable pub afterwards : {X A : Type 0} → Outcome X → A → A → A
+afterwards (refused n p) new old = old
+afterwards (done x) new old = new
+
 -- where the test fails, refused with the number and the place; else what follows
 unfoldable pub unless : {X : Type 0} → Bool → ℕ → ℕ → Outcome X → Outcome X
 unless true n p rest = rest

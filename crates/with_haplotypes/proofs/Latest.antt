@@ -13,7 +13,8 @@ use lib.IntN.{ℤ, pos}
 use lib.ListN.{length, getD}
 use lib.Seq.{sets, length-sets}
 use Rattle.steps.proofs.Signed.{cases, by-test}
-use Rattle.sweeps.specs.Sweeps.{SweepCase, GoodSweepCase, GoodOrder, score, visit, member, times}
+use Rattle.shuffle.specs.Permutation.{Permutation, member, times}
+use Rattle.sweeps.specs.Sweeps.{SweepCase, GoodSweepCase, score, visit}
 use Rattle.sweeps.specs.Demand3.{after}
 use Rattle.sweeps.specs.Posts.{recorded, posts}
 use Rattle.sweeps.proofs.Basics.{or-l, or-r}
@@ -96,12 +97,12 @@ module _ (C : SweepCase) (good : GoodSweepCase C) where
         ∙ rw same (stored-at v p h ps (rw same at l) room q)))
         (λ t. rw t (recorded-at ws (visit C w h) next (inside-rest w ws i) (omega (arith, rw t at e)) (omega (arith, length-sets ps (9 * w) (tableOf w h)))))
 
-  pub latest-at : (vs h : List ℕ) (ps : List ℤ) → GoodOrder (C .n) vs → 9 * C .n ≤ length ps → (v p : ℕ) → v < C .n → p < C .k v * C .k v
+  pub latest-at : (vs h : List ℕ) (ps : List ℤ) → Permutation (C .n) vs → 9 * C .n ≤ length ps → (v p : ℕ) → v < C .n → p < C .k v * C .k v
       → getD (recorded rawScores C vs h ps) (9 * v + p) (pos 0) ≡ score C v (atVisit C v vs h) p
   latest-at vs h ps order room v p l q = recorded-at v p q vs h ps (order .within) (order .once v l) room
 
   -- ---- the run
-  module _ (o : ℕ → List ℕ) (ok : (s : ℕ) → GoodOrder (C .n) (o s)) (h : List ℕ) (ps : List ℤ) where
+  module _ (o : ℕ → List ℕ) (ok : (s : ℕ) → Permutation (C .n) (o s)) (h : List ℕ) (ps : List ℤ) where
     pub posts-latest : 9 * C .n ≤ length ps → (last v p : ℕ) → v < C .n → p < C .k v * C .k v
         → getD (posts rawScores C o h ps (suc last)) (9 * v + p) (pos 0) ≡ score C v (atVisit C v (o last) (after C o h last)) p
     unfolding posts

@@ -12,7 +12,7 @@ use lib.ListN.{length}
 use Rattle.variants_and_fragments.specs.declared.Sizes.{Sizes}
 use Rattle.variants_and_fragments.specs.declared.Refusal.{Refusal}
 use Rattle.variants_and_fragments.specs.Case.{alleleCount, variantOf}
-use Rattle.variants_and_fragments.specs.Refusals.{Outcome, refused, done, number, place, andThen, unless, stop}
+use Rattle.variants_and_fragments.specs.Refusals.{Outcome, refused, done, number, place, andThen, unless, stop, afterwards}
 use Rattle.variants_and_fragments.specs.Check.{caseOf}
 use Rattle.variants_and_fragments.specs.Decode.{tabulate}
 use Rattle.variants_and_fragments.proofs.Bools.{both}
@@ -21,7 +21,7 @@ use Rattle.variants_and_fragments.proofs.GoodCases.{good-case}
 use Rattle.genotype_probs.specs.Rates.{ratesFault}
 use Rattle.genotype_probs.specs.Posteriors.{normalized}
 use Rattle.genotype_probs.proofs.AlleleLaws.{nine}
-use Rattle.haplotype_assembly.specs.GivenPhase.{phaseFault, whenDone}
+use Rattle.haplotype_assembly.specs.GivenPhase.{phaseFault}
 use Rattle.haplotype_assembly.proofs.PhaseAnswers.{faultless, none-earlier, short-none}
 use Rattle.shuffle.specs.Answers.{ordersOutcome, firstBadOrder}
 use Rattle.shuffle.specs.Orders.{orderCount}
@@ -107,7 +107,7 @@ module _ (input : RoundInput) (sets : List ℤ) (before : RoundSlices) where
 
   -- ---- the answers
   turned-down : (x : Refusal) → roundOutcome input sets before ≡ refused (number x) (place x) → CalledWithHaplotypes input sets before (Refused x) before
-  unfolding outcomeOf whenDone
+  unfolding outcomeOf afterwards
   turned-down x e = record {
     answer = sym e;
     haplotypes-after = refl;
@@ -148,7 +148,7 @@ module _ (input : RoundInput) (sets : List ℤ) (before : RoundSlices) where
     outcome-done = rw (e, q, all-normal, le-ltb (s .n) (s .n) (omega arith))
 
     pub answer-done : (r : RoundAnswer) (after : RoundSlices) → RoundMade input s before r after → CalledWithHaplotypes input sets before (Done r) after
-    unfolding outcomeOf whenDone case
+    unfolding outcomeOf afterwards case
     answer-done r after M =
         let A = admits s m e q .0 in
         let n = variants-are (known A) (input .bases) in

@@ -17,8 +17,9 @@ use Rattle.variants_and_fragments.proofs.Accepted.{case-in}
 use Rattle.variants_and_fragments.proofs.Bools.{both}
 use Rattle.variants_and_fragments.proofs.Decoded.{variants-are}
 use Rattle.haplotype_assembly.specs.Phase.{phasedFlags}
+use Rattle.shuffle.specs.Permutation.{Permutation}
 use Rattle.shuffle.specs.Orders.{orderCount}
-use Rattle.sweeps.specs.Sweeps.{SweepCase, GoodHaps, GoodOrder, totalOf, phasedTotal, sourceTotal}
+use Rattle.sweeps.specs.Sweeps.{SweepCase, GoodHaps, totalOf, phasedTotal, sourceTotal}
 use Rattle.sweeps.proofs.Run.{after-good}
 use Rattle.call_genotypes.specs.Likelihoods.{CallSlices, callSlices, CallsIn, EndsIn, flagged}
 use Rattle.call_genotypes.specs.Totals.{heldCase, PriorsIn}
@@ -48,10 +49,12 @@ module _ {input : RoundInput} {s : Sizes} {m : ℕ} (A : Admitted input s m) whe
   variants-counted = counted (input .rates) (phasedFlags (decode (input .words) (input .bases)) (input .phase)) (input .words) (input .bases) s (A .accepted)
 
   pub orders-same : orderOfSweep input ≡ orderOf (input .orders) (s .n) m
-  unfolding orderOfSweep case
-  orders-same = rw (variants-are known (input .bases), ← A .count-is)
+  unfolding orderOfSweep case orderOf
+  orders-same =
+      ap (λ (n : ℕ). orderOf (input .orders) n (orderCount n (length (input .orders)))) (variants-are known (input .bases))
+      ∙ ap (orderOf (input .orders) (s .n)) (sym (A .count-is))
 
-  pub orders-good : (q : ℕ) → GoodOrder (sweepCase input .n) (orderOfSweep input q)
+  pub orders-good : (q : ℕ) → Permutation (sweepCase input .n) (orderOfSweep input q)
   orders-good q = rw (variants-counted, orders-same) (order-good (s .n) m (input .orders) (A .good-orders) q)
 
 -- ---- the sweeps

@@ -27,9 +27,8 @@ use Rattle.genotype_probs.specs.Rates.{ratesFault}
 use Rattle.genotype_probs.specs.Priors.{getPrior}
 use Rattle.genotype_probs.proofs.PriorBounds.{Down, prior-down}
 use Rattle.genotype_probs.proofs.RateLaws.{rates-in}
-use Rattle.sweeps.specs.Sweeps.{SweepCase, allele0, allele1, putPair, sumTo, callTerm, likelihood, hasCall, perCall, readShare, withOwn, scoreWith, score, totalOf}
+use Rattle.sweeps.specs.Sweeps.{SweepCase, allele0, allele1, putPair, sumTo, callTerm, likelihood, hasCall, perCall, readShare, withOwn, scoreWith, score, totalOf, mixOf}
 use Rattle.sweeps.proofs.Basics.{one-call}
-use Rattle.call_genotypes.specs.Held.{mixOf}
 use Rattle.call_genotypes.specs.Likelihoods.{callShare}
 use Rattle.call_genotypes.specs.SweepCaseOf.{sweepCaseOf}
 use Rattle.call_genotypes.proofs.SweepCases.{likelihood-sum, variants-are, mix-is}

@@ -28,7 +28,7 @@ use Rattle.call_genotypes.proofs.HeldCases.{held}
 use Rattle.call_genotypes.proofs.LikelihoodsHeld.{liks-held}
 use Rattle.with_haplotypes.specs.Round.{RoundInput, case, sweepCase, start}
 use Rattle.with_haplotypes.specs.Steps.{Admitted, AlleleCounts, PilesMade, RunRoom, RoundStart}
-use Rattle.with_haplotypes.proofs.OrdersHeld.{order-below, order-distinct}
+use Rattle.with_haplotypes.proofs.OrdersHeld.{order-good}
 use Rattle.with_haplotypes.proofs.RoundLaws.{variants-counted}
 
 -- a written slice is as long as it was
@@ -120,8 +120,7 @@ module _ {input : RoundInput} {s : Sizes} {m : ℕ} (A : Admitted input s m) whe
         some-sweep = A .limit-low;
         limit-top = A .limit-top;
         orders-long = sym (A .good-orders .fills);
-        orders-in = order-below (s .n) m (input .orders) (A .good-orders);
-        no-twice = order-distinct (s .n) m (input .orders) (A .good-orders);
+        orders-good = order-good (s .n) m (input .orders) (A .good-orders);
       };
       hap-is = hap-is;
     }

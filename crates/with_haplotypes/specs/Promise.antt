@@ -10,17 +10,16 @@ use lib.Ieee.{Float}
 use lib.IntN.{ℤ}
 use lib.ListN.{length, take}
 use Rattle.variants_and_fragments.specs.Case.{alleleCount, variantOf}
-use Rattle.variants_and_fragments.specs.Refusals.{number, place, Outcome, refused, done, andThen, unless, stop}
+use Rattle.variants_and_fragments.specs.Refusals.{number, place, Outcome, refused, done, andThen, unless, stop, afterwards}
 use Rattle.variants_and_fragments.specs.Check.{caseOf}
 use Rattle.variants_and_fragments.specs.Written.{written}
 use Rattle.genotype_probs.specs.declared.Rates.{Rates}
 use Rattle.genotype_probs.specs.Rates.{ratesFault}
 use Rattle.haplotype_assembly.specs.Phase.{earlier}
-use Rattle.haplotype_assembly.specs.GivenPhase.{phaseFault, shortOf, whenDone}
+use Rattle.haplotype_assembly.specs.GivenPhase.{phaseFault, shortOf}
 use Rattle.shuffle.specs.Answers.{ordersOutcome}
 use Rattle.sweeps.specs.Demand3.{Demand3}
 use Rattle.call_genotypes.specs.Normalized.{firstNotNormal}
-use Rattle.call_genotypes.specs.Runs.{resultOf}
 use Rattle.with_haplotypes.specs.declared.RoundAnswer.{RoundAnswer}
 use Rattle.with_haplotypes.specs.declared.Round.{Round}
 use Rattle.with_haplotypes.specs.declared.Round.the-variants.{Done, Refused}
@@ -75,10 +74,10 @@ outcomeOf (Refused x) = refused (number x) (place x)
 -- back as `after`
 pub record CalledWithHaplotypes (input : RoundInput) (sets : List ℤ) (before : RoundSlices) (r : Round) (after : RoundSlices) : Type 0 where
   pub answer : outcomeOf r ≡ roundOutcome input sets before
-  pub haplotypes-after : after .haplotypes ≡ whenDone (outcomeOf r) (written (haplotypeAt input) (2 * length (case input .variants)) (before .haplotypes)) (before .haplotypes)
-  pub likelihoods-after : after .likelihoods ≡ whenDone (outcomeOf r) (written (likelihoodAt input) (2 * length (case input .fragments)) (before .likelihoods)) (before .likelihoods)
-  pub posteriors-after : after .posteriors ≡ whenDone (outcomeOf r) (written (posteriorAt input) (9 * length (case input .variants)) (before .posteriors)) (before .posteriors)
-  pub quals-after : after .quals ≡ whenDone (outcomeOf r) (written (λ v. final input v .qual) (length (case input .variants)) (before .quals)) (before .quals)
-  pub gqs-after : after .gqs ≡ whenDone (outcomeOf r) (written (λ v. final input v .gq) (length (case input .variants)) (before .gqs)) (before .gqs)
+  pub haplotypes-after : after .haplotypes ≡ afterwards (outcomeOf r) (written (haplotypeAt input) (2 * length (case input .variants)) (before .haplotypes)) (before .haplotypes)
+  pub likelihoods-after : after .likelihoods ≡ afterwards (outcomeOf r) (written (likelihoodAt input) (2 * length (case input .fragments)) (before .likelihoods)) (before .likelihoods)
+  pub posteriors-after : after .posteriors ≡ afterwards (outcomeOf r) (written (posteriorAt input) (9 * length (case input .variants)) (before .posteriors)) (before .posteriors)
+  pub quals-after : after .quals ≡ afterwards (outcomeOf r) (written (λ v. final input v .qual) (length (case input .variants)) (before .quals)) (before .quals)
+  pub gqs-after : after .gqs ≡ afterwards (outcomeOf r) (written (λ v. final input v .gq) (length (case input .variants)) (before .gqs)) (before .gqs)
   pub demand3 : (x : RoundAnswer) → outcomeOf r ≡ done x
-      → Demand3 (sweepCase input) (orderOfSweep input) (input .limit) (start input) (resultOf (x .sweeps) (x .settled) (take (2 * length (case input .variants)) (after .haplotypes)))
+      → Demand3 (sweepCase input) (orderOfSweep input) (input .limit) (start input) (record { sweeps = x .sweeps; settled = x .settled; haps = take (2 * length (case input .variants)) (after .haplotypes) })

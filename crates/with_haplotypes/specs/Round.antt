@@ -2,7 +2,7 @@
 -- Assumes nothing.
 use mathlib.Core.Bool.{cond}
 use mathlib.Core.List.{List, [], _∷_}
-use Prim.Native.Nat.{ℕ, _-_, _*_, _/_, _%_}
+use Prim.Native.Nat.{ℕ, _+_, _-_, _*_, _/_, _%_}
 use lib.Dec.{eqb}
 use lib.IntN.{ℤ, pos}
 use lib.ListN.{length, getD}
@@ -11,13 +11,11 @@ use Rattle.variants_and_fragments.specs.Decode.{tabulate, decode}
 use Rattle.genotype_probs.specs.declared.Rates.{Rates}
 use Rattle.genotype_probs.specs.Posteriors.{normalized}
 use Rattle.haplotype_assembly.specs.Phase.{phasedFlags, startHaplotypes}
-use Rattle.shuffle.specs.Orders.{orderCount}
+use Rattle.shuffle.specs.Orders.{orderCount, orderAt}
 use Rattle.sweeps.specs.Sweeps.{SweepCase, RunResult, likelihood, score, visit, run, phasedTotal, sourceTotal}
 use Rattle.sweeps.specs.Demand3.{after}
 use Rattle.call_genotypes.specs.declared.finals.FinalAnswer.{FinalAnswer}
 use Rattle.call_genotypes.specs.Finals.{finalOf}
-use Rattle.call_genotypes.specs.Likelihoods.{alleleOn}
-use Rattle.call_genotypes.specs.Runs.{orderOf}
 use Rattle.call_genotypes.specs.SweepCaseOf.{sweepCaseOf}
 use Rattle.with_haplotypes.specs.declared.RoundAnswer.{RoundAnswer}
 
@@ -53,7 +51,7 @@ module _ (input : RoundInput) where
 
   -- sweep s uses lent order s mod m
   unfoldable pub orderOfSweep : ℕ → List ℕ
-  orderOfSweep = let n = length (case .variants) in orderOf (input .orders) n (orderCount n (length (input .orders)))
+  orderOfSweep s = let n = length (case .variants) in orderAt n (input .orders) (s % orderCount n (length (input .orders)))
 
   unfoldable pub result : RunResult
   result = run sweepCase orderOfSweep (input .limit) 0 start
@@ -75,7 +73,7 @@ module _ (input : RoundInput) where
 
   -- 2 likelihoods a fragment
   unfoldable pub likelihoodAt : ℕ → ℤ
-  likelihoodAt e = likelihood (sweepCase .phased) (alleleOn (result .haps) (e % 2)) (getD (sweepCase .frags) (e / 2) [])
+  likelihoodAt e = likelihood (sweepCase .phased) (λ v. getD (result .haps) (2 * v + e % 2) 0) (getD (sweepCase .frags) (e / 2) [])
 
   -- v's latest visit was in the last sweep: the scores that it worked out
   unfoldable pub latestScore : ℕ → ℕ → ℤ

@@ -6,19 +6,19 @@ use Prim.Native.Nat.{ℕ, _≤_, _-_, _+_}
 use native.Mathlib.Omega.{arith}
 use lib.ListN.{getD}
 use lib.IntN.{ℤ, pos}
-use Rattle.sweeps.specs.Sweeps.{firstMax}
+use Rattle.genotype_probs.specs.Posteriors.{firstMaximum}
 use Rattle.call_genotypes.proofs.Written.{max-step}
 use Rattle.call_genotypes.proofs.score.first_max.Statement.{statement}
 use Rattle.call_genotypes.proofs.score.first_max.Tie as tie
 
 abbrev Inv-loop : tie.InvT-loop
-Inv-loop s at m b₀ g₀ b g = (g ≤ m) × (b ≤ g) × (b ≡ firstMax (λ x. getD s (at + x) (pos 0)) g)
+Inv-loop s at m b₀ g₀ b g = (g ≤ m) × (b ≤ g) × (b ≡ firstMaximum (λ x. getD s (at + x) (pos 0)) g)
 
 abbrev μ-loop : tie.MeasureT-loop
 μ-loop s at m b₀ g₀ b g = m - g
 
 loop-holds : tie.Need-loop-holds Inv-loop μ-loop
-unfolding firstMax
+unfolding firstMaximum
 loop-holds c = (omega arith, omega arith, refl)
 
 add-if1 : tie.Need-add-if1 Inv-loop μ-loop

@@ -7,7 +7,7 @@ use mir.Syntax.{w64}
 use mir.Val.{toZ, ofZ}
 use mir.Facts.{toZ-ofZ}
 use Rattle.steps.proofs.Signed.{read-back}
-use Rattle.call_genotypes.specs.Held.{mixOf}
+use Rattle.sweeps.specs.Sweeps.{mixOf}
 use Rattle.call_genotypes.proofs.Sizes.{half-size, four-cases}
 use borrow.Author.Needs.{needs}
 use Rattle.call_genotypes.proofs.score.four_of.Statement.{statement}

@@ -7,7 +7,7 @@ use lib.IntN.{ℤ, pos, natAbs, _-ℤ_}
 use mir.Syntax.{w64}
 use mir.Val.{SFits, toZ, ofZ}
 use Rattle.steps.proofs.Signed.{minus-abs, sfits, read-small, read-back}
-use Rattle.call_genotypes.specs.Held.{mixOf}
+use Rattle.sweeps.specs.Sweeps.{mixOf}
 use Rattle.call_genotypes.proofs.totals.mixed.Statement.{statement}
 use Rattle.call_genotypes.proofs.totals.mixed.Tie as tie
 
