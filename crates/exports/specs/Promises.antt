@@ -6,8 +6,9 @@ use mathlib.Core.Bool.{Bool}
 use mathlib.Core.List.{List}
 use Prim.Native.Nat.{ℕ, _*_}
 use lib.IntN.{ℤ}
-use lib.ListN.{length}
+use lib.ListN.{length, take}
 use lib.Ieee.{Float}
+use Rattle.variants_and_fragments.specs.Refusals.{done}
 use Rattle.variants_and_fragments.specs.Check.{caseOf}
 use Rattle.variants_and_fragments.specs.Decode.{decode}
 use Rattle.variants_and_fragments.specs.Written.{written}
@@ -22,12 +23,18 @@ use Rattle.haplotype_assembly.specs.GivenPhase.{phaseOutcome, whenDone}
 use Rattle.haplotype_assembly.specs.FlistBuffer.{flistOutcome, startingWith}
 use Rattle.shuffle.specs.Answers.{sweepOrders, lentAfter}
 use Rattle.call_genotypes.specs.NoHaplotypes.{calledOf, after, answerAt, qualAt, gqAt}
+use Rattle.call_genotypes.specs.Runs.{resultOf}
+use Rattle.sweeps.specs.Demand3.{Demand3}
+use Rattle.with_haplotypes.specs.declared.RoundAnswer as operation-round
+use Rattle.with_haplotypes.specs.Round.{RoundInput, case, sweepCase, start, orderOfSweep, haplotypeAt, likelihoodAt, posteriorAt, final}
+use Rattle.with_haplotypes.specs.Promise.{RoundSlices, roundOutcome}
 use Rattle.exports.specs.declared.answers.Answer.{Answer}
 use Rattle.exports.specs.declared.answers.CheckAnswer.{CheckAnswer}
 use Rattle.exports.specs.declared.answers.FlistAnswer.{FlistAnswer}
+use Rattle.exports.specs.declared.answers.RoundAnswer.{RoundAnswer}
 use Rattle.exports.specs.declared.inputs.Rates.{Rates}
 use Rattle.exports.specs.declared.inputs.DensityParameters.{DensityParameters}
-use Rattle.exports.specs.Answers.{Numbers, readWith, readAnswer, readCheck, readFlist, numbersOf, checkNumbers, flistNumbers}
+use Rattle.exports.specs.Answers.{Numbers, readWith, readAnswer, readCheck, readFlist, readRound, numbersOf, checkNumbers, flistNumbers, roundNumbers}
 use Rattle.exports.specs.Inputs.{ratesOf, densityOf}
 
 -- `check_case`
@@ -67,3 +74,14 @@ pub record GenerateFlistBuffer (w : List ℤ) (b : List ℕ) (single : Bool) (be
 pub record SweepOrders (w : List ℤ) (b : List ℕ) (seed : ℕ) (before : List ℕ) (a : Answer) (orders : List ℕ) : Type 0 where
   pub answer : Numbers (readWith orders) numbersOf (sweepOrders w b seed before) a
   pub orders-after : orders ≡ lentAfter (sweepOrders w b seed before) before
+
+-- `call_genotypes_with_haplotypes`, with demand 3 of what is returned and written. The slices are lent as `before` and come back as `after`
+pub record CallGenotypesWithHaplotypes (input : RoundInput) (sets : List ℤ) (before : RoundSlices) (a : RoundAnswer) (after : RoundSlices) : Type 0 where
+  pub answer : Numbers readRound roundNumbers (roundOutcome input sets before) a
+  pub haplotypes-after : after .haplotypes ≡ whenDone (readRound a) (written (haplotypeAt input) (2 * length (case input .variants)) (before .haplotypes)) (before .haplotypes)
+  pub likelihoods-after : after .likelihoods ≡ whenDone (readRound a) (written (likelihoodAt input) (2 * length (case input .fragments)) (before .likelihoods)) (before .likelihoods)
+  pub posteriors-after : after .posteriors ≡ whenDone (readRound a) (written (posteriorAt input) (9 * length (case input .variants)) (before .posteriors)) (before .posteriors)
+  pub quals-after : after .quals ≡ whenDone (readRound a) (written (λ v. final input v .qual) (length (case input .variants)) (before .quals)) (before .quals)
+  pub gqs-after : after .gqs ≡ whenDone (readRound a) (written (λ v. final input v .gq) (length (case input .variants)) (before .gqs)) (before .gqs)
+  pub demand3 : (x : operation-round.RoundAnswer) → readRound a ≡ done x
+      → Demand3 (sweepCase input) (orderOfSweep input) (input .limit) (start input) (resultOf (x .sweeps) (x .settled) (take (2 * length (case input .variants)) (after .haplotypes)))
