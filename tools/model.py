@@ -1,7 +1,10 @@
 """An independent model of document 01 in Python, for recorded answers and comparisons.
 
 It is written from the document and not from the Rattle code: a case as words and bases in, an answer
-or a refusal with its number and place out. Whole numbers are exact; f64 values travel as 64-bit patterns.
+or a refusal with its number and place out. Whole numbers are exact; qualities are written as 64-bit patterns.
+
+Each operation is a function of the request's parts and its output slices before; it gives the returned fields and the
+output slices afterwards, or raises Refused. Where the answer is much work, `accept_...` is its part that refuses.
 """
 import math
 import struct
@@ -90,8 +93,8 @@ class Layout:
         return HEAD + VARIANT * self.n + FRAGMENT * self.f + CALL * (r - 1)
 
 
-def check(words, bases):
-    """01, section 2 and the table of refusals, numbers 1 to 5: the case, or Refused."""
+def check_head(words):
+    """Number 1: the layout and the cutoff."""
     if len(words) < HEAD:
         raise Refused(1, 0)
     n, f, c, cutoff = words[:HEAD]
@@ -102,8 +105,13 @@ def check(words, bases):
     at = Layout(n, f, c)
     if len(words) != at.total():
         raise Refused(1, 4)
+    return at, cutoff
+
+
+def check_variants(at, words):
+    """Number 2."""
     before = 0
-    for v in range(n):
+    for v in range(at.n):
         pos0, dp, a, b, k, *lengths = words[at.variant(v):at.variant(v) + VARIANT]
         if pos0 < 0 or pos0 < before or dp < 0 or not 1 <= k <= 3:
             raise Refused(2, v)
@@ -113,11 +121,15 @@ def check(words, bases):
             if not (1 <= length <= MAX_LENGTH if j < k else length == 0):
                 raise Refused(2, v)
         before = pos0
-    lengths = [words[at.variant(v) + 5:at.variant(v) + 8] for v in range(n)]
+
+
+def check_alleles(at, words, bases):
+    """Number 3: each variant's alleles."""
+    lengths = [words[at.variant(v) + 5:at.variant(v) + 8] for v in range(at.n)]
     if len(bases) != sum(map(sum, lengths)):
-        raise Refused(3, n)
+        raise Refused(3, at.n)
     start, alleles = 0, []
-    for v in range(n):
+    for v in range(at.n):
         mine = []
         for length in lengths[v]:
             mine.append(bases[start:start + length])
@@ -125,21 +137,30 @@ def check(words, bases):
         if any(x not in b"ACGT" for a in mine for x in a):
             raise Refused(3, v)
         alleles.append([bytes(a).decode() for a in mine if a])
-    for r in range(1, c + 1):
+    return alleles
+
+
+def check_calls(at, words, alleles):
+    """Number 4."""
+    for r in range(1, at.c + 1):
         v, a, q, o, _ = words[at.call(r):at.call(r) + CALL]
-        if not 0 <= v < n or not 0 <= a < len(alleles[v]):
+        if not 0 <= v < at.n or not 0 <= a < len(alleles[v]):
             raise Refused(4, r)
         if not (LOWEST_QUAL <= q <= 0 and LOWEST_QUAL <= o <= 0):
             raise Refused(4, r)
+
+
+def check_fragments(at, words):
+    """Number 5: the fragments."""
     fragments, reached = [], set()
-    for x in range(f):
+    for x in range(at.f):
         r, strand = words[at.fragment(x):at.fragment(x) + FRAGMENT]
-        if strand not in (0, 1) or not 0 <= r <= c:
+        if strand not in (0, 1) or not 0 <= r <= at.c:
             raise Refused(5, x)
         calls = []
         while r:
             v, a, q, o, following = words[at.call(r):at.call(r) + CALL]
-            if r in reached or (following != 0 and not r < following <= c):
+            if r in reached or (following != 0 and not r < following <= at.c):
                 raise Refused(5, x)
             if following != 0 and not v < words[at.call(following)]:
                 raise Refused(5, x)
@@ -147,10 +168,20 @@ def check(words, bases):
             calls.append(Call(v, a, q, o))
             r = following
         fragments.append(Fragment(strand, calls))
-    if len(reached) < c:
-        raise Refused(5, f)
+    if len(reached) < at.c:
+        raise Refused(5, at.f)
+    return fragments
+
+
+def check(words, bases):
+    """01, section 2 and the table of refusals, numbers 1 to 5: the case, or Refused."""
+    at, cutoff = check_head(words)
+    check_variants(at, words)
+    alleles = check_alleles(at, words, bases)
+    check_calls(at, words, alleles)
+    fragments = check_fragments(at, words)
     variants = []
-    for v in range(n):
+    for v in range(at.n):
         pos0, dp, a, b = words[at.variant(v):at.variant(v) + 4]
         variants.append(Variant(pos0, dp, (a, b), alleles[v]))
     return Case(variants, fragments, cutoff)
@@ -166,17 +197,28 @@ def number(bits):
     return struct.unpack("<d", struct.pack("<Q", bits))[0]
 
 
-def need(count, *slices):
-    """01, number 10: a slice shorter than the elements needed."""
-    if any(len(s) < count for s in slices):
-        raise Refused(10, count)
+def need(*wanted):
+    """01, number 10: elements needed and the slice, for each; the smallest count that a slice falls short of."""
+    short = [count for count, s in wanted if len(s) < count]
+    if short:
+        raise Refused(10, min(short))
+
+
+def written(values, before):
+    """A slice afterwards: the values, and what lies past them unchanged."""
+    return values + list(before[len(values):])
+
+
+def check_case(words, bases):
+    check(words, bases)
+    return [], []
 
 
 def var_filter(words, bases, quals, density_qual, density_dist, density_count, max_depth, filters):
     """01, section 7: the filter bytes afterwards."""
     case = check(words, bases)
     n = len(case.variants)
-    need(n, quals, filters)
+    need((n, quals), (n, filters))
     if not math.isfinite(density_qual):
         raise Refused(11, 0)
     strong = [not quals[v] < density_qual for v in range(n)]
@@ -195,7 +237,7 @@ def var_filter(words, bases, quals, density_qual, density_dist, density_count, m
     for v in range(n):
         if case.variants[v].dp > max_depth:
             out[v] |= 2
-    return out + list(filters[n:])
+    return [], [written(out, filters)]
 
 
 # ---- 01, section 1: steps. None is the mark, probability zero.
@@ -313,17 +355,13 @@ def nine(values):
     return values + [0] * (9 - len(values))
 
 
-def written(values, before):
-    return values + list(before[len(values):])
-
-
 def genotype_priors(words, bases, rates, priors):
     """01, section 3: the priors' slice afterwards."""
     case = check(words, bases)
     check_rates(rates)
-    need(9 * len(case.variants), priors)
+    need((9 * len(case.variants), priors))
     out = [x for v in case.variants for x in nine([get_prior(rates, v, i, j) for i, j in pairs(v)])]
-    return written(out, priors)
+    return [], [written(out, priors)]
 
 
 # ---- 01, section 4: posteriors.
@@ -362,19 +400,23 @@ def call_without_haplotypes(call, i, j):
     return ln_add_exp(call.qual + HALF, call.one_minus_qual + HALF)
 
 
-def call_genotypes_no_haplotypes(words, bases, rates, variants, quals, gqs):
-    """01, section 4: the three slices afterwards (qualities as patterns)."""
+def accept_no_haplotypes(words, bases, rates, variants, quals, gqs):
     case = check(words, bases)
     check_rates(rates)
     n = len(case.variants)
-    short = [c for c, s in ((13 * n, variants), (n, quals), (n, gqs)) if len(s) < c]
-    if short:
-        raise Refused(10, min(short))
+    need((13 * n, variants), (n, quals), (n, gqs))
+    return case
+
+
+def call_genotypes_no_haplotypes(words, bases, rates, variants, quals, gqs):
+    """01, section 4: the three slices afterwards (qualities as patterns)."""
+    case = accept_no_haplotypes(words, bases, rates, variants, quals, gqs)
     out, qual, gq = [], [], []
     for v, variant in enumerate(case.variants):
         here = calls_at(case, v)
         used = [(f, c) for f, c in here if case.usable(f, c)]
-        scores = [get_prior(rates, variant, i, j) + sum(call_without_haplotypes(c, i, j) for _, c in used) for i, j in pairs(variant)]
+        scores = [get_prior(rates, variant, i, j) + sum(call_without_haplotypes(c, i, j) for _, c in used)
+                  for i, j in pairs(variant)]
         posts = normalize(variant, scores)
         best, top = max_genotype_post(variant, posts, False)
         forward = [sum(1 for f, c in used if c.allele == a and f.strand == 0) for a in range(3)]
@@ -383,7 +425,7 @@ def call_genotypes_no_haplotypes(words, bases, rates, variants, quals, gqs):
         out += list(best) + counts + forward + reverse + [len(here) - len(used), max(variant.dp, len(here))]
         qual.append(pattern(capped_phred(posts[0])))
         gq.append(pattern(capped_phred(ln_one_minus_exp(top))))
-    return written(out, variants), written(qual, quals), written(gq, gqs)
+    return [], [written(out, variants), written(qual, quals), written(gq, gqs)]
 
 
 # ---- 01, section 5: the given phase.
@@ -416,9 +458,7 @@ def given_phase(words, bases, phase, sets, haplotypes, phased, names):
     case = check(words, bases)
     check_phase(case, phase, sets)
     n = len(case.variants)
-    short = [c for c, s in ((2 * n, haplotypes), (n, phased), (n, names)) if len(s) < c]
-    if short:
-        raise Refused(10, min(short))
+    need((2 * n, haplotypes), (n, phased), (n, names))
     flags = [int(phase_rule(v) and b in (48, 49)) for v, b in zip(case.variants, phase)]
     name = []
     for v in range(n):
@@ -426,7 +466,7 @@ def given_phase(words, bases, phase, sets, haplotypes, phased, names):
             name.append(0)
         else:
             name.append(min(case.variants[u].pos0 for u in range(n) if sets[u] == sets[v]) + 1)
-    return written(start_haplotypes(case, phase), haplotypes), written(flags, phased), written(name, names)
+    return [], [written(start_haplotypes(case, phase), haplotypes), written(flags, phased), written(name, names)]
 
 
 # ---- 01, section 6: sweeps.
@@ -489,8 +529,9 @@ class Sweeps:
         return limit, False, haps, posts
 
 
-def call_genotypes_with_haplotypes(words, bases, rates, phase, sets, orders, limit, haplotypes, likelihoods, posteriors, quals, gqs):
-    """01, sections 6 and 7: the returned fields and the five slices afterwards (qualities as patterns)."""
+def accept_with_haplotypes(words, bases, rates, phase, sets, orders, limit, haplotypes, likelihoods, posteriors, quals,
+                           gqs):
+    """The case and its list of orders."""
     case = check(words, bases)
     check_rates(rates)
     check_phase(case, phase, sets)
@@ -498,10 +539,27 @@ def call_genotypes_with_haplotypes(words, bases, rates, phase, sets, orders, lim
     lists = check_orders(n, orders)
     if not 1 <= limit <= 1000000:
         raise Refused(9, limit)
-    needs = ((2 * n, haplotypes), (2 * f, likelihoods), (9 * n, posteriors), (n, quals), (n, gqs))
-    short = [c for c, s in needs if len(s) < c]
-    if short:
-        raise Refused(10, min(short))
+    need((2 * n, haplotypes), (2 * f, likelihoods), (9 * n, posteriors), (n, quals), (n, gqs))
+    return case, lists
+
+
+def final_answers(case, posts):
+    """01, section 7: each variant's latest posteriors, nine a variant, its qual and its gq."""
+    post, qual, gq = [], [], []
+    for v, variant in enumerate(case.variants):
+        mine = posts[v]
+        (i, j), _ = max_genotype_post(variant, mine, True)
+        k = len(variant.alleles)
+        others = [mine[k * a + b] for a, b in pairs(variant) if (a, b) not in ((i, j), (j, i))]
+        post += nine(mine)
+        qual.append(pattern(capped_phred(mine[0])))
+        gq.append(pattern(capped_phred(ln_sum_exp(others))))
+    return post, qual, gq
+
+
+def call_genotypes_with_haplotypes(words, bases, rates, phase, sets, orders, limit, *befores):
+    """01, sections 6 and 7: the returned fields and the five slices afterwards (qualities as patterns)."""
+    case, lists = accept_with_haplotypes(words, bases, rates, phase, sets, orders, limit, *befores)
     phased = [phase_rule(v) and b in (48, 49) for v, b in zip(case.variants, phase)]
     sweeps = Sweeps(case, rates, phased)
     start = start_haplotypes(case, phase)
@@ -513,24 +571,15 @@ def call_genotypes_with_haplotypes(words, bases, rates, phase, sets, orders, lim
     fields = [count, "settled" if settled else "unsettled", sweeps.total(start, in_phase), sweeps.total(haps, in_phase),
               sweeps.total(haps, lambda v: True)]
     liks = [sweeps.likelihood(calls, haps[h::2], in_phase) for calls in sweeps.reads for h in (0, 1)]
-    post, qual, gq = [], [], []
-    for v, variant in enumerate(case.variants):
-        mine = posts[v]
-        (i, j), _ = max_genotype_post(variant, mine, True)
-        k = len(variant.alleles)
-        others = [mine[k * a + b] for a, b in pairs(variant) if (a, b) not in ((i, j), (j, i))]
-        post += nine(mine)
-        qual.append(pattern(capped_phred(mine[0])))
-        gq.append(pattern(capped_phred(ln_sum_exp(others))))
-    slices = [written(new, old) for new, old in ((haps, haplotypes), (liks, likelihoods), (post, posteriors), (qual, quals), (gq, gqs))]
-    return fields, slices
+    afters = [haps, liks] + list(final_answers(case, posts))
+    return fields, [written(new, old) for new, old in zip(afters, befores)]
 
 
 # ---- 01, section 7: fragment lines and orders.
 
 
 def generate_flist_buffer(words, bases, single_reads, buffer):
-    """Bytes and lines written, and the buffer afterwards."""
+    """Bytes and lines written; the buffer afterwards."""
     case = check(words, bases)
     flags = [phase_rule(v) for v in case.variants]
     text, lines = b"", 0
@@ -548,8 +597,8 @@ def generate_flist_buffer(words, bases, single_reads, buffer):
         parts += ["%d %s" % (b[0].variant + 1, "".join(str(c.allele) for c in b)) for b in blocks]
         text += " ".join(parts).encode() + b" " + bytes(quality_byte(c.qual) for c in calls) + b"\0"
         lines += 1
-    need(len(text), buffer)
-    return len(text), lines, written(list(text), buffer)
+    need((len(text), buffer))
+    return [len(text), lines], [written(list(text), buffer)]
 
 
 def splitmix(state):
@@ -573,4 +622,17 @@ def sweep_orders(words, bases, seed, orders):
             j = z % (i + 1)
             order[i], order[j] = order[j], order[i]
         out += order
-    return out
+    return [], [out]
+
+
+# Each request's word: its operation, and the part of it that refuses.
+OPERATIONS = {
+    "check": (check_case, check_case),
+    "priors": (genotype_priors, genotype_priors),
+    "nohap": (call_genotypes_no_haplotypes, accept_no_haplotypes),
+    "phase": (given_phase, given_phase),
+    "run": (call_genotypes_with_haplotypes, accept_with_haplotypes),
+    "flist": (generate_flist_buffer, generate_flist_buffer),
+    "filter": (var_filter, var_filter),
+    "orders": (sweep_orders, sweep_orders),
+}

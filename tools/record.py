@@ -1,108 +1,60 @@
 #!/usr/bin/env python3
 """Writes the recorded requests of the program and the answers that document 01 gives to them.
 
-Run at the repository's root: python3 tools/record.py
-It writes crates/condorbed/stdin and crates/condorbed/stdout. The answers come from tools/model.py, which is
-written from the document, so that the gate's comparison holds the proved program against a second reading.
+Run at the repository's root, after oracle/build: python3 tools/record.py
+It writes crates/condorbed/stdin and crates/condorbed/stdout. Accepted requests of the operations that longshot has are
+answered by the oracle, longshot's own code; refusals, `check` and `orders` by tools/model.py, which is written from the
+document. The model answers the others too, and a difference between the two ends this script without a list.
 A change of the layout is a change of the strides in tools/model.py and a new run of this script.
 """
 import random
+import sys
 
-import model
-from model import Call, Case, Fragment, Layout, Refused, Variant, encode, pattern
+from cases import RATES, random_case, random_numbering, tangled
+from model import Call, Case, Fragment, Layout, Variant, encode
+from protocol import OF_THE_SOURCE, Request, ask
 
-FILL = {"u8": 170, "i32": 77, "u32": 77, "i64": 77, "f64": pattern(77.0)}
-
-
-def slice_text(values):
-    return " ".join(map(str, [len(values)] + list(values)))
-
-
-def answer(refusal, fields, outputs):
-    first = "refused %d %d" % (refusal.number, refusal.place) if refusal else " ".join(["done"] + fields)
-    return "\n".join([first] + [" ".join(map(str, o)) for o in outputs]) + "\n"
+HEADER = """# Written by tools/record.py: %d requests and one that cannot be read. The answers in the file stdout are
+# longshot's own for %d of them (oracle/build compiles its files with the steps of document 01), those of tools/model.py
+# for refusals, check and orders.
+"""
 
 
 class Record:
-    """The requests and the answers, in order."""
+    """The requests with their notes, in order."""
 
     def __init__(self):
-        self.requests, self.answers = [], []
+        self.entries = []
 
     def note(self, text):
-        self.requests.append("# %s\n" % text)
+        self.entries.append("# %s\n" % text)
 
-    def add(self, request, reply):
-        self.requests.append(request + "\n")
-        self.answers.append(reply)
+    def add(self, word, words, bases, parts=(), rooms=()):
+        self.entries.append(Request(word, words, bases, parts, rooms))
 
     def check(self, words, bases):
-        try:
-            model.check(words, bases)
-            refusal = None
-        except Refused as r:
-            refusal = r
-        self.add("check\n%s\n%s" % (slice_text(words), slice_text(bases)), answer(refusal, [], []))
+        self.add("check", words, bases)
 
     def filter(self, words, bases, quals, density_qual, dist, count, max_depth, room):
-        before = [FILL["u8"]] * room
-        try:
-            after, refusal = model.var_filter(words, bases, quals, density_qual, dist, count, max_depth, before), None
-        except Refused as r:
-            after, refusal = before, r
-        request = "filter\n%s\n%s\n%s\n%d %d %d %d\n%d" % (
-            slice_text(words), slice_text(bases), slice_text([pattern(q) for q in quals]),
-            pattern(density_qual), dist, count, max_depth, room)
-        self.add(request, answer(refusal, [], [after]))
-
-
-    def operation(self, word, parts, call, outputs):
-        """A request whose answer is `call(*befores)`: the fields, and the output slices afterwards. `outputs` gives
-        each output slice's element type and length."""
-        befores = [[FILL[kind]] * room for kind, room in outputs]
-        try:
-            (fields, afters), refusal = call(*befores), None
-        except Refused as r:
-            fields, afters, refusal = [], befores, r
-        text = "\n".join([word] + parts + [str(room) for _, room in outputs])
-        self.add(text, answer(refusal, [str(x) for x in fields], afters))
+        self.add("filter", words, bases, (quals, density_qual, dist, count, max_depth), [room])
 
     def priors(self, words, bases, rates, room):
-        self.operation("priors", [slice_text(words), slice_text(bases), rate_text(rates)],
-                       lambda out: ([], [model.genotype_priors(words, bases, rates, out)]), [("i64", room)])
+        self.add("priors", words, bases, [rates], [room])
 
     def nohap(self, words, bases, rates, rooms):
-        self.operation("nohap", [slice_text(words), slice_text(bases), rate_text(rates)],
-                       lambda *out: ([], model.call_genotypes_no_haplotypes(words, bases, rates, *out)),
-                       list(zip(("i32", "f64", "f64"), rooms)))
+        self.add("nohap", words, bases, [rates], rooms)
 
     def phase(self, words, bases, phase, sets, rooms):
-        self.operation("phase", [slice_text(words), slice_text(bases), slice_text(phase), slice_text(sets)],
-                       lambda *out: ([], model.given_phase(words, bases, phase, sets, *out)),
-                       list(zip(("u8", "u8", "u32"), rooms)))
+        self.add("phase", words, bases, (phase, sets), rooms)
 
     def run(self, words, bases, rates, phase, sets, orders, limit, rooms):
-        self.operation("run", [slice_text(words), slice_text(bases), rate_text(rates), slice_text(phase), slice_text(sets),
-                               slice_text(orders), str(limit)],
-                       lambda *out: model.call_genotypes_with_haplotypes(words, bases, rates, phase, sets, orders, limit, *out),
-                       list(zip(("u8", "i64", "i64", "f64", "f64"), rooms)))
+        self.add("run", words, bases, (rates, phase, sets, orders, limit), rooms)
 
     def flist(self, words, bases, single_reads, room):
-        def call(out):
-            size, lines, after = model.generate_flist_buffer(words, bases, bool(single_reads), out)
-            return [size, lines], [after]
-        self.operation("flist", [slice_text(words), slice_text(bases), str(single_reads)], call, [("u8", room)])
+        self.add("flist", words, bases, [single_reads], [room])
 
     def orders(self, words, bases, seed, room):
-        self.operation("orders", [slice_text(words), slice_text(bases), str(seed)],
-                       lambda out: ([], [model.sweep_orders(words, bases, seed, out)]), [("u32", room)])
-
-
-def rate_text(rates):
-    return " ".join(map(str, rates))
-
-
-RATES = [-70000] * 4 + [-4096, -8192]
+        self.add("orders", words, bases, [seed], [room])
 
 
 def sample():
@@ -144,11 +96,12 @@ def heads(rec):
 
 
 def variants(rec):
-    rec.note("number 2: each field of a variant record out of its range; a position that falls has the later one's place")
+    rec.note("number 2: each field of a variant record out of its range; the later one's place where a position falls")
     words, bases = encode(sample())
     at = Layout(*words[:3])
-    faults = [(0, 0, -1), (2, 0, 9), (3, 0, 24), (1, 1, -1), (0, 2, -1), (0, 2, 2), (1, 3, 3), (3, 3, 1), (0, 4, 0), (1, 4, 4),
-              (2, 4, -1), (0, 5, 0), (1, 7, 65), (2, 7, 1), (3, 6, -1), (0, 7, 2147483647), (1, 0, -2147483648)]
+    faults = [(0, 0, -1), (2, 0, 9), (3, 0, 24), (1, 1, -1), (0, 2, -1), (0, 2, 2), (1, 3, 3), (3, 3, 1), (0, 4, 0),
+              (1, 4, 4), (2, 4, -1), (0, 5, 0), (1, 7, 65), (2, 7, 1), (3, 6, -1), (0, 7, 2147483647),
+              (1, 0, -2147483648)]
     for v, field, value in faults:
         rec.check(with_word(words, at.variant(v) + field, value), bases)
     two = with_word(with_word(words, at.variant(3) + 1, -1), at.variant(1) + 3, 9)
@@ -171,7 +124,8 @@ def calls(rec):
     rec.note("number 4: the record's number, from 1")
     words, bases = encode(sample())
     at = Layout(*words[:3])
-    faults = [(1, 0, -1), (8, 0, 4), (1, 1, 2), (2, 1, 3), (3, 1, -1), (4, 2, -262145), (5, 2, 1), (6, 3, -262145), (8, 3, 1)]
+    faults = [(1, 0, -1), (8, 0, 4), (1, 1, 2), (2, 1, 3), (3, 1, -1), (4, 2, -262145), (5, 2, 1), (6, 3, -262145),
+              (8, 3, 1)]
     for r, field, value in faults:
         rec.check(with_word(words, at.call(r) + field, value), bases)
     rec.check([0, 0, 1, 0, 0, 0, 0, 0, 0], [])
@@ -212,7 +166,8 @@ def accepted(rec):
     words, bases = encode(sample())
     rec.check(words, bases)
     rec.check(*encode(sample(), [2, 5, 8, 1, 3, 4, 6, 7]))
-    wide = Case([Variant(0, 0, (0, 0), ["A" * 64, "C" * 64, "G" * 64]), Variant(2147483647, 2147483647, (2, 2), ["A", "A", "A"])],
+    wide = Case([Variant(0, 0, (0, 0), ["A" * 64, "C" * 64, "G" * 64]),
+                 Variant(2147483647, 2147483647, (2, 2), ["A", "A", "A"])],
                 [Fragment(1, [Call(0, 2, -262144, -262144), Call(1, 2, 0, 0)])], -262144)
     rec.check(*encode(wide))
 
@@ -256,34 +211,11 @@ def filters(rec):
     rec.filter(words[:-1], bases, [], nan, 0, 0, 0, 2)
 
 
-def random_case(rng, most=6):
-    n = rng.randrange(most)
-    pos0, variants = 0, []
-    for _ in range(n):
-        pos0 += rng.choice([0, 1, 1, 2, 7])
-        k = rng.randint(1, 3)
-        alleles = ["".join(rng.choice("ACGT") for _ in range(rng.choice([1, 1, 1, 2, 3]))) for _ in range(k)]
-        variants.append(Variant(pos0, rng.choice([0, 3, 9]), (rng.randrange(k), rng.randrange(k)), alleles))
-    fragments = []
-    for _ in range(rng.randrange(most)):
-        chosen = sorted(rng.sample(range(n), rng.randint(0, n)))
-        fragments.append(Fragment(rng.randrange(2), [
-            Call(v, rng.randrange(len(variants[v].alleles)), -rng.choice([0, 1, 1999, 2000, 2001, 262144]), -rng.choice([0, 5, 262144]))
-            for v in chosen]))
-    return Case(variants, fragments, -rng.choice([0, 2000, 262144]))
-
-
 def damaged(rec, rng, count):
     rec.note("random small cases, whole and damaged")
     for i in range(count):
         case = random_case(rng)
-        total = sum(len(f.calls) for f in case.fragments)
-        places = sorted(range(1, total + 1), key=lambda _: rng.random())
-        by_fragment, start = [], 0
-        for f in case.fragments:
-            by_fragment += sorted(places[start:start + len(f.calls)])
-            start += len(f.calls)
-        words, bases = encode(case, by_fragment)
+        words, bases = encode(case, random_numbering(case, rng))
         for _ in range(i % 3):
             if words and rng.random() < 0.9:
                 at = rng.randrange(len(words))
@@ -299,7 +231,8 @@ def random_filters(rec, rng, count):
         case = random_case(rng, 14)
         n = len(case.variants)
         quals = [rng.choice([1.0, 19.5, 20.0, 20.5, 500.0]) for _ in range(n)]
-        rec.filter(*encode(case), quals, 20.0, rng.randrange(12), rng.randrange(4), rng.choice([0, 2, 3, 8]), n + rng.randrange(2))
+        rec.filter(*encode(case), quals, 20.0, rng.randrange(12), rng.randrange(4), rng.choice([0, 2, 3, 8]),
+                   n + rng.randrange(2))
 
 
 def alone(alleles, genotype=(0, 0), reads=(), cutoff=-2000):
@@ -309,15 +242,16 @@ def alone(alleles, genotype=(0, 0), reads=(), cutoff=-2000):
 
 def priors(rec, rng):
     rec.note("priors: sample (g); AC/AG and AC/CA; A/A; one allele of two bases; indels; then refusals 6 and 10")
-    for alleles in (["A", "G"], ["AC", "AG"], ["AC", "CA"], ["A", "A"], ["AC"], ["C", "CA", "T"], ["GTT", "G", "GTTT"], ["ACGT", "ACGA", "ACCT"],
-                    ["A", "C", "T"], ["G", "A", "GA"], ["CT", "C", "CG"], ["TT", "TA", "AT"]):
+    for alleles in (["A", "G"], ["AC", "AG"], ["AC", "CA"], ["A", "A"], ["AC"], ["C", "CA", "T"], ["GTT", "G", "GTTT"],
+                    ["ACGT", "ACGA", "ACCT"], ["A", "C", "T"], ["G", "A", "GA"], ["CT", "C", "CG"], ["TT", "TA", "AT"]):
         rec.priors(*encode(alone(alleles)), RATES, 9)
     words, bases = encode(sample())
     rec.priors(words, bases, [-90000, -60000, -120001, -70001, -1000, -7777], 40)
     for i in range(6):
         for bad in (0, -262145, 5):
             rec.priors(words, bases, RATES[:i] + [bad] + RATES[i + 1:], 36)
-    for first in ([-8192] * 4, [-8193] * 4, [-1] * 4, [-4096, -4097, -262144, -262144], [-4096, -4096, -262144, -262144]):
+    lowest = -262144
+    for first in ([-8192] * 4, [-8193] * 4, [-1] * 4, [-4096, -4097, lowest, lowest], [-4096, -4096, lowest, lowest]):
         rec.priors(words, bases, first + [-1, -262144], 36)
     rec.priors(words, bases, RATES, 35)
     rec.priors(words, bases, [0] * 6, 0)
@@ -325,7 +259,8 @@ def priors(rec, rng):
     rec.priors(words[:-1], bases, [0] * 6, 0)
     for _ in range(25):
         case = random_case(rng)
-        rec.priors(*encode(case), [-rng.randrange(20000, 262145) for _ in range(4)] + [-rng.randrange(1, 262145) for _ in range(2)], 9 * len(case.variants))
+        rates = [-rng.randrange(20000, 262145) for _ in range(4)] + [-rng.randrange(1, 262145) for _ in range(2)]
+        rec.priors(*encode(case), rates, 9 * len(case.variants))
 
 
 def nohap(rec, rng):
@@ -333,8 +268,10 @@ def nohap(rec, rng):
     match, miss = -1700, -5796
     rec.nohap(*encode(alone(["A"])), RATES, (13, 1, 1))
     rec.nohap(*encode(alone(["A", "G"], (0, 1), [(1, miss, match, 0)])), RATES, (13, 1, 1))
-    rec.nohap(*encode(alone(["A", "G"], (0, 1), [(1, miss, match, s % 2) for s in range(30)] + [(0, miss, match, 1)] * 30)), RATES, (14, 2, 3))
-    rec.nohap(*encode(alone(["A", "G"], (0, 0), [(1, -2000, match, 0), (1, -2001, match, 1), (0, 0, -9, 0)])), RATES, (13, 1, 1))
+    both = [(1, miss, match, s % 2) for s in range(30)] + [(0, miss, match, 1)] * 30
+    rec.nohap(*encode(alone(["A", "G"], (0, 1), both)), RATES, (14, 2, 3))
+    edge = [(1, -2000, match, 0), (1, -2001, match, 1), (0, 0, -9, 0)]
+    rec.nohap(*encode(alone(["A", "G"], (0, 0), edge)), RATES, (13, 1, 1))
     rec.nohap(*encode(alone(["A", "A", "A"], (0, 0), [(2, -262144, 0, 0)] * 9)), RATES, (13, 1, 1))
     words, bases = encode(sample())
     rec.nohap(words, bases, RATES, (52, 4, 4))
@@ -345,7 +282,8 @@ def nohap(rec, rng):
     for _ in range(25):
         case = random_case(rng)
         n = len(case.variants)
-        rec.nohap(*encode(case), [-rng.randrange(20000, 262145) for _ in range(4)] + [-rng.randrange(1, 30000) for _ in range(2)], (13 * n, n, n))
+        rates = [-rng.randrange(20000, 262145) for _ in range(4)] + [-rng.randrange(1, 30000) for _ in range(2)]
+        rec.nohap(*encode(case), rates, (13 * n, n, n))
 
 
 def phase(rec, rng):
@@ -354,7 +292,8 @@ def phase(rec, rng):
     rec.phase(words, bases, [48, 49, 48, 49], [0, 0, 1, 1], (8, 4, 4))
     rec.phase(words, bases, [49, 48, 45, 0], [3, 3, 3, -1], (9, 5, 6))
     rec.phase(words, bases, [45, 49, 49, 48], [2, 2, -2147483648, 0], (8, 4, 4))
-    two = encode(Case([Variant(3, 0, (1, 0), ["A", "C"]), Variant(9, 0, (2, 1), ["A", "C", "GG"]), Variant(9, 0, (0, 1), ["A", "CC"])], [], 0))
+    two = encode(Case([Variant(3, 0, (1, 0), ["A", "C"]), Variant(9, 0, (2, 1), ["A", "C", "GG"]),
+                       Variant(9, 0, (0, 1), ["A", "CC"])], [], 0))
     for byte in (48, 49, 50):
         rec.phase(*two, [byte] * 3, [2, 1, 2], (6, 3, 3))
     rec.phase(words, bases, [48] * 3, [0] * 4, (8, 4, 4))
@@ -367,7 +306,8 @@ def phase(rec, rng):
     for _ in range(25):
         case = random_case(rng)
         n = len(case.variants)
-        rec.phase(*encode(case), [rng.choice([48, 49, 45]) for _ in range(n)], [rng.randrange(-1, n) for _ in range(n)], (2 * n, n, n))
+        phase, sets = [rng.choice([48, 49, 45]) for _ in range(n)], [rng.randrange(-1, n) for _ in range(n)]
+        rec.phase(*encode(case), phase, sets, (2 * n, n, n))
 
 
 def flist(rec, rng):
@@ -377,7 +317,8 @@ def flist(rec, rng):
     rec.flist(*encode(line), 0, 19)
     rec.flist(*encode(line), 0, 24)
     rec.flist(*encode(line), 1, 18)
-    many = Case(snv, [Fragment(1, [Call(9, 2, -262144, 0)]), Fragment(0, []), Fragment(1, [Call(8, 1, -2001, 0), Call(9, 2, -2000, 0), Call(10, 0, -5000, 0)]),
+    many = Case(snv, [Fragment(1, [Call(9, 2, -262144, 0)]), Fragment(0, []),
+                      Fragment(1, [Call(8, 1, -2001, 0), Call(9, 2, -2000, 0), Call(10, 0, -5000, 0)]),
                       Fragment(0, [Call(v, v % 3, -2001 - 1361 * v, 0) for v in range(12)])], -2000)
     for single in (0, 1):
         rec.flist(*encode(many), single, 120)
@@ -400,34 +341,50 @@ def orders(rec, rng):
         rec.orders(*encode(spread(list(range(n)))), rng.randrange(2**64), 3 * n)
 
 
-def runs(rec, rng):
-    rec.note("run: samples (h) to (k); refusals 6 to 10")
+def sample_runs(rec):
+    rec.note("run: samples (h) to (k); one more than the limit needs, and exactly as many")
     read = {a: (a, -5796, -1700, 0) for a in (0, 1)}
     snv = ["A", "G"]
-    rec.run(*encode(alone(snv, (0, 1), [read[1]])), RATES, [48], [0], [0], 10, (2, 2, 9, 1, 1))
+    one = encode(alone(snv, (0, 1), [read[1]]))
+    for limit in (10, 2, 1):
+        rec.run(*one, RATES, [48], [0], [0], limit, (2, 2, 9, 1, 1))
     for count in (112, 113):
         for byte in (48, 49):
-            rec.run(*encode(alone(snv, (0, 1), [read[0]] * count + [read[1]] * count)), RATES, [byte], [0], [0], 1000000, (2, 4 * count, 9, 1, 1))
+            both = alone(snv, (0, 1), [read[0]] * count + [read[1]] * count)
+            rec.run(*encode(both), RATES, [byte], [0], [0], 1000000, (2, 4 * count, 9, 1, 1))
     rec.run([0, 0, 0, 0], [], RATES, [], [], [], 1, (0, 0, 0, 0, 0))
+    rec.run([0, 2, 0, 0, 0, 0, 0, 1], [], RATES, [], [], [], 3, (1, 5, 2, 1, 1))
+
+
+def refused_runs(rec):
+    rec.note("run: refusals 6 to 10, alone and together")
     words, bases = encode(sample())
     full = (8, 10, 36, 4, 4)
     order = [0, 1, 2, 3]
     good = [words, bases, RATES, [48, 49, 48, 49], [0, 0, 1, 1], order, 5, full]
     rec.run(*good)
 
-    def changed(i, value):
-        return good[:i] + [value] + good[i + 1:]
+    def changed(parts, i, value):
+        return parts[:i] + [value] + parts[i + 1:]
 
     for limit in (0, 1000001, 4294967295, 1, 2):
-        rec.run(*changed(6, limit))
+        rec.run(*changed(good, 6, limit))
     for bad in ([], [0, 1, 2], [0, 1, 2, 3, 0], [0, 1, 2, 2], order + [3, 2, 1, 4], order + order + [1, 0, 3, 3]):
-        rec.run(*changed(5, bad))
-    rec.run(*changed(3, [48] * 3))
-    rec.run(*changed(4, [0, 0, 4, 1]))
-    rec.run(*changed(2, RATES[:3] + [0] + RATES[4:]))
+        rec.run(*changed(good, 5, bad))
+    rec.run(*changed(good, 3, [48] * 3))
+    rec.run(*changed(good, 4, [0, 0, 4, 1]))
+    rec.run(*changed(good, 2, RATES[:3] + [0] + RATES[4:]))
     for i, room in enumerate(full):
-        rec.run(*changed(7, full[:i] + (room - 1,) + full[i + 1:]))
+        rec.run(*changed(good, 7, full[:i] + (room - 1,) + full[i + 1:]))
     rec.run([0, 0, 0, 0], [], RATES, [], [], [0], 1, (0, 0, 0, 0, 0))
+    bad = changed(good, 7, (7, 9, 0, 3, 4))
+    for i, value in ((6, 0), (5, [0, 0, 1, 2]), (4, [0, 9, 0, 0]), (2, [0] * 6), (1, bases[1:])):
+        rec.run(*bad)
+        bad = changed(bad, i, value)
+    rec.run(*bad)
+
+
+def random_runs(rec, rng):
     rec.note("random small runs: ties, unphased mixes, several orders, short limits")
     for _ in range(60):
         case = random_case(rng, 7)
@@ -438,15 +395,26 @@ def runs(rec, rng):
                     c.qual, c.one_minus_qual = rng.choice([(-5796, -1700), (-5796, -1700), (-4096, -4096)])
         m = rng.randint(1, 3)
         lists = [v for _ in range(m) for v in rng.sample(range(n), n)] if n else []
-        rec.run(*encode(case), RATES, [rng.choice([48, 49, 45]) for _ in range(n)], [rng.randrange(-1, n) for _ in range(n)],
-                lists, rng.choice([1, 2, 50]), (2 * n + rng.randrange(2), 2 * f, 9 * n, n, n))
+        phase, sets = [rng.choice([48, 49, 45]) for _ in range(n)], [rng.randrange(-1, n) for _ in range(n)]
+        rec.run(*encode(case), RATES, phase, sets, lists, rng.choice([1, 2, 50]),
+                (2 * n + rng.randrange(2), 2 * f, 9 * n, n, n))
+    rec.note("reads that disagree: several sweeps, the later ones by other orders, settled and not")
+    for _ in range(25):
+        rec.entries += tangled(rng).requests(["run"])
+
+
+def runs(rec, rng):
+    sample_runs(rec)
+    refused_runs(rec)
+    random_runs(rec, rng)
 
 
 # The requests that the program has; a later operation joins the list with its library function.
 LATER = [priors, orders, phase, flist, nohap]
 
 
-def main():
+def recorded():
+    """The whole list."""
     rec, rng = Record(), random.Random(1)
     for part in (accepted, heads, variants, alleles, calls, chains, order_of_numbers, filters):
         part(rec)
@@ -454,14 +422,32 @@ def main():
     random_filters(rec, rng, 60)
     for part in LATER:
         part(rec, rng)
-    rec.note("an integer that does not fit its type ends the program")
-    rec.add("check 1 2147483648 0", "unreadable\n")
-    rec.requests.append("check 4 0 0 0 0 0\n")
+    return rec.entries
+
+
+def answers(requests):
+    """Document 01's answers, by the oracle where the source has the operation and the request is accepted, else by the
+    model; both must agree."""
+    by_model = [request.answer() for request in requests]
+    asked = [i for i, r in enumerate(requests) if r.word in OF_THE_SOURCE and by_model[i].startswith("done")]
+    by_oracle = ask(["target/oracle/oracle"], [requests[i] for i in asked])
+    for i, answer in zip(asked, by_oracle):
+        if answer != by_model[i]:
+            sys.exit("the oracle and the model differ at:\n" + requests[i].text())
+    return by_model, len(asked)
+
+
+def main():
+    entries = recorded()
+    requests = [e for e in entries if isinstance(e, Request)]
+    replies, asked = answers(requests)
     with open("crates/condorbed/stdin", "w") as out:
-        out.write("# Written by tools/record.py.\n" + "".join(rec.requests))
+        out.write(HEADER % (len(requests), asked))
+        out.writelines(e.text() if isinstance(e, Request) else e for e in entries)
+        out.write("# an integer that does not fit its type ends the program\ncheck 1 2147483648 0\ncheck 4 0 0 0 0 0\n")
     with open("crates/condorbed/stdout", "w") as out:
-        out.write("".join(rec.answers))
-    print("%d requests" % len(rec.answers))
+        out.write("".join(replies) + "unreadable\n")
+    print("%d requests, %d answered by the oracle" % (len(requests), asked))
 
 
 if __name__ == "__main__":

@@ -1,0 +1,261 @@
+"""Cases of every kind, with the parts that the operations take besides, for recorded lists and comparisons.
+
+Everything is drawn from the generator that is handed in, so that a seed fixes it.
+"""
+import itertools
+
+from model import Call, Case, Fragment, Variant, check_rates, encode, Refused
+from protocol import Request
+
+RATES = [-70000] * 4 + [-4096, -8192]
+MATCH, MISS = -1700, -5796
+LOWEST = -262144
+# The bytes that the fragment lines of a case can need.
+MOST_LINES = 172032
+
+
+def random_case(rng, most=6):
+    n = rng.randrange(most)
+    pos0, variants = 0, []
+    for _ in range(n):
+        pos0 += rng.choice([0, 1, 1, 2, 7])
+        k = rng.randint(1, 3)
+        alleles = ["".join(rng.choice("ACGT") for _ in range(rng.choice([1, 1, 1, 2, 3]))) for _ in range(k)]
+        variants.append(Variant(pos0, rng.choice([0, 3, 9]), (rng.randrange(k), rng.randrange(k)), alleles))
+    fragments = []
+    for _ in range(rng.randrange(most)):
+        chosen = sorted(rng.sample(range(n), rng.randint(0, n)))
+        fragments.append(Fragment(rng.randrange(2), [
+            Call(v, rng.randrange(len(variants[v].alleles)), -rng.choice([0, 1, 1999, 2000, 2001, 262144]),
+                 -rng.choice([0, 5, 262144]))
+            for v in chosen]))
+    return Case(variants, fragments, -rng.choice([0, 2000, 262144]))
+
+
+def random_numbering(case, rng):
+    """A record number for each call, rising along each chain."""
+    total = sum(len(f.calls) for f in case.fragments)
+    places = sorted(range(1, total + 1), key=lambda _: rng.random())
+    by_fragment, start = [], 0
+    for f in case.fragments:
+        by_fragment += sorted(places[start:start + len(f.calls)])
+        start += len(f.calls)
+    return by_fragment
+
+
+# ---- Variants, reads and rates.
+
+
+def random_alleles(rng, k):
+    """k alleles: mostly single bases, all different; else any bases, indels, several bases with a common start, or all
+    the same."""
+    kind = rng.random()
+    if kind < 0.6:
+        return rng.sample("ACGT", k)
+    if kind < 0.7:
+        return [rng.choice("ACGT")] * k
+    lengths = [rng.choice([1, 1, 2, 3]) for _ in range(k)] if kind < 0.9 else [rng.choice([2, 3, 64])] * k
+    start = rng.choice(["", "A", "AC"])
+    return [(start + "".join(rng.choices("ACGT", k=length)))[:length] for length in lengths]
+
+
+def random_variant(rng, pos0, k=None):
+    k = k or rng.choice([1, 2, 2, 2, 3])
+    genotype = (rng.randrange(k), rng.randrange(k))
+    return Variant(pos0, rng.choice([0, 3, 9, 31, 2147483647]), genotype, random_alleles(rng, k))
+
+
+def random_positions(rng, n):
+    pos0, out = rng.choice([0, 5, 2147483647 - 7 * n]), []
+    for _ in range(n):
+        out.append(pos0)
+        pos0 += rng.choice([0, 1, 1, 2, 7])
+    return out
+
+
+def random_qualities(rng, cutoff):
+    """A way to draw the two qualities of a call: those of the samples, equal ones, the ends and the cutoff, any."""
+    kind = rng.random()
+    if kind < 0.3:
+        pairs = [(MISS, MATCH)]
+    elif kind < 0.5:
+        pairs = [(MISS, MATCH), (MISS, MATCH), (-4096, -4096)]
+    elif kind < 0.7:
+        near = [q for q in (cutoff - 1, cutoff, cutoff + 1, 0, LOWEST) if LOWEST <= q <= 0]
+        pairs = [(q, o) for q in near for o in (0, -1, -5, LOWEST)]
+    elif kind < 0.9:
+        pairs = [(-1361 * q, -(20000 >> min(q, 20))) for q in range(2, 60)]
+    else:
+        return lambda: (rng.randint(LOWEST, 0), rng.randint(LOWEST, 0))
+    return lambda: rng.choice(pairs)
+
+
+def random_read(rng, variants, quality, places):
+    calls = [Call(v, rng.randrange(len(variants[v].alleles)), *quality()) for v in places]
+    return Fragment(rng.randrange(2), calls)
+
+
+def random_places(rng, n):
+    """The variants that a read calls: a stretch of them, with gaps, or none."""
+    if n == 0 or rng.random() < 0.1:
+        return []
+    first = rng.randrange(n)
+    return [v for v in range(first, min(n, first + rng.choice([1, 2, 3, 8]))) if rng.random() < 0.9]
+
+
+def mirror(read):
+    """The read with alleles 0 and 1 exchanged."""
+    return Fragment(read.strand, [Call(c.variant, (1, 0, 2)[c.allele], c.qual, c.one_minus_qual) for c in read.calls])
+
+
+def tree(rng, n, f, ties=False):
+    """n variants and f reads; for ties every variant has two alleles or more, and half of the reads mirror the rest."""
+    variants = [random_variant(rng, p, rng.choice([2, 2, 3]) if ties else None) for p in random_positions(rng, n)]
+    cutoff = rng.choice([0, -1, -2000, -2000, -2000, LOWEST, -rng.randint(0, 262144)])
+    quality = random_qualities(rng, cutoff)
+    reads = [random_read(rng, variants, quality, random_places(rng, n)) for _ in range(f // 2 if ties else f)]
+    if ties:
+        reads += [mirror(read) for read in reads]
+    return Case(variants, reads, cutoff)
+
+
+def random_rates(rng):
+    """Accepted rates: the samples', the ends, or any."""
+    while True:
+        kind = rng.random()
+        if kind < 0.5:
+            return RATES
+        if kind < 0.6:
+            rates = [-8193] * 4 + [-1, LOWEST]
+        elif kind < 0.8:
+            rates = [-rng.randint(8193, 120000) for _ in range(4)] + [-rng.randint(1, 20000) for _ in range(2)]
+        else:
+            rates = [-rng.randint(1, 262144) for _ in range(6)]
+        try:
+            check_rates(rates)
+            return rates
+        except Refused:
+            continue
+
+
+# ---- Trials: a case and the parts of every operation.
+
+
+class Trial:
+    """A case with its records' numbers, and the parts of every operation on it; orders are a list of orders, `extra` is
+    the room that every output slice has past its need."""
+
+    def __init__(self, rng, case, phase=None):
+        n = len(case.variants)
+        self.case, self.numbering = case, random_numbering(case, rng) if rng.random() < 0.5 else None
+        self.rates = random_rates(rng)
+        self.phase = phase or [rng.choice([48, 49, 48, 49, 45, 0]) for _ in range(n)]
+        self.sets = [rng.randrange(-1, n) for _ in range(n)]
+        self.orders = [rng.sample(range(n), n) for _ in range(rng.choice([1, 1, 2, 3]))]
+        self.limit = rng.choice([1, 2, 3, 50, 1000000])
+        self.quals = [rng.choice([1.0, 19.5, 20.0, 20.5, 500.0, float("inf"), float("nan")]) for _ in range(n)]
+        self.density = [rng.choice([20.0, 20.0, 1e-310, -0.0]), rng.choice([0, 1, 3, 12, 4294967295]),
+                        rng.choice([0, 1, 2, 3, 4294967295]), rng.choice([0, 3, 8, 2147483646, 4294967295])]
+        self.single_reads, self.seed = rng.randrange(2), rng.choice([0, rng.getrandbits(64)])
+        self.extra = rng.choice([0, 0, 0, 1, 16])
+
+    def parts(self, word):
+        orders = [v for order in self.orders for v in order]
+        return {
+            "check": [], "priors": [self.rates], "nohap": [self.rates], "phase": [self.phase, self.sets],
+            "run": [self.rates, self.phase, self.sets, orders, self.limit], "flist": [self.single_reads],
+            "filter": [self.quals] + self.density, "orders": [self.seed],
+        }[word]
+
+    def rooms(self, word):
+        n, f = len(self.case.variants), len(self.case.fragments)
+        if word == "orders":
+            return [n * len(self.orders)]
+        lines = min(sum(14 + 8 * len(x.calls) for x in self.case.fragments), MOST_LINES)
+        needs = {"check": [], "priors": [9 * n], "nohap": [13 * n, n, n], "phase": [2 * n, n, n],
+                 "run": [2 * n, 2 * f, 9 * n, n, n], "flist": [lines], "filter": [n]}[word]
+        return [need + self.extra for need in needs]
+
+    def requests(self, words):
+        """The requests of these words."""
+        data = encode(self.case, self.numbering)
+        return [Request(word, *data, self.parts(word), self.rooms(word)) for word in words]
+
+    def reference(self):
+        """The run by document 01's own orders: as many of them as sweeps are allowed."""
+        words, bases = encode(self.case, self.numbering)
+        count = min(self.limit, 12)
+        orders = Request("orders", words, bases, [0], [len(self.case.variants) * count]).result()[1][0]
+        return Request("run", words, bases, [self.rates, self.phase, self.sets, orders, count], self.rooms("run"))
+
+
+def shapes():
+    """Every shape of at most two variants (alleles, phase byte) and three reads (which variants each calls)."""
+    for n in range(3):
+        for variants in itertools.product(itertools.product((1, 2, 3), (48, 49, 45)), repeat=n):
+            subsets = [[v for v in range(n) if bits >> v & 1] for bits in range(2**n)]
+            for f in range(4):
+                for places in itertools.product(subsets, repeat=f):
+                    yield variants, places
+
+
+def shaped(rng, shape):
+    """A trial of a shape."""
+    kinds, places = shape
+    variants = [random_variant(rng, p, k) for p, (k, _) in zip(random_positions(rng, len(kinds)), kinds)]
+    cutoff = rng.choice([0, -2000, -2000, LOWEST])
+    quality = random_qualities(rng, cutoff)
+    reads = [random_read(rng, variants, quality, p) for p in places]
+    return Trial(rng, Case(variants, reads, cutoff), [byte for _, byte in kinds])
+
+
+def deep(rng):
+    """One variant under many reads, as in samples (i) and (j)."""
+    variant = Variant(7, 3, rng.choice([(0, 1), (1, 0), (0, 0)]), ["A", "G"])
+    counts = [rng.choice([0, 1, 60, 112, 113, 200]) for _ in range(2)]
+    reads = [Fragment(rng.randrange(2), [Call(0, a, MISS, MATCH)]) for a in (0, 1) for _ in range(counts[a])]
+    return Trial(rng, Case([variant], reads, -2000))
+
+
+def tangled(rng):
+    """Heterozygous single bases, long reads that disagree and common variants: several sweeps, by several orders."""
+    n = rng.randint(4, 12)
+    variants = [random_variant(rng, 10 * v) for v in range(n)]
+    for variant in variants:
+        if rng.random() < 0.9:
+            variant.alleles, variant.genotype = rng.sample("ACGT", rng.choice([2, 2, 3])), rng.choice([(0, 1), (1, 0)])
+    qualities = rng.choice([[(MISS, MATCH)], [(-9000, -40), (MISS, MATCH)], [(-20000, -10), (-9000, -300), (-6000, 0)]])
+    places = [sorted(rng.sample(range(n), min(n, rng.choice([2, 3, 5, 8])))) for _ in range(rng.randint(n, 3 * n))]
+    reads = [random_read(rng, variants, lambda: rng.choice(qualities), p) for p in places]
+    trial = Trial(rng, Case(variants, reads, -2000), [rng.choice([48, 49, 48, 49, 48, 49, 45]) for _ in range(n)])
+    common = [[-8193] * 4 + [-1, -1], [-12000, -8500, -40000, -40000, -1, -1], [-20000] * 4 + [-1000, -3000]]
+    trial.rates = rng.choice(common)
+    trial.orders = [rng.sample(range(n), n) for _ in range(rng.choice([1, 2, 3]))]
+    trial.limit = rng.choice([1, 2, 3, 4, 1000000, 1000000])
+    return trial
+
+
+def random_trial(rng, large):
+    """A trial of any size; without `large` a small one."""
+    kind = rng.random()
+    if rng.random() < 0.15:
+        return tangled(rng)
+    if kind < 0.3:
+        return Trial(rng, tree(rng, rng.randint(1, 6), 2 * rng.randint(0, 5), ties=True))
+    if large and kind < 0.3005:
+        return Trial(rng, tree(rng, rng.randint(100, 400), rng.randint(100, 1000)))
+    if large and kind < 0.31:
+        return Trial(rng, tree(rng, rng.randint(10, 40), rng.randint(10, 100)))
+    if kind < 0.315:
+        return deep(rng)
+    return Trial(rng, tree(rng, rng.randint(0, 7), rng.randint(0, 10)))
+
+
+def largest(rng):
+    """N = 1024, F = 4096, C = 16384: four calls a read, positions that rise by one, few reads with a tie."""
+    variants = [random_variant(rng, v) for v in range(1024)]
+    quality = random_qualities(rng, -2000)
+    reads = [random_read(rng, variants, quality, range(v, v + 4)) for v in (rng.randrange(1021) for _ in range(4096))]
+    trial = Trial(rng, Case(variants, reads, -2000))
+    trial.limit, trial.orders, trial.extra = 1000000, [rng.sample(range(1024), 1024) for _ in range(3)], 16
+    return trial

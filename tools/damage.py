@@ -1,0 +1,144 @@
+"""Damage to accepted requests, so that every refusal of document 01 turns up, alone and with others."""
+import copy
+
+from model import CALL, FRAGMENT, HEAD, VARIANT, Layout
+
+BAD_WORDS = [0, 1, -1, 2, 3, 4, 65, 1025, -262145, 2147483647, -2147483648]
+
+
+def set_word(rng, request, at):
+    """Another value in this word: one next to it, or one at the end of some range."""
+    if 0 <= at < len(request.words):
+        before = request.words[at]
+        request.words[at] = rng.choice([x for x in (before + 1, before - 1) if abs(x) < 2**31] + BAD_WORDS)
+
+
+def layout(request):
+    return Layout(*request.words[:3]) if len(request.words) >= HEAD else Layout(0, 0, 0)
+
+
+def head(rng, request):
+    set_word(rng, request, rng.randrange(HEAD))
+
+
+def variant(rng, request):
+    at = layout(request)
+    if at.n > 0:
+        set_word(rng, request, at.variant(rng.randrange(at.n)) + rng.randrange(VARIANT))
+
+
+def fragment(rng, request):
+    at = layout(request)
+    if at.f > 0:
+        set_word(rng, request, at.fragment(rng.randrange(at.f)) + rng.randrange(FRAGMENT))
+
+
+def call(rng, request):
+    at = layout(request)
+    if at.c > 0:
+        set_word(rng, request, at.call(rng.randint(1, at.c)) + rng.randrange(CALL))
+
+
+def link(rng, request):
+    """A first or a next that names some other record: shared, unreached, falling or not rising."""
+    at = layout(request)
+    if at.c <= 0 or at.f <= 0:
+        return
+    places = [at.call(rng.randint(1, at.c)) + CALL - 1, at.fragment(rng.randrange(at.f))]
+    place = rng.choice(places)
+    if 0 <= place < len(request.words):
+        request.words[place] = rng.randint(0, at.c + 1)
+
+
+def length(rng, values, added):
+    """One element fewer or more."""
+    if values and rng.random() < 0.5:
+        values.pop()
+    else:
+        values.append(added)
+
+
+def words(rng, request):
+    length(rng, request.words, 0)
+    if rng.random() < 0.2:
+        del request.words[rng.randrange(6):]
+
+
+def bases(rng, request):
+    if rng.random() < 0.3 or not request.bases:
+        length(rng, request.bases, 65)
+    else:
+        request.bases[rng.randrange(len(request.bases))] = rng.choice([0, 64, 66, 78, 97, 255])
+
+
+def rates(rng, request):
+    values = request.parts[0]
+    if rng.random() < 0.3:
+        values[:4] = rng.choice([[-8192] * 4, [-1] * 4, [-4096, -4096, -262144, -262144], [-8193] * 4])
+    else:
+        values[rng.randrange(6)] = rng.choice([0, 1, -262145, 2147483647, -2147483648])
+
+
+def given_phase(rng, request):
+    bytes_, sets = request.parts[-2:] if request.word == "phase" else request.parts[1:3]
+    if rng.random() < 0.4 or not sets:
+        length(rng, rng.choice([bytes_, sets]), 0)
+    else:
+        sets[rng.randrange(len(sets))] = len(sets) + rng.choice([-1, 0, 1, 7, 2000000000])
+
+
+def orders(rng, request):
+    values = request.parts[3]
+    if rng.random() < 0.3 or not values:
+        length(rng, values, 0)
+    elif rng.random() < 0.2:
+        values.clear()
+    else:
+        values[rng.randrange(len(values))] = rng.choice([0, 1, len(request.parts[1]), 4294967295])
+
+
+def limit(rng, request):
+    request.parts[4] = rng.choice([0, 1000001, 4294967295, 1000000, 1])
+
+
+def room(rng, request):
+    """An output slice that is too short, by one or altogether."""
+    if request.rooms:
+        i = rng.randrange(len(request.rooms))
+        request.rooms[i] = rng.choice([0, max(0, request.rooms[i] - rng.choice([1, 2, 17]))])
+
+
+def line_room(rng, request):
+    """Exactly the bytes that the lines need, or one fewer."""
+    if request.refusal() is None:
+        size = request.result()[0][0]
+        request.rooms[0] = max(0, size - rng.randrange(2))
+
+
+def order_room(rng, request):
+    request.rooms[0] = max(0, request.rooms[0] + rng.choice([-1, 1, 2]))
+
+
+def qualities(rng, request):
+    length(rng, request.parts[0], 1.0)
+
+
+def density_qual(rng, request):
+    request.parts[1] = rng.choice([float("nan"), float("inf"), float("-inf")])
+
+
+CASE = [head, variant, variant, fragment, call, call, link, link, words, bases]
+DAMAGES = {
+    "check": CASE, "priors": [rates, room], "nohap": [rates, room, room], "phase": [given_phase, given_phase, room],
+    "run": [rates, given_phase, orders, limit, room], "flist": [room, line_room, line_room],
+    "filter": [qualities, density_qual, room], "orders": [order_room],
+}
+
+
+def damaged(rng, request):
+    """A copy of the request with one to three faults; now and then it is still accepted."""
+    out = copy.deepcopy(request)
+    for _ in range(rng.choice([1, 1, 1, 2, 3])):
+        own = rng.random() < 0.6
+        rng.choice(DAMAGES[out.word] if own else CASE)(rng, out)
+    return out
