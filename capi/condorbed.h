@@ -21,8 +21,8 @@
  *     2 a fragment: its first call (from 1; 0: none), its strand (0 forward, 1 reverse);
  *     5 a call:     variant, allele, qual, one_minus_qual (each -262144..0), the fragment's next call (0: none).
  *   bases: A, C, G, T of all alleles, one after the other.
- * Log probabilities (cutoff, qual, one_minus_qual, rates, priors) are in steps, 4096 to a doubling. A call is usable
- * when its qual is below the cutoff.
+ * Log probabilities (cutoff, qual, one_minus_qual, rates, priors, likelihoods, posteriors, totals) are in steps, 4096
+ * to a doubling. A call is usable when its qual is below the cutoff.
  */
 #ifndef CONDORBED_H
 #define CONDORBED_H
@@ -74,6 +74,18 @@ typedef struct {
     size_t bytes;
     size_t lines;
 } condorbed_flist_answer;
+
+/* Where done, how many sweeps were made, whether the last one changed nothing (else the limit stopped them), the totals
+   over the phased variants at the start and at the end, and the total over all variants at the end; else zeros. */
+typedef struct {
+    size_t number;
+    size_t place;
+    size_t sweeps;
+    bool settled;
+    int64_t start;
+    int64_t end;
+    int64_t source;
+} condorbed_round_answer;
 
 /* Each -262144..-1; the first four added up as probabilities are below certainty. */
 typedef struct {
@@ -140,6 +152,24 @@ condorbed_answer condorbed_sweep_orders(const int32_t *words, size_t words_len,
                                         const uint8_t *bases, size_t bases_len,
                                         uint64_t seed,
                                         uint32_t *orders, size_t orders_len);
+
+/* One round of calling genotypes with haplotypes: from the given phase (phase and sets as in condorbed_given_phase)
+   sweeps over all variants, sweep s by order s mod m of the m orders in orders (m times N elements, each order every
+   variant once; empty where N is 0), until one changes nothing or limit (1..1000000) of them are made. Writes 2
+   haplotype alleles a variant, 2 likelihoods a fragment, 9 posteriors a variant (k x k, row by row, then zeros), and N
+   qualities each of the variants (quals) and of the genotypes (gqs). */
+condorbed_round_answer condorbed_call_genotypes_with_haplotypes(const int32_t *words, size_t words_len,
+                                                                const uint8_t *bases, size_t bases_len,
+                                                                condorbed_rates rates,
+                                                                const uint8_t *phase, size_t phase_len,
+                                                                const int32_t *sets, size_t sets_len,
+                                                                const uint32_t *orders, size_t orders_len,
+                                                                uint32_t limit,
+                                                                uint8_t *haplotypes, size_t haplotypes_len,
+                                                                int64_t *likelihoods, size_t likelihoods_len,
+                                                                int64_t *posteriors, size_t posteriors_len,
+                                                                double *quals, size_t quals_len,
+                                                                double *gqs, size_t gqs_len);
 
 #ifdef __cplusplus
 }

@@ -37,6 +37,17 @@ pub struct Amount {
     pub lines: usize,
 }
 
+/// How many sweeps were made, whether the last one changed nothing, the totals over the phased variants at the start
+/// and at the end, and the total over all variants at the end.
+#[derive(Clone, Copy, Debug, PartialEq, Eq)]
+pub struct Round {
+    pub sweeps: usize,
+    pub settled: bool,
+    pub start: i64,
+    pub end: i64,
+    pub source: i64,
+}
+
 /// Each in -262144..=-1, in steps; the first four added up as probabilities are below certainty.
 #[repr(C)]
 #[derive(Clone, Copy, Debug, PartialEq, Eq)]
@@ -157,6 +168,34 @@ pub fn sweep_orders(words: &[i32], bases: &[u8], seed: u64, orders: &mut [u32]) 
     result(a.number, a.place, ())
 }
 
+/// One round: sweeps by the orders in turn, until one changes nothing or the limit is reached. Writes 2 haplotype
+/// alleles a variant, 2 likelihoods a fragment, 9 posteriors a variant, N quals and N gqs.
+pub fn call_genotypes_with_haplotypes(
+    words: &[i32],
+    bases: &[u8],
+    rates: Rates,
+    phase: &[u8],
+    sets: &[i32],
+    orders: &[u32],
+    limit: u32,
+    haplotypes: &mut [u8],
+    likelihoods: &mut [i64],
+    posteriors: &mut [i64],
+    quals: &mut [f64],
+    gqs: &mut [f64],
+) -> Result<Round, Refused> {
+    let a = unsafe {
+        c::condorbed_call_genotypes_with_haplotypes(
+            words.as_ptr(), words.len(), bases.as_ptr(), bases.len(), rates,
+            phase.as_ptr(), phase.len(), sets.as_ptr(), sets.len(), orders.as_ptr(), orders.len(), limit,
+            haplotypes.as_mut_ptr(), haplotypes.len(), likelihoods.as_mut_ptr(), likelihoods.len(),
+            posteriors.as_mut_ptr(), posteriors.len(), quals.as_mut_ptr(), quals.len(), gqs.as_mut_ptr(), gqs.len(),
+        )
+    };
+    let round = Round { sweeps: a.sweeps, settled: a.settled, start: a.start, end: a.end, source: a.source };
+    result(a.number, a.place, round)
+}
+
 // Number 0 is done.
 fn result<T>(number: usize, place: usize, values: T) -> Result<T, Refused> {
     if number == 0 {
@@ -191,6 +230,17 @@ mod c {
         pub place: usize,
         pub bytes: usize,
         pub lines: usize,
+    }
+
+    #[repr(C)]
+    pub struct RoundAnswer {
+        pub number: usize,
+        pub place: usize,
+        pub sweeps: usize,
+        pub settled: bool,
+        pub start: i64,
+        pub end: i64,
+        pub source: i64,
     }
 
     #[link(name = "exports", kind = "static")]
@@ -232,5 +282,14 @@ mod c {
             words: *const i32, words_len: usize, bases: *const u8, bases_len: usize,
             seed: u64, orders: *mut u32, orders_len: usize,
         ) -> Answer;
+
+        pub fn condorbed_call_genotypes_with_haplotypes(
+            words: *const i32, words_len: usize, bases: *const u8, bases_len: usize, rates: Rates,
+            phase: *const u8, phase_len: usize, sets: *const i32, sets_len: usize,
+            orders: *const u32, orders_len: usize, limit: u32,
+            haplotypes: *mut u8, haplotypes_len: usize, likelihoods: *mut i64, likelihoods_len: usize,
+            posteriors: *mut i64, posteriors_len: usize,
+            quals: *mut f64, quals_len: usize, gqs: *mut f64, gqs_len: usize,
+        ) -> RoundAnswer;
     }
 }

@@ -112,6 +112,30 @@ static void sweep_orders(void)
     LINE("%" PRIu32, orders);
 }
 
+/* a limit of 0 is refused, one of 100 is enough */
+static void call_genotypes_with_haplotypes(void)
+{
+    const uint8_t phase[4] = {'0', '1', '0', '1'};
+    const int32_t sets[4] = {-1, 3, 3, 3};
+    const uint32_t orders[2 * 4] = {2, 1, 0, 3, 2, 3, 1, 0};
+    uint8_t haplotypes[2 * 4];
+    int64_t likelihoods[2 * 1], posteriors[9 * 4];
+    double quals[4], gqs[4];
+    for (uint32_t limit = 0; limit <= 100; limit += 100) {
+        condorbed_round_answer a = condorbed_call_genotypes_with_haplotypes(
+            CASE, rates, phase, LEN(phase), sets, LEN(sets), orders, LEN(orders), limit, haplotypes, LEN(haplotypes),
+            likelihoods, LEN(likelihoods), posteriors, LEN(posteriors), quals, LEN(quals), gqs, LEN(gqs));
+        first_line("call_genotypes_with_haplotypes", a.number, a.place);
+        printf("%zu %s %" PRId64 " %" PRId64 " %" PRId64 "\n", a.sweeps, a.settled ? "settled" : "unsettled", a.start,
+               a.end, a.source);
+    }
+    LINE("%" PRIu8, haplotypes);
+    LINE("%" PRId64, likelihoods);
+    LINE("%" PRId64, posteriors);
+    LINE("%.4f", quals);
+    LINE("%.4f", gqs);
+}
+
 int main(void)
 {
     check_case();
@@ -121,5 +145,6 @@ int main(void)
     given_phase();
     generate_flist_buffer();
     sweep_orders();
+    call_genotypes_with_haplotypes();
     return 0;
 }

@@ -1,6 +1,6 @@
 //! Every function, on a small case: variants A/G, A/C, A/AC, A/G, and one read of G, A and G at variants 0, 1 and 3.
 
-use condorbed::{DensityParameters, Rates, Refused};
+use condorbed::{DensityParameters, Rates, Refused, Round};
 use std::fmt::Display;
 
 const WORDS: &[i32] = &[
@@ -99,6 +99,28 @@ fn sweep_orders() {
     line(&orders);
 }
 
+fn call_genotypes_with_haplotypes() {
+    let (sets, orders) = ([-1, 3, 3, 3], [2, 1, 0, 3, 2, 3, 1, 0]);
+    let (mut haplotypes, mut likelihoods, mut posteriors) = ([0; 2 * 4], [0; 2], [0; 9 * 4]);
+    let (mut quals, mut gqs) = ([0.0; 4], [0.0; 4]);
+    // a limit of 0 is refused, one of 100 is enough
+    for limit in [0, 100] {
+        let answer = condorbed::call_genotypes_with_haplotypes(
+            WORDS, BASES, RATES, b"0101", &sets, &orders, limit,
+            &mut haplotypes, &mut likelihoods, &mut posteriors, &mut quals, &mut gqs,
+        );
+        let none = Round { sweeps: 0, settled: false, start: 0, end: 0, source: 0 };
+        let r = first_line("call_genotypes_with_haplotypes", answer).unwrap_or(none);
+        let settled = if r.settled { "settled" } else { "unsettled" };
+        println!("{} {} {} {} {}", r.sweeps, settled, r.start, r.end, r.source);
+    }
+    line(&haplotypes);
+    line(&likelihoods);
+    line(&posteriors);
+    line(&quals.map(|q| format!("{:.4}", q)));
+    line(&gqs.map(|q| format!("{:.4}", q)));
+}
+
 fn main() {
     check_case();
     var_filter();
@@ -107,4 +129,5 @@ fn main() {
     given_phase();
     generate_flist_buffer();
     sweep_orders();
+    call_genotypes_with_haplotypes();
 }

@@ -6,8 +6,9 @@ use Rattle.variants_and_fragments.specs.declared.Refusal.{Refusal}
 use Rattle.variants_and_fragments.specs.declared.Refusal.the-variants.{Head, Variant, Alleles, Call, Chain, Rates, Phase, Orders, Limit, Short, DensityQual, Normalize}
 use Rattle.variants_and_fragments.specs.Refusals.{Outcome, refused, done, number, place}
 use Rattle.haplotype_assembly.specs.FlistBuffer.{Amount}
+use Rattle.with_haplotypes.specs.declared.RoundAnswer.{RoundAnswer}
 use Rattle.exports.specs.declared.answers.Answer.{Answer}
-use Rattle.exports.specs.Answers.{readAs, readWith, readCheck, readFlist, answerOf, numbersOf, checkNumbers, flistNumbers, Numbers}
+use Rattle.exports.specs.Answers.{readAs, readWith, readCheck, readFlist, readRound, answerOf, numbersOf, checkNumbers, flistNumbers, roundNumbers, Numbers}
 
 -- a refusal's number and place are read as that refusal, whatever the values
 pub reads-refusal : {X : Type 0} (x : Refusal) (values : X) → readAs (number x) (place x) values ≡ refused (number x) (place x)
@@ -58,3 +59,12 @@ flist-done amount = record { reads = refl; exact = refl }
 pub flist-refused : (x : Refusal) → Numbers readFlist flistNumbers (refused (number x) (place x)) (flistNumbers (refused (number x) (place x)))
 unfolding readFlist flistNumbers
 flist-refused x = record { reads = reads-refusal x _; exact = refl }
+
+-- ---- of a round
+pub round-done : (x : RoundAnswer) → Numbers readRound roundNumbers (done x) (roundNumbers (done x))
+unfolding readRound readAs roundNumbers
+round-done x = record { reads = refl; exact = refl }
+
+pub round-refused : (x : Refusal) → Numbers readRound roundNumbers (refused (number x) (place x)) (roundNumbers (refused (number x) (place x)))
+unfolding readRound roundNumbers
+round-refused x = record { reads = reads-refusal x _; exact = refl }

@@ -1,6 +1,6 @@
 -- From an operation's own promise to that of the exported function, for numbers that are those of its answer.
 -- Assumes nothing.
-use mathlib.Core.Path.{_≡_, ap, _∙_, subst}
+use mathlib.Core.Path.{_≡_, ap, _∙_, subst, sym}
 use mathlib.Core.Bool.{Bool}
 use mathlib.Core.List.{List}
 use Prim.Native.Nat.{ℕ}
@@ -26,15 +26,19 @@ use Rattle.shuffle.specs.declared.Ordered.the-variants.{Done, Refused}
 use Rattle.shuffle.specs.Answers as orders
 use Rattle.call_genotypes.specs.declared.no_haplotypes.Called.{Called}
 use Rattle.call_genotypes.specs.NoHaplotypes as no-haplotypes
+use Rattle.with_haplotypes.specs.declared.Round.{Round}
+use Rattle.with_haplotypes.specs.Round.{RoundInput, roundInput}
+use Rattle.with_haplotypes.specs.Promise as with-haplotypes
 use Rattle.exports.specs.declared.answers.Answer.{Answer}
 use Rattle.exports.specs.declared.answers.CheckAnswer.{CheckAnswer}
 use Rattle.exports.specs.declared.answers.FlistAnswer.{FlistAnswer}
+use Rattle.exports.specs.declared.answers.RoundAnswer.{RoundAnswer}
 use Rattle.exports.specs.declared.inputs.Rates.{Rates}
 use Rattle.exports.specs.declared.inputs.DensityParameters.{DensityParameters}
-use Rattle.exports.specs.Answers.{Numbers, readWith, readAnswer, readCheck, readFlist, answerOf, numbersOf, checkNumbers, flistNumbers}
+use Rattle.exports.specs.Answers.{Numbers, readWith, readAnswer, readCheck, readFlist, readRound, answerOf, numbersOf, checkNumbers, flistNumbers, roundNumbers}
 use Rattle.exports.specs.Inputs.{ratesOf, densityOf}
 use Rattle.exports.proofs.Numbers.{answered-done, answered-refused}
-use Rattle.exports.specs.Promises.{CheckCase, VarFilter, GenotypePriors, CallGenotypesNoHaplotypes, GivenPhase, GenerateFlistBuffer, SweepOrders}
+use Rattle.exports.specs.Promises.{CheckCase, VarFilter, GenotypePriors, CallGenotypesNoHaplotypes, GivenPhase, GenerateFlistBuffer, SweepOrders, CallGenotypesWithHaplotypes}
 
 -- numbers of an outcome are numbers of an equal one
 of-equal : {X N : Type 0} {read : N → Outcome X} {numbers : Outcome X → N} {o o2 : Outcome X} {a : N} → o ≡ o2 → Numbers read numbers o a → Numbers read numbers o2 a
@@ -102,3 +106,22 @@ module _ {w : List ℤ} {b : List ℕ} {seed : ℕ} {before : List ℕ} {r : Ord
       → SweepOrders w b seed before a after
   unfolding orders.orderedAs
   sweep-orders-refused p x e f = sweep-orders p (answered-refused after x (ap (λ q. orders.orderedAs q after) e) f)
+
+module _ {sets : List ℤ} {before : with-haplotypes.RoundSlices} {r : Round} {a : RoundAnswer} {after : with-haplotypes.RoundSlices} where
+  same-input : {input : RoundInput} → with-haplotypes.CalledWithHaplotypes input sets before r after
+      → Numbers readRound roundNumbers (with-haplotypes.outcomeOf r) a → CallGenotypesWithHaplotypes input sets before a after
+  same-input p n = record {
+    answer = of-equal (p .answer) n;
+    haplotypes-after = rw (n .reads) (p .haplotypes-after);
+    likelihoods-after = rw (n .reads) (p .likelihoods-after);
+    posteriors-after = rw (n .reads) (p .posteriors-after);
+    quals-after = rw (n .reads) (p .quals-after);
+    gqs-after = rw (n .reads) (p .gqs-after);
+    demand3 = λ x e. p .demand3 x (sym (n .reads) ∙ e);
+  }
+
+  pub call-genotypes-with-haplotypes : {w : List ℤ} {b : List ℕ} {rates : Rates} {taken : operation-rates.Rates} {phase orders : List ℕ} {limit : ℕ}
+      → taken ≡ ratesOf rates → with-haplotypes.CalledWithHaplotypes (roundInput w b taken phase orders limit) sets before r after
+      → Numbers readRound roundNumbers (with-haplotypes.outcomeOf r) a
+      → CallGenotypesWithHaplotypes (roundInput w b (ratesOf rates) phase orders limit) sets before a after
+  call-genotypes-with-haplotypes e p n = rw (← e) (same-input p n)

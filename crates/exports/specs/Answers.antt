@@ -1,15 +1,18 @@
 -- An answer's numbers and 01's outcomes: number 0 is done, another one a refusal's number.
 -- Assumes nothing.
 use mathlib.Core.Path.{_≡_}
-use mathlib.Core.Bool.{cond}
+use mathlib.Core.Bool.{cond, false}
 use Prim.Native.Nat.{ℕ}
 use lib.Dec.{eqb}
+use lib.IntN.{pos}
 use Rattle.variants_and_fragments.specs.declared.Sizes.{Sizes}
 use Rattle.variants_and_fragments.specs.Refusals.{Outcome, refused, done}
 use Rattle.haplotype_assembly.specs.FlistBuffer.{Amount}
+use Rattle.with_haplotypes.specs.declared.RoundAnswer as operation-round
 use Rattle.exports.specs.declared.answers.Answer.{Answer}
 use Rattle.exports.specs.declared.answers.CheckAnswer.{CheckAnswer}
 use Rattle.exports.specs.declared.answers.FlistAnswer.{FlistAnswer}
+use Rattle.exports.specs.declared.answers.RoundAnswer.{RoundAnswer}
 
 -- ---- the outcome that numbers are read as
 
@@ -31,6 +34,10 @@ readCheck a = readAs (a .number) (a .place) (record { n = a .n; f = a .f; c = a 
 unfoldable pub readFlist : FlistAnswer → Outcome Amount
 readFlist a = readAs (a .number) (a .place) (record { bytes = a .bytes; lines = a .lines })
 
+unfoldable pub readRound : RoundAnswer → Outcome operation-round.RoundAnswer
+readRound a =
+    readAs (a .number) (a .place) (record { sweeps = a .sweeps; settled = a .settled; start = a .start; end = a .end; source = a .source })
+
 -- ---- the numbers of an outcome; those that it does not speak of are 0
 
 abbrev pub answerOf : ℕ → ℕ → Answer
@@ -47,6 +54,11 @@ checkNumbers (done s) = record { number = 0; place = 0; n = s .n; f = s .f; c = 
 unfoldable pub flistNumbers : Outcome Amount → FlistAnswer
 flistNumbers (refused n p) = record { number = n; place = p; bytes = 0; lines = 0 }
 flistNumbers (done x) = record { number = 0; place = 0; bytes = x .bytes; lines = x .lines }
+
+unfoldable pub roundNumbers : Outcome operation-round.RoundAnswer → RoundAnswer
+roundNumbers (refused n p) = record { number = n; place = p; sweeps = 0; settled = false; start = pos 0; end = pos 0; source = pos 0 }
+roundNumbers (done x) =
+    record { number = 0; place = 0; sweeps = x .sweeps; settled = x .settled; start = x .start; end = x .end; source = x .source }
 
 -- ---- what is promised of an answer
 

@@ -33,6 +33,19 @@ pub struct FlistAnswer {
     pub lines: usize,
 }
 
+// The answer of a round: where done, how many sweeps were made, whether the last one changed nothing, the phased totals at
+// the start and at the end, and the source's total at the end; else these are 0.
+#[repr(C)]
+pub struct RoundAnswer {
+    pub number: usize,
+    pub place: usize,
+    pub sweeps: usize,
+    pub settled: bool,
+    pub start: i64,
+    pub end: i64,
+    pub source: i64,
+}
+
 // Done, with no values.
 pub fn done() -> Answer
     ensures { λ a. ⌜ a ≡ answerOf 0 0 ⌝ }

@@ -11,3 +11,4 @@ pub mod no_haplotypes;
 pub mod orders;
 pub mod phase;
 pub mod priors;
+pub mod round;
