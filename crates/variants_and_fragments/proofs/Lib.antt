@@ -12,6 +12,7 @@ pub mod GoodCases
 pub mod Usable
 pub mod EncodeSamples
 pub mod CallReads
+pub mod LentReader
 pub mod Laying
 pub mod RowWalks
 pub mod UsableRead
