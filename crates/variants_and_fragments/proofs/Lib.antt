@@ -13,6 +13,7 @@ pub mod Usable
 pub mod EncodeSamples
 pub mod CallReads
 pub mod LentReader
+pub mod ChainReads
 pub mod Laying
 pub mod RowWalks
 pub mod UsableRead

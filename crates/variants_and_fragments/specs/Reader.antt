@@ -1,6 +1,6 @@
 -- 01, section 2: reading a fragment's chain gives one call at a time.
 -- Assumes nothing.
-use mathlib.Core.List.{List}
+use mathlib.Core.List.{List, [], _∷_}
 use Prim.Native.Nat.{ℕ, zero, suc}
 use lib.IntN.{ℤ}
 use denote.Ref.{RefT, now}
@@ -31,6 +31,17 @@ nextAt w s (suc r) = nextCallAt w s (suc r)
 -- the step from record r
 unfoldable pub stepAt : List ℤ → Sizes → ℕ → CallStep
 stepAt w s r = record { read = readAt w s r; next = nextAt w s r }
+
+-- the calls that reading gives from record r on, one at a time, k at most. From a fragment's first call on they are the fragment's
+-- calls (proofs/ChainReads)
+unfoldable pub gather : CallRead → List CallHeld → List CallHeld
+gather read.End calls = []
+gather (read.Call call) calls = call ∷ calls
+
+unfoldable pub callsRead : List ℤ → Sizes → ℕ → ℕ → List CallHeld
+unfolding gather
+callsRead w s zero r = []
+callsRead w s (suc k) r = gather (readAt w s r) (callsRead w s k (nextAt w s r))
 
 -- a reader whose next record is r, and a reader after a read
 abbrev pub readerAt : RefT (List ℤ) → ℕ → ChainReader
