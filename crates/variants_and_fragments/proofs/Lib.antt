@@ -12,6 +12,8 @@ pub mod GoodCases
 pub mod Usable
 pub mod EncodeSamples
 pub mod CallReads
+pub mod LentReader
+pub mod ChainReads
 pub mod Laying
 pub mod RowWalks
 pub mod UsableRead

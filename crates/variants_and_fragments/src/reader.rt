@@ -1,23 +1,95 @@
+// Reading a fragment's chain, one call at a time. `ChainReader` holds a reference, so `new`, `next` and `read_call` are
+// proved by walks of their MIR, by hand; `read_record`, which does the work, and whoever calls `read_call` are covered.
 ghost use mathlib.Core.Path.{_≡_};
 ghost use Prim.Native.Nat.{_<_, _≤_};
 ghost use lib.ListN.{length};
 ghost use Rattle.variants_and_fragments.specs.Words.{word};
 ghost use Rattle.variants_and_fragments.specs.Layout.{Sized, cutoffAt};
-ghost use Rattle.variants_and_fragments.specs.Reader.{callReadAt};
+ghost use Rattle.variants_and_fragments.specs.Reader.{readAt, stepAt, readerAt, movedOn};
 use crate::Sizes;
 use crate::layout::call_at;
 use crate::layout::nat_at;
 
-// What reading a chain at record r gives: its end, or a call and the next record's number.
+// A call of a fragment.
+pub struct Call {
+    pub variant: usize,
+    pub allele: usize,
+    pub qual: i32,
+    pub one_minus_qual: i32,
+}
+
+// What a reader gives: the chain's end, or a call.
 pub enum CallRead {
     End,
-    Call {
-        variant: usize,
-        allele: usize,
-        qual: i32,
-        one_minus_qual: i32,
-        next: usize,
-    },
+    Call(Call),
+}
+
+// A step along a chain: what is read, and the number of the record after it.
+pub struct CallStep {
+    pub read: CallRead,
+    pub next: usize,
+}
+
+// A reader of a chain: the words, and the number of the next record, where 0 ends the chain.
+pub struct ChainReader<'a> {
+    pub words: &'a [i32],
+    pub next: usize,
+}
+
+impl<'a> ChainReader<'a> {
+    // The reader whose next record is `next`.
+    pub fn new(words: &'a [i32], next: usize) -> ChainReader<'a>
+        ensures { λ r. ⌜ r ≡ readerAt (words .entry) next ⌝ }
+    {
+        ChainReader { words, next }
+    }
+
+    // The call of the next record, or the end; the reader moves on to the record after it.
+    pub fn next<'s>(&'s mut self, s: Sizes) -> CallRead
+        requires { ⌜ Sized (now (now self .words)) s × (now self .next ≤ s .c) ⌝ }
+        ensures { λ a. ⌜ (a ≡ readAt (now (now (self .entry) .words)) s (now (self .entry) .next)) × (now (self .exit) ≡ movedOn s (now (self .entry))) ⌝ }
+    {
+        let step = read_record(self.words, s, self.next);
+        self.next = step.next;
+        step.read
+    }
+}
+
+// The step from record r, by a reader.
+pub fn read_call(words: &[i32], s: Sizes, r: usize) -> CallStep
+    requires { ⌜ Sized (now words) s × (r ≤ s .c) ⌝ }
+    ensures { λ a. ⌜ a ≡ stepAt (now (words .entry)) s r ⌝ }
+{
+    let mut reader = ChainReader::new(words, r);
+    let read = reader.next(s);
+    CallStep {
+        read,
+        next: reader.next,
+    }
+}
+
+// What stands at record r.
+fn read_record(words: &[i32], s: Sizes, r: usize) -> CallStep
+    requires { ⌜ Sized (now words) s × (r ≤ s .c) ⌝ }
+    ensures { λ a. ⌜ a ≡ stepAt (now (words .entry)) s r ⌝ }
+{
+    if r == 0 {
+        return CallStep {
+            read: CallRead::End,
+            next: 0,
+        };
+    }
+    let at = call_at(s, r);
+    let call = Call {
+        variant: nat_at(words, at),
+        allele: nat_at(words, at + 1),
+        qual: word_at(words, at + 2),
+        one_minus_qual: word_at(words, at + 3),
+    };
+    CallStep {
+        read: CallRead::Call(call),
+        next: nat_at(words, at + 4),
+    }
 }
 
 // Word i as it stands.
@@ -34,23 +106,4 @@ pub fn read_cutoff(words: &[i32], s: Sizes) -> i32
     ensures { λ r. ⌜ r ≡ cutoffAt (now (words .entry)) ⌝ }
 {
     word_at(words, 3)
-}
-
-// The call of record r, where 0 ends a chain.
-pub fn read_call(words: &[i32], s: Sizes, r: usize) -> CallRead
-    requires { ⌜ Sized (now words) s ⌝ }
-    requires { ⌜ r ≤ s .c ⌝ }
-    ensures { λ a. ⌜ a ≡ callReadAt (now (words .entry)) s r ⌝ }
-{
-    if r == 0 {
-        return CallRead::End;
-    }
-    let at = call_at(s, r);
-    CallRead::Call {
-        variant: nat_at(words, at),
-        allele: nat_at(words, at + 1),
-        qual: word_at(words, at + 2),
-        one_minus_qual: word_at(words, at + 3),
-        next: nat_at(words, at + 4),
-    }
 }
