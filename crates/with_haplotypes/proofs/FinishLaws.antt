@@ -81,8 +81,8 @@ module _ {X : Type 0} (g : ℕ → X) (d : X) (n : ℕ) (l part : List X) (room 
   joined-at e = elim (decLt e n) [
     | yes h ↦ List·getD-append part (drop n l) d e (omega arith) ∙ each e h ∙ sym (written-at g n l d room e h)
     | no h ↦ let q : length part + (e - n) ≡ e = omega arith in
-      let r : n + (e - n) ≡ e = omega arith in
-      sym (ap (λ (i : ℕ). getD joined i d) q) ∙ getD-append-add part (drop n l) (e - n) d ∙ getD-drop n l (e - n) d ∙ ap (λ (i : ℕ). getD l i d) r ∙ sym (written-past g n l d e (omega arith))
+        let r : n + (e - n) ≡ e = omega arith in
+        sym (ap (λ (i : ℕ). getD joined i d) q) ∙ getD-append-add part (drop n l) (e - n) d ∙ getD-drop n l (e - n) d ∙ ap (λ (i : ℕ). getD l i d) r ∙ sym (written-past g n l d e (omega arith))
   ]
 
   pub front-written : joined ≡ written g n l
@@ -176,9 +176,9 @@ module _ {input : RoundInput} {s : Sizes} {m : ℕ} (A : Admitted input s m) {ks
       unfolding posteriorAt
       element-is e = elim (decLt e (9 * s .n)) [
         | yes h ↦ let q : 9 * (e / 9) + e % 9 ≡ e = omega arith in
-          sym (ap (λ (i : ℕ). getD post' i (pos 0)) q) ∙ after-at (e / 9) (e % 9) (omega arith) (omega arith) ∙ sym (written-at (posteriorAt input) (9 * s .n) post (pos 0) room e h)
+            sym (ap (λ (i : ℕ). getD post' i (pos 0)) q) ∙ after-at (e / 9) (e % 9) (omega arith) (omega arith) ∙ sym (written-at (posteriorAt input) (9 * s .n) post (pos 0) room e h)
         | no h ↦ let l : 9 * s .n ≤ e = omega arith in
-          ap (λ (x : List ℤ). getD x e (pos 0)) done ∙ written-past (normalizedAt ks raw) (9 * s .n) raw (pos 0) e l ∙ raw-past e l ∙ sym (written-past (posteriorAt input) (9 * s .n) post (pos 0) e l)
+            ap (λ (x : List ℤ). getD x e (pos 0)) done ∙ written-past (normalizedAt ks raw) (9 * s .n) raw (pos 0) e l ∙ raw-past e l ∙ sym (written-past (posteriorAt input) (9 * s .n) post (pos 0) e l)
       ]
 
       pub posteriors-written : post' ≡ written (posteriorAt input) (9 * s .n) post

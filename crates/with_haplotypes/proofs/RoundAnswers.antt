@@ -91,8 +91,7 @@ module _ (input : RoundInput) (sets : List ℤ) (before : RoundSlices) where
       let fault = phaseFault (s .n) (input .phase) sets in
       let a = unless-done (eqb (ratesFault (input .rates)) 7) 6 (ratesFault (input .rates)) _ m e in
       let b = unless-done (ltb (s .n) fault) 7 fault _ m (a .1) in
-      let c = orders-passed (ordersOutcome (s .n) (input .orders)) (input .limit) (shortOfSlices (s .n) (s .f) before) m (b .1) in
-      (
+      let c = orders-passed (ordersOutcome (s .n) (input .orders)) (input .limit) (shortOfSlices (s .n) (s .f) before) m (b .1) in (
         record {
           accepted = accepted;
           good-rates = eqb-true (ratesFault (input .rates)) 7 (a .0);

@@ -8,6 +8,7 @@ ghost use Rattle.variants_and_fragments.specs.Accepted.{allb};
 ghost use Rattle.with_haplotypes.specs.Round.{RoundInput, roundInput};
 ghost use Rattle.with_haplotypes.specs.Steps.{Admitted, AlleleCounts, PilesMade, RunRoom, RoundStart, SomeInput, RoundRan, RoundRoom, RoundMade};
 ghost use Rattle.with_haplotypes.specs.Promise.{roundSlices};
+use crate::RoundAnswer;
 use call_genotypes::finals::write_finals;
 use call_genotypes::likelihoods::write_likelihoods;
 use call_genotypes::normalized::normalize_all;
@@ -20,7 +21,6 @@ use call_genotypes::scratch::places;
 use call_genotypes::scratch::qualities;
 use call_genotypes::sweep_case::write_allele_counts;
 use call_genotypes::totals::total;
-use crate::RoundAnswer;
 use genotype_probs::Rates;
 use haplotype_assembly::phase::write_phase;
 use variants_and_fragments::Sizes;
@@ -68,7 +68,19 @@ fn run_with_totals(
     ensures { λ r. ⌜ ((i : RoundInput) → RoundStart i s m limit (now (ks .entry)) (now (ph .entry)) (now (pri .entry)) (now (variants .entry)) (now (alleles .entry)) (now (quals .entry)) (now (omqs .entry)) (now («row_ends» .entry)) (now (ends .entry)) (now (who .entry)) (now («pile_quals» .entry)) (now («pile_omqs» .entry)) (now (orders .entry)) (now (hap .entry)) (now (lik .entry)) (now (post .entry)) → RoundRan i (now (post .entry)) r (now (hap .exit)) (now (lik .exit)) (now (post .exit))) ⌝ }
 {
     let n = s.n;
-    let start = total(s, t, ks, pri, variants, alleles, quals, omqs, row_ends, hap, ph);
+    let start = total(
+        s,
+        t,
+        ks,
+        pri,
+        variants,
+        alleles,
+        quals,
+        omqs,
+        row_ends,
+        hap,
+        ph,
+    );
     let r = run_sweeps(
         t,
         ks,
@@ -87,8 +99,32 @@ fn run_with_totals(
         limit,
     );
     let all = ones();
-    let end = total(s, t, ks, pri, variants, alleles, quals, omqs, row_ends, hap, ph);
-    let source = total(s, t, ks, pri, variants, alleles, quals, omqs, row_ends, hap, &all);
+    let end = total(
+        s,
+        t,
+        ks,
+        pri,
+        variants,
+        alleles,
+        quals,
+        omqs,
+        row_ends,
+        hap,
+        ph,
+    );
+    let source = total(
+        s,
+        t,
+        ks,
+        pri,
+        variants,
+        alleles,
+        quals,
+        omqs,
+        row_ends,
+        hap,
+        &all,
+    );
     RoundAnswer {
         sweeps: r.sweeps,
         settled: r.settled,
@@ -132,7 +168,17 @@ fn run_piled(
     make_priors(t, words, s, bases, rates, &mut pri);
     let mut phased = zeros();
     write_phase(words, s, phase, hap, &mut phased);
-    write_likelihoods(variants, alleles, quals, omqs, row_ends, hap, &phased, lik, s.f);
+    write_likelihoods(
+        variants,
+        alleles,
+        quals,
+        omqs,
+        row_ends,
+        hap,
+        &phased,
+        lik,
+        s.f,
+    );
     run_with_totals(
         s,
         t,

@@ -55,8 +55,7 @@ run-accepted-requires c κs =
     let k = known (s .pre .0 .1) in
     let room = s .pre .1 in
     let a : 2 * s .args .s .n - 0 ≡ 2 * s .args .s .n = omega arith in
-    let b : 2 * s .args .s .f - 0 ≡ 2 * s .args .s .f = omega arith in
-    (
+    let b : 2 * s .args .s .f - 0 ≡ 2 * s .args .s .f = omega arith in (
       s .pre .0,
       (
         record { was = w .before .before .zeros .result; room = omega (arith, k .sized .n-top, w .before .before .zeros .ensures); written-is = w .write-allele-counts .ensures },
@@ -77,8 +76,7 @@ write-finals-requires : tie.Need-write-finals-requires
 write-finals-requires c κs =
     let s = c .before .before .before .before .before .before .before .before .before .before .before .before .before .before .before .before .before .before .before .before .before .before .before .before .before .before .before in
     let r = c .before .before .before .before .before .before .before .before .before .before .before in
-    let room = s .pre .1 in
-    (
+    let room = s .pre .1 in (
       (s .pre .0 .0, known (s .pre .0 .1) .sized, finish.tables-in (s .pre .0 .1) (run-accepted-requires (r .before) (r .run-accepted .lifetimes) .1 .0) (r .run-accepted .ensures) (room .posteriors-long) (c .before .before .before .before .normalize-all .ensures)),
       (room .quals-long, room .gqs-long),
     )

@@ -79,8 +79,7 @@ pile-calls-requires c κs =
     let k = known (c .before .before .before .before .before .before .before .before .before .before .before .before .before .before .before .before .before .before .before .before .before .before .before .before .before .before .before .pre .0 .1) in
     let f = k .sized .f-top in
     let n = k .sized .n-top in
-    let r = k .sized .c-top in
-    (
+    let r = k .sized .c-top in (
       k,
       (
         record {
@@ -135,8 +134,7 @@ run-piled-requires c κs =
     let k = known (s .pre .0 .1) in
     let n = k .sized .n-top in
     let r = k .sized .c-top in
-    let p = c .before .before .before .before .before .before .before .before .before .before .before .before .before .before .before .before .before .before .before .before .before .before .before in
-    (
+    let p = c .before .before .before .before .before .before .before .before .before .before .before .before .before .before .before .before .before .before .before .before .before .before .before in (
       s .pre .0,
       (
         (

@@ -48,8 +48,7 @@ write-likelihoods-requires c κs =
     let k = known A in
     let P = s .pre .1 .0 .1 in
     let w = c .before .before .before .before .before .before in
-    let made = P .piled .rows in
-    (
+    let made = P .piled .rows in (
       calls-in k made _ _ (omega (arith, as-long _ _ _ _ (w .write-phase .ensures .0), s .pre .1 .1 .haps-long)) (omega (arith, k .sized .n-top, as-long _ _ _ _ (w .write-phase .ensures .1), w .before .before .before .zeros .ensures)),
       ends-in-order k made (P .row-ends-long),
       omega (arith, s .pre .1 .1 .liks-long),
@@ -67,8 +66,7 @@ run-with-totals-requires c κs =
     let A = s .pre .0 .1 in
     let w = c .before .before .before .before .before .before .before .before .before .before .before .before .before in
     let n = known A .sized .n-top in
-    let p = c .before .before .before .before .before .before .before .before .before .before .before .before .before .before .before .before .before .before in
-    (
+    let p = c .before .before .before .before .before .before .before .before .before .before .before .before .before .before .before .before .before .before in (
       s .pre .0 .0,
       record {
         input = _;

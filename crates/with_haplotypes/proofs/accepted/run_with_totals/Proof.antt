@@ -35,7 +35,6 @@ total-requires-2 c κs =
 slice-aggregate-total : tie.Need-slice-aggregate-total
 slice-aggregate-total c = search needs
 
-
 total-requires-3 : tie.Need-total-requires-3
 total-requires-3 c κs =
     let s = c .before .before .before .before .before .before .before .before .before .before .before .before .before .before .before .before .before .before .before .before .before .before .before .before in
