@@ -51,8 +51,8 @@ fn run_with_totals(
     alleles: &[u32],
     quals: &[i32],
     omqs: &[i32],
-    row_ends: &[usize],
     ends: &[usize],
+    pile_ends: &[usize],
     who: &[u32],
     pile_quals: &[i32],
     pile_omqs: &[i32],
@@ -64,29 +64,17 @@ fn run_with_totals(
     limit: usize,
 ) -> RoundAnswer
     requires { ⌜ now t ≡ knots ⌝ }
-    requires { ⌜ SomeInput (λ i. RoundStart i s m limit (now ks) (now ph) (now pri) (now variants) (now alleles) (now quals) (now omqs) (now «row_ends») (now ends) (now who) (now «pile_quals») (now «pile_omqs») (now orders) (now hap) (now lik) (now post)) ⌝ }
-    ensures { λ r. ⌜ ((i : RoundInput) → RoundStart i s m limit (now (ks .entry)) (now (ph .entry)) (now (pri .entry)) (now (variants .entry)) (now (alleles .entry)) (now (quals .entry)) (now (omqs .entry)) (now («row_ends» .entry)) (now (ends .entry)) (now (who .entry)) (now («pile_quals» .entry)) (now («pile_omqs» .entry)) (now (orders .entry)) (now (hap .entry)) (now (lik .entry)) (now (post .entry)) → RoundRan i (now (post .entry)) r (now (hap .exit)) (now (lik .exit)) (now (post .exit))) ⌝ }
+    requires { ⌜ SomeInput (λ i. RoundStart i s m limit (now ks) (now ph) (now pri) (now variants) (now alleles) (now quals) (now omqs) (now ends) (now «pile_ends») (now who) (now «pile_quals») (now «pile_omqs») (now orders) (now hap) (now lik) (now post)) ⌝ }
+    ensures { λ r. ⌜ ((i : RoundInput) → RoundStart i s m limit (now (ks .entry)) (now (ph .entry)) (now (pri .entry)) (now (variants .entry)) (now (alleles .entry)) (now (quals .entry)) (now (omqs .entry)) (now (ends .entry)) (now («pile_ends» .entry)) (now (who .entry)) (now («pile_quals» .entry)) (now («pile_omqs» .entry)) (now (orders .entry)) (now (hap .entry)) (now (lik .entry)) (now (post .entry)) → RoundRan i (now (post .entry)) r (now (hap .exit)) (now (lik .exit)) (now (post .exit))) ⌝ }
 {
     let n = s.n;
-    let start = total(
-        s,
-        t,
-        ks,
-        pri,
-        variants,
-        alleles,
-        quals,
-        omqs,
-        row_ends,
-        hap,
-        ph,
-    );
+    let start = total(s, t, ks, pri, variants, alleles, quals, omqs, ends, hap, ph);
     let r = run_sweeps(
         t,
         ks,
         ph,
         pri,
-        ends,
+        pile_ends,
         who,
         pile_quals,
         pile_omqs,
@@ -99,19 +87,7 @@ fn run_with_totals(
         limit,
     );
     let all = ones();
-    let end = total(
-        s,
-        t,
-        ks,
-        pri,
-        variants,
-        alleles,
-        quals,
-        omqs,
-        row_ends,
-        hap,
-        ph,
-    );
+    let end = total(s, t, ks, pri, variants, alleles, quals, omqs, ends, hap, ph);
     let source = total(
         s,
         t,
@@ -121,7 +97,7 @@ fn run_with_totals(
         alleles,
         quals,
         omqs,
-        row_ends,
+        ends,
         hap,
         &all,
     );
@@ -147,8 +123,8 @@ fn run_piled(
     alleles: &[u32],
     quals: &[i32],
     omqs: &[i32],
-    row_ends: &[usize],
     ends: &[usize],
+    pile_ends: &[usize],
     who: &[u32],
     pile_quals: &[i32],
     pile_omqs: &[i32],
@@ -160,7 +136,7 @@ fn run_piled(
     limit: usize,
 ) -> RoundAnswer
     requires { ⌜ (now t ≡ knots) × Admitted (roundInput (now words) (now bases) rates (now phase) (now orders) limit) s m ⌝ }
-    requires { ⌜ AlleleCounts (now words) (s .n) (now ks) × PilesMade (now words) s (now variants) (now alleles) (now quals) (now omqs) (now «row_ends») (now ends) (now who) (now «pile_quals») (now «pile_omqs») ⌝ }
+    requires { ⌜ AlleleCounts (now words) (s .n) (now ks) × PilesMade (now words) s (now variants) (now alleles) (now quals) (now omqs) (now ends) (now «pile_ends») (now who) (now «pile_quals») (now «pile_omqs») ⌝ }
     requires { ⌜ RunRoom s (now hap) (now lik) (now post) ⌝ }
     ensures { λ r. ⌜ RoundRan (roundInput (now (words .entry)) (now (bases .entry)) rates (now (phase .entry)) (now (orders .entry)) limit) (now (post .entry)) r (now (hap .exit)) (now (lik .exit)) (now (post .exit)) ⌝ }
 {
@@ -168,17 +144,7 @@ fn run_piled(
     make_priors(t, words, s, bases, rates, &mut pri);
     let mut phased = zeros();
     write_phase(words, s, phase, hap, &mut phased);
-    write_likelihoods(
-        variants,
-        alleles,
-        quals,
-        omqs,
-        row_ends,
-        hap,
-        &phased,
-        lik,
-        s.f,
-    );
+    write_likelihoods(variants, alleles, quals, omqs, ends, hap, &phased, lik, s.f);
     run_with_totals(
         s,
         t,
@@ -189,8 +155,8 @@ fn run_piled(
         alleles,
         quals,
         omqs,
-        row_ends,
         ends,
+        pile_ends,
         who,
         pile_quals,
         pile_omqs,
@@ -228,9 +194,9 @@ fn run_accepted(
     let mut alleles = numbers();
     let mut quals = qualities();
     let mut omqs = qualities();
-    let mut row_ends = fragment_ends();
+    let mut ends = fragment_ends();
     let mut ambiguous = places();
-    let mut ends = places();
+    let mut pile_ends = places();
     let mut who = numbers();
     let mut pile_quals = qualities();
     let mut pile_omqs = qualities();
@@ -242,9 +208,9 @@ fn run_accepted(
         &mut alleles,
         &mut quals,
         &mut omqs,
-        &mut row_ends,
-        &mut ambiguous,
         &mut ends,
+        &mut ambiguous,
+        &mut pile_ends,
         &mut who,
         &mut pile_quals,
         &mut pile_omqs,
@@ -261,8 +227,8 @@ fn run_accepted(
         &alleles,
         &quals,
         &omqs,
-        &row_ends,
         &ends,
+        &pile_ends,
         &who,
         &pile_quals,
         &pile_omqs,
