@@ -1,6 +1,9 @@
--- A reader in a local is lent by `&mut` for a call, and comes back. The loan's lifetime is ν ∷ κ, a new one within that of the words, κ, of whose token one half goes into the loan's own and one stays.
---     lends-reader     the local's cell, what the reader owns and [κ]_q  ⊢ ⇛ ∃ ν γ. the reference, [ν ∷ κ] and [κ] at the halves, and what the lender keeps
---     reader-back      the tokens, what the lender keeps and the reference's last value  ⊢ ⇛ the cell at that value, what that reader owns and [κ]_q
+-- A reader in a local is lent by `&mut` for a call, and comes back. The loan's lifetime is ν ∷ κ, a new one within that
+-- of the words, κ, of whose token one half goes into the loan's own and one stays.
+--     lends-reader     the local's cell, what the reader owns and [κ]_q  ⊢ ⇛ ∃ ν γ. the reference, [ν ∷ κ] and [κ] at
+--                      the halves, and what the lender keeps
+--     reader-back      the tokens, what the lender keeps and the reference's last value  ⊢ ⇛ the cell at that value,
+--                      what that reader owns and [κ]_q
 -- Assumes `Given`.
 use Prim.Native.Nat.{ℕ}
 use mathlib.Core.List.{List, [], _∷_}

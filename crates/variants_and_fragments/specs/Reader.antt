@@ -32,8 +32,8 @@ nextAt w s (suc r) = nextCallAt w s (suc r)
 unfoldable pub stepAt : List ℤ → Sizes → ℕ → CallStep
 stepAt w s r = record { read = readAt w s r; next = nextAt w s r }
 
--- the calls that reading gives from record r on, one at a time, k at most. From a fragment's first call on they are the fragment's
--- calls (proofs/ChainReads)
+-- the calls that reading gives from record r on, one at a time, k at most; from a fragment's first call on they are the
+-- fragment's calls (proofs/ChainReads)
 unfoldable pub gather : CallRead → List CallHeld → List CallHeld
 gather read.End calls = []
 gather (read.Call call) calls = call ∷ calls

@@ -55,7 +55,7 @@ impl<'a> ChainReader<'a> {
     }
 }
 
-// The step from record r, by a reader.
+// The step from record r, by a reader. Its parameters are plain, so whoever calls it needs no walk by hand.
 pub fn read_call(words: &[i32], s: Sizes, r: usize) -> CallStep
     requires { ⌜ Sized (now words) s × (r ≤ s .c) ⌝ }
     ensures { λ a. ⌜ a ≡ stepAt (now (words .entry)) s r ⌝ }

@@ -1,4 +1,6 @@
--- `read_call` meets its contract: a walk of its MIR, by hand. A reader that `new` returns is laid in a local, lent to `next`, and comes back moved on (proofs/LentReader). All that the proof knows of the two is that each meets its contract.
+-- `read_call` meets its contract: a walk of its MIR, by hand. A reader that `new` returns is laid in a local, lent to
+-- `next`, and comes back moved on (proofs/LentReader). All that the proof knows of the two is that each meets its
+-- contract.
 -- Assumes nothing.
 use mathlib.Core.Path.{_≡_, refl, ap}
 use Prim.Native.Nat.{ℕ, _<_, _≤_, _^_}
@@ -178,7 +180,8 @@ module _ {M : Type 1} (𝓤 : URA M) (H : Heap 𝓤) (A : Atoms 𝓤) (W : Given
         calls-at ! fm (New 𝓤 H A at-mem run) known-new to-new (and-then ! (load ! (from ! (stop !)) (look ! 16 refl)) (and-then ! (load ! (from ! (stop !)) (look ! 12 refl)) (no-more !))) (λ u.
         use1 W (later (some (λ (r : ChainReader). ((‵ (flft κ q) ⊛ ‵ ftrue) ⊛ ‵ (B .own r (u ∷ []))) ⊛ raw (ensured 𝓤 H A new.ended (new.clauses 𝓤 H A at-mem run) (κ, tt) (x, (n, tt)) tt r)))) (id⊢ 𝓤 _) $ await ! tt $ pick ! (λ r.
         split ! $ move ! (1 ∷ []) $ use1 W (raw (fact 𝓤 (r ≡ made))) (new-said r) $ heard ! (r ≡ made) (λ e. split ! $ move ! (1 ∷ []) $ rewrite ! 0 (λ (y : ChainReader). ‵ (B .own y (u ∷ []))) e refl $
-        -- [what the reader owns; the token; what words owns; _8; …; _7; …; _6; …; _5; …; _4; …; _3; …; _2; …; _1; …; room for _0; …]
+        -- [what the reader owns; the token; what words owns; _8; …; _7; …; _6; …; _5; …; _4; …; _3; …; _2; …; _1; …;
+        -- room for _0; …]
         peeks ! B (Is B) (shows 𝓤 H A B) made (u ∷ []) (λ is.
         land ! (from ! (stop !)) (init ! 7 refl (LL.lawful (T.the-type αᵉ) (T′.the-laws αᵉ) 𝓤 H A W .typed made _ is .0)) $
         rewrite ! 7 (λ (y : Val). ‵ (fat fullShare (T′.mir erased) l₆ 0 y)) (ap only (LL.tells (T.the-type α) (T′.the-laws α) made _ is)) refl $ rewrite ! 0 (λ (us : List Val). ‵ (B .own made us)) (LL.tells (T.the-type α) (T′.the-laws α) made _ is) refl $
@@ -189,7 +192,8 @@ module _ {M : Type 1} (𝓤 : URA M) (H : Heap 𝓤) (A : Atoms 𝓤) (W : Given
         move ! (1 ∷ []) $ split ! $ move ! (12 ∷ 2 ∷ 0 ∷ []) $
         use3 W (later (some (λ (ν : ℕ). some (λ (γ : GName). raw (lent.Lent κ q l₄ 𝓤 H A W ν γ made) ⊛ (raw (Rest 𝓤 H A W ν (PosShare·right q)) ⊛ ‵ (flent (ν ∷ κ) (Body (mem B) l₄ 0 γ))))))) (lent.lends-reader κ q l₄ 𝓤 H A W made) $ await ! tt $ pick ! (λ ν. pick ! (λ γ. split ! $
         use1 W (raw (Next 𝓤 H A at-mem run .pre (to-next l₄ ν γ))) (goes-next ok l₄ ν γ) $
-        -- [what `next` asks; what is kept of the loan; true; what words owns; _8; …; _7; …; _6; …; _5; …; the rest of _4; _3; …; _2; …; _1; …; room for _0; …]
+        -- [what `next` asks; what is kept of the loan; true; what words owns; _8; …; _7; …; _6; …; _5; …; the rest of
+        -- _4; _3; …; _2; …; _1; …; room for _0; …]
         calls-at ! fm (Next 𝓤 H A at-mem run) known-next (to-next l₄ ν γ) (and-then ! (load ! (from ! (stop !)) (look ! 6 refl)) (and-then ! (load ! (from ! (stop !)) (look ! 15 refl)) (no-more !))) (λ u′.
         use1 W (later (some (λ (got : CallRead). ((‵ (flft (ν ∷ κ) (PosShare·right q)) ⊛ ‵ (flft κ (PosShare·left q)) ⊛ ‵ ftrue) ⊛ ‵ (R.the-row .own got (u′ ∷ []))) ⊛ raw (ensured 𝓤 H A next.ended (next.clauses 𝓤 H A at-mem run) (ν ∷ κ, (κ, tt)) (lent-at l₄ γ) tt got)))) (id⊢ 𝓤 _) $ await ! tt $ pick ! (λ got.
         split ! $ move ! (1 ∷ []) $ use1 W (some (λ (ws : ChainReader × (Unit {0} × Unit {0})). ‵ (lasts next.ended (ν ∷ κ, (κ, tt)) (lent-at l₄ γ) ws) ⊛ raw (fact 𝓤 ((got ≡ readAt (now x) s n) × (ws .0 ≡ moved))))) (id⊢ 𝓤 _) $ pick ! (λ ws.
@@ -199,7 +203,8 @@ module _ {M : Type 1} (𝓤 : URA M) (H : Heap 𝓤) (A : Atoms 𝓤) (W : Given
         -- the reader comes back moved on
         move ! (0 ∷ 3 ∷ 1 ∷ []) $ use3 W (later (‵ (lent.cell κ q l₄ moved) ⊛ ‵ (lent.own κ q l₄ moved) ⊛ ‵ (flft κ q))) (lent.reader-back κ q l₄ 𝓤 H A W ν γ moved) $ await ! tt $ split ! $ move ! (1 ∷ []) $ split ! $
         peeks ! B (Is B) (shows 𝓤 H A B) moved (T′.lowered moved ∷ []) (λ after. drop ! $
-        -- [the token; _4; …; true; what words owns; _8; …; _7; …; _6; …; _5; …; the rest of _4; _3; …; _2; …; _1; …; room for _0; …]
+        -- [the token; _4; …; true; what words owns; _8; …; _7; …; _6; …; _5; …; the rest of _4; _3; …; _2; …; _1; …;
+        -- room for _0; …]
         assigns ! (of-opd ! (load ! (from ! (fld ! refl (stop !))) (look-in ! 1 (sub ! 1 refl (whole !))))) (from ! (stop !)) (init ! 5 refl (tt, LL.lawful (T.the-type α) (T′.the-laws α) 𝓤 H A W .typed moved _ after .0 .1 .1 .0)) $
         assigns ! (agg ! (and-then ! (load ! (from ! (stop !)) (look ! 11 refl)) (and-then ! (load ! (from ! (stop !)) (look ! 5 refl)) (no-more !)))) (from ! (stop !)) (init ! 20 refl (LL.lawful S.the-type S′.the-laws 𝓤 H A W .typed (step got) _ (is-step got u′ is′ after) .0)) $
         returns ! (look ! 20 refl) $ forget ! 1 refl $ forget ! 5 refl $ forget ! 7 refl $ forget ! 9 refl $ forget ! 11 refl $ forget ! 14 refl $ forget ! 16 refl $ forget ! 18 refl $ forget ! 20 refl $

@@ -1,5 +1,7 @@
--- `ChainReader::new` meets its contract: a walk of its MIR, by hand. A reader is made of the slice and the number that are passed.
--- A `&[i32]` is Copy, so what it owns is had twice: once for words at exit, and once inside the result, beside the facts of next.
+-- `ChainReader::new` meets its contract: a walk of its MIR, by hand. A reader is made of the slice and the number that
+-- are passed.
+-- A `&[i32]` is Copy, so what it owns is had twice: once for words at exit, and once inside the result, beside the
+-- facts of next.
 -- Assumes nothing.
 use mathlib.Core.Path.{refl}
 use Prim.Native.Nat.{ℕ, _<_, _^_}
