@@ -16,6 +16,19 @@ pub fn qualities() -> [i32; 16384]
     [0i32; 16384]
 }
 
+// The same two for at most 1,024 call records.
+pub fn few_numbers() -> [u32; 1024]
+    ensures { λ r. ⌜ length r ≡ 1024 ⌝ }
+{
+    [0u32; 1024]
+}
+
+pub fn few_qualities() -> [i32; 1024]
+    ensures { λ r. ⌜ length r ≡ 1024 ⌝ }
+{
+    [0i32; 1024]
+}
+
 // A number of each variant.
 pub fn places() -> [usize; 1024]
     ensures { λ r. ⌜ length r ≡ 1024 ⌝ }

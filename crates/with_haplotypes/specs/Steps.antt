@@ -8,7 +8,7 @@ use Rattle.variants_and_fragments.specs.declared.Sizes.{Sizes}
 use Rattle.variants_and_fragments.specs.Refusals.{Outcome, refused, done, number, place}
 use Rattle.variants_and_fragments.specs.Check.{caseOf}
 use Rattle.variants_and_fragments.specs.Layout.{alleleCountAt}
-use Rattle.variants_and_fragments.specs.Rows.{rowSlices}
+use Rattle.variants_and_fragments.specs.Rows.{RowSlices, rowSlices, RowsRoom}
 use Rattle.variants_and_fragments.specs.Pile.{CallsPiled, PilesRoom}
 use Rattle.variants_and_fragments.specs.Written.{written}
 use Rattle.genotype_probs.specs.Rates.{ratesFault}
@@ -54,6 +54,13 @@ pub record PilesMade (w : List ℤ) (s : Sizes) (variants alleles : List ℕ) (q
   pub piled : CallsPiled w s (rowSlices fragments variants alleles quals one-minus-quals) row-ends ambiguous count ends who pile-quals pile-one-minus-quals
   pub room : PilesRoom (s .n) (s .c) ends who pile-quals pile-one-minus-quals
   pub row-ends-long : s .f ≤ length row-ends
+
+-- room for the rows and the piles
+pub record ScratchRoom (s : Sizes) (rows : RowSlices) (row-ends ambiguous ends who : List ℕ) (quals one-minus-quals : List ℤ) : Type 0 where
+  pub rows-room : RowsRoom (s .c) rows
+  pub row-ends-long : s .f ≤ length row-ends
+  pub ambiguous-long : s .n ≤ length ambiguous
+  pub piles-room : PilesRoom (s .n) (s .c) ends who quals one-minus-quals
 
 -- room for the run: haplotypes and likelihoods of exactly the need
 pub record RunRoom (s : Sizes) (hap : List ℕ) (lik post : List ℤ) : Type 0 where

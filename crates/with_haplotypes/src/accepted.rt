@@ -1,12 +1,14 @@
 // A round over an accepted input.
 ghost use mathlib.Core.Path.{_≡_};
 ghost use mathlib.Core.Bool.{true};
+ghost use Prim.Native.Nat.{_≤_};
 ghost use lib.Dec.{eqb};
 ghost use lib.ListN.{length};
 ghost use Rattle.steps.specs.Table.{knots};
 ghost use Rattle.variants_and_fragments.specs.Accepted.{allb};
+ghost use Rattle.variants_and_fragments.specs.Rows.{rowSlices};
 ghost use Rattle.with_haplotypes.specs.Round.{RoundInput, roundInput};
-ghost use Rattle.with_haplotypes.specs.Steps.{Admitted, AlleleCounts, PilesMade, RunRoom, RoundStart, SomeInput, RoundRan, RoundRoom, RoundMade};
+ghost use Rattle.with_haplotypes.specs.Steps.{Admitted, AlleleCounts, PilesMade, ScratchRoom, RunRoom, RoundStart, SomeInput, RoundRan, RoundRoom, RoundMade};
 ghost use Rattle.with_haplotypes.specs.Promise.{roundSlices};
 use crate::RoundAnswer;
 use call_genotypes::finals::write_finals;
@@ -14,6 +16,8 @@ use call_genotypes::likelihoods::write_likelihoods;
 use call_genotypes::normalized::normalize_all;
 use call_genotypes::priors::make_priors;
 use call_genotypes::run::run_sweeps;
+use call_genotypes::scratch::few_numbers;
+use call_genotypes::scratch::few_qualities;
 use call_genotypes::scratch::fragment_ends;
 use call_genotypes::scratch::nine_each;
 use call_genotypes::scratch::numbers;
@@ -169,8 +173,81 @@ fn run_piled(
     )
 }
 
-// The usable calls, as rows and as piles, and the run from there.
-fn run_accepted(
+// The usable calls, as rows and as piles in the scratch, and the run from there.
+fn run_in(
+    t: &[u16; 1665],
+    words: &[i32],
+    s: Sizes,
+    bases: &[u8],
+    rates: Rates,
+    phase: &[u8],
+    ks: &[u8],
+    fragments: &mut [u32],
+    variants: &mut [u32],
+    alleles: &mut [u32],
+    quals: &mut [i32],
+    omqs: &mut [i32],
+    ends: &mut [usize],
+    ambiguous: &mut [usize],
+    pile_ends: &mut [usize],
+    who: &mut [u32],
+    pile_quals: &mut [i32],
+    pile_omqs: &mut [i32],
+    orders: &[u32],
+    hap: &mut [u8],
+    lik: &mut [i64],
+    post: &mut [i64],
+    m: usize,
+    limit: usize,
+) -> RoundAnswer
+    requires { ⌜ (now t ≡ knots) × Admitted (roundInput (now words) (now bases) rates (now phase) (now orders) limit) s m ⌝ }
+    requires { ⌜ AlleleCounts (now words) (s .n) (now ks) × RunRoom s (now hap) (now lik) (now post) ⌝ }
+    requires { ⌜ ScratchRoom s (rowSlices (now fragments) (now variants) (now alleles) (now quals) (now omqs)) (now ends) (now ambiguous) (now «pile_ends») (now who) (now «pile_quals») (now «pile_omqs») ⌝ }
+    ensures { λ r. ⌜ RoundRan (roundInput (now (words .entry)) (now (bases .entry)) rates (now (phase .entry)) (now (orders .entry)) limit) (now (post .entry)) r (now (hap .exit)) (now (lik .exit)) (now (post .exit)) ⌝ }
+{
+    pile_calls(
+        words,
+        s,
+        fragments,
+        variants,
+        alleles,
+        quals,
+        omqs,
+        ends,
+        ambiguous,
+        pile_ends,
+        who,
+        pile_quals,
+        pile_omqs,
+    );
+    run_piled(
+        t,
+        words,
+        s,
+        bases,
+        rates,
+        phase,
+        ks,
+        variants,
+        alleles,
+        quals,
+        omqs,
+        ends,
+        pile_ends,
+        who,
+        pile_quals,
+        pile_omqs,
+        orders,
+        hap,
+        lik,
+        post,
+        m,
+        limit,
+    )
+}
+
+// The same with scratch for any case.
+fn run_large(
     t: &[u16; 1665],
     words: &[i32],
     s: Sizes,
@@ -200,9 +277,14 @@ fn run_accepted(
     let mut who = numbers();
     let mut pile_quals = qualities();
     let mut pile_omqs = qualities();
-    pile_calls(
+    run_in(
+        t,
         words,
         s,
+        bases,
+        rates,
+        phase,
+        ks,
         &mut fragments,
         &mut variants,
         &mut alleles,
@@ -214,8 +296,48 @@ fn run_accepted(
         &mut who,
         &mut pile_quals,
         &mut pile_omqs,
-    );
-    run_piled(
+        orders,
+        hap,
+        lik,
+        post,
+        m,
+        limit,
+    )
+}
+
+// The same with scratch for at most 1,024 call records, which costs a small case less to clear.
+fn run_small(
+    t: &[u16; 1665],
+    words: &[i32],
+    s: Sizes,
+    bases: &[u8],
+    rates: Rates,
+    phase: &[u8],
+    ks: &[u8],
+    orders: &[u32],
+    hap: &mut [u8],
+    lik: &mut [i64],
+    post: &mut [i64],
+    m: usize,
+    limit: usize,
+) -> RoundAnswer
+    requires { ⌜ (now t ≡ knots) × Admitted (roundInput (now words) (now bases) rates (now phase) (now orders) limit) s m ⌝ }
+    requires { ⌜ AlleleCounts (now words) (s .n) (now ks) × RunRoom s (now hap) (now lik) (now post) ⌝ }
+    requires { ⌜ s .c ≤ 1024 ⌝ }
+    ensures { λ r. ⌜ RoundRan (roundInput (now (words .entry)) (now (bases .entry)) rates (now (phase .entry)) (now (orders .entry)) limit) (now (post .entry)) r (now (hap .exit)) (now (lik .exit)) (now (post .exit)) ⌝ }
+{
+    let mut fragments = few_numbers();
+    let mut variants = few_numbers();
+    let mut alleles = few_numbers();
+    let mut quals = few_qualities();
+    let mut omqs = few_qualities();
+    let mut ends = fragment_ends();
+    let mut ambiguous = places();
+    let mut pile_ends = places();
+    let mut who = few_numbers();
+    let mut pile_quals = few_qualities();
+    let mut pile_omqs = few_qualities();
+    run_in(
         t,
         words,
         s,
@@ -223,15 +345,71 @@ fn run_accepted(
         rates,
         phase,
         ks,
-        &variants,
-        &alleles,
-        &quals,
-        &omqs,
-        &ends,
-        &pile_ends,
-        &who,
-        &pile_quals,
-        &pile_omqs,
+        &mut fragments,
+        &mut variants,
+        &mut alleles,
+        &mut quals,
+        &mut omqs,
+        &mut ends,
+        &mut ambiguous,
+        &mut pile_ends,
+        &mut who,
+        &mut pile_quals,
+        &mut pile_omqs,
+        orders,
+        hap,
+        lik,
+        post,
+        m,
+        limit,
+    )
+}
+
+// The run of an accepted case.
+fn run_accepted(
+    t: &[u16; 1665],
+    words: &[i32],
+    s: Sizes,
+    bases: &[u8],
+    rates: Rates,
+    phase: &[u8],
+    ks: &[u8],
+    orders: &[u32],
+    hap: &mut [u8],
+    lik: &mut [i64],
+    post: &mut [i64],
+    m: usize,
+    limit: usize,
+) -> RoundAnswer
+    requires { ⌜ (now t ≡ knots) × Admitted (roundInput (now words) (now bases) rates (now phase) (now orders) limit) s m ⌝ }
+    requires { ⌜ AlleleCounts (now words) (s .n) (now ks) × RunRoom s (now hap) (now lik) (now post) ⌝ }
+    ensures { λ r. ⌜ RoundRan (roundInput (now (words .entry)) (now (bases .entry)) rates (now (phase .entry)) (now (orders .entry)) limit) (now (post .entry)) r (now (hap .exit)) (now (lik .exit)) (now (post .exit)) ⌝ }
+{
+    if s.c <= 1024 {
+        return run_small(
+            t,
+            words,
+            s,
+            bases,
+            rates,
+            phase,
+            ks,
+            orders,
+            hap,
+            lik,
+            post,
+            m,
+            limit,
+        );
+    }
+    run_large(
+        t,
+        words,
+        s,
+        bases,
+        rates,
+        phase,
+        ks,
         orders,
         hap,
         lik,
