@@ -24,7 +24,7 @@ pub on-line : (d : ℕ) → d < 53248 → addend d ≡ line (T (d / 32)) (T (d /
 unfolding addend line
 on-line d h = simp (lt-leb 53248 d h)
 
-pub slope-of : (d : ℕ) → d < 53248 → Gentle (T (d / 32)) (T (d / 32 + 1))
+slope-of : (d : ℕ) → d < 53248 → Gentle (T (d / 32)) (T (d / 32 + 1))
 slope-of d h = slope (d / 32) (omega arith)
 
 -- the line between two knots stays between them, and falls by 0 or 1 at each place
@@ -116,3 +116,7 @@ at-flat = refl
 
 pub far : (d : ℕ) → 51328 ≤ d → addend d ≡ 0
 far d h = let f = falls 51328 d h in let z = at-flat in omega arith
+
+pub flat : T 1604 ≡ 0
+unfolding T knots
+flat = refl

@@ -1,15 +1,16 @@
 // A(d), over the knots.
 ghost use mathlib.Core.Path.{_≡_};
-ghost use Prim.Native.Nat.{_-_, _*_, _/_, _≤_, _<_};
+ghost use Prim.Native.Nat.{ℕ, _+_, _-_, _*_, _/_, _%_, _≤_, _<_};
+ghost use Rattle.steps.specs.Knots.{T};
 ghost use Rattle.steps.specs.Table.{knots};
 ghost use Rattle.steps.specs.Addend as spec;
 
-// The distance, or for a far one another at which A is 0 too, since T[1604] to T[1664] are 0. Both arms are computed, so no jump is made of
-// the test.
-fn near(d: usize) -> usize
-    ensures { λ r. ⌜ (r < 53248) × (spec.addend r ≡ spec.addend d) ⌝ }
+// The knot k, or for a far one the first of those that are 0: T[1604] to T[1664] are. Both arms are computed, so no jump is made of the
+// test.
+fn near(k: usize) -> usize
+    ensures { λ r. ⌜ (r < 1664) × ((d : ℕ) → d / 32 ≡ k → spec.addend d ≡ T r - (T r - T (r + 1)) * (d % 32) / 32) ⌝ }
 {
-    if d < 51328 { d } else { 51328 + d % 1024 }
+    if k < 1604 { k } else { 1604 }
 }
 
 fn wide(x: u16) -> usize
@@ -31,7 +32,6 @@ pub fn addend(t: &[u16; 1665], d: usize) -> usize
     requires { ⌜ now t ≡ knots ⌝ }
     ensures { λ r. ⌜ r ≡ spec.addend d ⌝ }
 {
-    let e = near(d);
-    let k = e / 32;
-    line(wide(t[k]), wide(t[k + 1]), e % 32)
+    let k = near(d / 32);
+    line(wide(t[k]), wide(t[k + 1]), d % 32)
 }

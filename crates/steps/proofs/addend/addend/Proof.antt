@@ -1,12 +1,11 @@
 -- `steps::addend::addend` meets its contract: the lent table's entries are the knots around d.
 -- Assumes nothing.
-use mathlib.Core.Path.{_≡_}
-use Prim.Native.Nat.{_+_, _/_}
+use mathlib.Core.Path.{_≡_, refl}
+use Prim.Native.Nat.{_+_}
 use native.Mathlib.Omega.{arith}
 use borrow.Author.Needs.{needs}
 use Rattle.steps.specs.Knots.{T}
-use Rattle.steps.specs.Addend as spec
-use Rattle.steps.proofs.Addends.{line, on-line, slope-of}
+use Rattle.steps.proofs.Slope.{slope}
 use Rattle.steps.proofs.addend.addend.Statement.{statement}
 use Rattle.steps.proofs.addend.addend.Tie as tie
 
@@ -34,27 +33,26 @@ element-copy-out-wide-2 c = search needs
 wide-requires-2 : tie.Need-wide-requires-2
 wide-requires-2 c κs = search needs
 
--- the knots around the distance that is looked up
-x-is : (c : tie.After-wide2) → c .before .before .wide .result ≡ T (c .before .before .before .before .near .result / 32)
+-- the two knots that are looked up
+x-is : (c : tie.After-wide2) → c .before .before .wide .result ≡ T (c .before .before .before .before .near .result)
 unfolding T
 x-is c = cc
 
-y-is : (c : tie.After-wide2) → c .wide2 .result ≡ T (c .before .before .before .before .near .result / 32 + 1)
+y-is : (c : tie.After-wide2) → c .wide2 .result ≡ T (c .before .before .before .before .near .result + 1)
 unfolding T
 y-is c = cc
 
 line-requires : tie.Need-line-requires
 line-requires c κs =
     let e = c .before .before .before .before .near in
-    let g = slope-of (e .result) (e .ensures .0) in
+    let g = slope (e .result) (e .ensures .0) in
     let x = x-is c in
     let y = y-is c in (omega arith, omega arith, omega arith)
 
 returns : tie.Need-returns
-unfolding line
 returns c =
     let e = c .before .before .before .before .before .near in
-    cc (x-is (c .before), y-is (c .before), on-line (e .result) (e .ensures .0))
+    cc (x-is (c .before), y-is (c .before), e .ensures .1 _ refl)
 
 pub addend-spec : {M : Type 1} → statement M
 addend-spec =

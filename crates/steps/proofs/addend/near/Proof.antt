@@ -1,20 +1,19 @@
--- `steps::addend::near` meets its contract: A is 0 from 51,328 on.
+-- `steps::addend::near` meets its contract: from T[1604] on the knots are 0, and so is A from 51,328 on.
 -- Assumes nothing.
-use mathlib.Core.Path.{_∙_, sym}
+use mathlib.Core.Path.{_≡_, _∙_}
+use Prim.Native.Nat.{_+_, _-_, _*_, _/_, _%_}
 use native.Mathlib.Omega.{arith}
-use borrow.Author.Needs.{needs}
-use Rattle.steps.proofs.Addends.{far}
+use Rattle.steps.specs.Knots.{T}
+use Rattle.steps.proofs.Addends.{line, on-line, far, flat}
 use Rattle.steps.proofs.addend.near.Statement.{statement}
 use Rattle.steps.proofs.addend.near.Tie as tie
 
-add-result : tie.Need-add-result
-add-result c = search needs
-
 returns : tie.Need-returns
-returns c = search needs
+unfolding line
+returns c = (omega (arith, c .if1 .taken), λ d e. rw (← e) (on-line d (omega (arith, c .if1 .taken))))
 
 returns-2 : tie.Need-returns-2
-returns-2 c = (omega arith, far _ (omega arith) ∙ sym (far (c .before .args .d) (c .if1 .left)))
+returns-2 c = (omega arith, λ d e. far d (omega (arith, c .if1 .left)) ∙ omega (arith, flat))
 
 pub near-spec : {M : Type 1} → statement M
-near-spec = tie.close (tie.spec add-result returns returns-2)
+near-spec = tie.close (tie.spec returns returns-2)
