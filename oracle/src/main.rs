@@ -4,7 +4,6 @@
 //!
 //! oracle < REQUESTS               runs by the lent orders
 //! oracle --reference < REQUESTS   runs by document 01's own orders from seed 0
-//! oracle --time N < REQUESTS      for each run, instead of its answer: the best time of N of its round, in nanoseconds
 //!
 //! The first group of modules stands in for the source's dependencies (edition 2015: its paths start at this root), the
 //! second is the source, through the link that oracle/build makes, and the third asks it.
@@ -67,7 +66,6 @@ fn main() {
     let mode = match options.first().map(|option| option.as_str()) {
         None => Mode::Lent,
         Some("--reference") => Mode::Reference,
-        Some("--time") => Mode::Time(options[1].parse().expect("a number of rounds")),
         Some(option) => panic!("no option {}", option),
     };
     let mut input = vec![];

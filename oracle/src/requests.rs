@@ -10,7 +10,6 @@ use rand::rngs::StdRng;
 use rand::seq::SliceRandom;
 use rand::{self, Orders, SeedableRng};
 use rounds::{genotype_priors, phased_case, phased_flags, phased_total, round, Phase};
-use std::time::Instant;
 use variants_and_fragments::{var_filter, Var};
 
 /// The source's own limit of sweeps.
@@ -23,8 +22,6 @@ pub enum Mode {
     Lent,
     /// The answer, by document 01's own orders from seed 0.
     Reference,
-    /// The best time of so many rounds by the lent orders.
-    Time(usize),
 }
 
 /// The answer to a request whose word has been read; none where it cannot be read.
@@ -136,20 +133,7 @@ fn run(tokens: &mut Tokens, mode: Mode) -> Option<Answer> {
     Some(match mode {
         Mode::Lent => ran(&case, &rates, &phase, lent, limit, &rooms),
         Mode::Reference => ran(&case, &rates, &phase, Orders::Seeded, limit, &rooms),
-        Mode::Time(rounds) => timed(&case, &rates, &phase, &lent, limit, rounds),
     })
-}
-
-/// The best time of the source's work on one round, its priors included, as the one field of an answer.
-fn timed(case: &Case, rates: &[i32], phase: &Phase, lent: &Orders, limit: usize, rounds: usize) -> Answer {
-    let times = (0..rounds).map(|_| {
-        let (mut case, lent) = (case.clone(), lent.clone());
-        let start = Instant::now();
-        round(&mut case, &genotype_priors(rates), phase, lent, limit);
-        start.elapsed()
-    });
-    let best = times.min().expect("a round");
-    Answer::new(format!(" {}", best.as_secs() * 1000000000 + u64::from(best.subsec_nanos())), vec![])
 }
 
 fn ran(case: &Case, rates: &[i32], phase: &Phase, orders: Orders, limit: usize, rooms: &[usize]) -> Answer {

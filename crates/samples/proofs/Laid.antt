@@ -10,9 +10,9 @@ use Rattle.variants_and_fragments.proofs.EncodeSamples.{empty-accepted, empty-d
 use Rattle.samples.specs.Samples.{reads, noVariants, sizes}
 use Rattle.samples.proofs.Open.{layout, checks}
 
-pub record Laid (orchard : Case) : Type 0 where
-  pub accepted : caseOf (encodeWords orchard) (encodeBases orchard) ≡ done (sizes orchard)
-  pub decoded : decode (encodeWords orchard) (encodeBases orchard) ≡ orchard
+pub record Laid (sample : Case) : Type 0 where
+  pub accepted : caseOf (encodeWords sample) (encodeBases sample) ≡ done (sizes sample)
+  pub decoded : decode (encodeWords sample) (encodeBases sample) ≡ sample
 
 pub one-laid : Laid (reads 0 1)
 unfolding layout checks

@@ -15,29 +15,29 @@ use Rattle.samples.specs.Samples.{rates, sizes, roundOn, setsOf, SampleR
 use Rattle.samples.proofs.AtCase.{resultAt, returnedAt, start-at, result-at, returned-at}
 use Rattle.samples.proofs.Laid.{Laid}
 
-module _ (orchard : Case) (phase order given left : List ℕ) (answer : RoundAnswer) where
+module _ (sample : Case) (phase order given left : List ℕ) (answer : RoundAnswer) where
   abbrev input : RoundInput
-  input = roundOn orchard phase order
+  input = roundOn sample phase order
 
   -- what is computed at the case: its start haplotypes, those that the run leaves, the answer, and that none of 6 to 10
   -- is given, with one order and slices long enough
   pub record Computed : Type 0 where
-    pub starts : startHaplotypes orchard phase ≡ given
-    pub ends : resultAt input orchard .haps ≡ left
-    pub returns : returnedAt input orchard ≡ answer
-    pub checked : roundChecks (sizes orchard .n) rates phase (setsOf phase) order 1000000 0 ≡ done 1
+    pub starts : startHaplotypes sample phase ≡ given
+    pub ends : resultAt input sample .haps ≡ left
+    pub returns : returnedAt input sample ≡ answer
+    pub checked : roundChecks (sizes sample .n) rates phase (setsOf phase) order 1000000 0 ≡ done 1
 
-  pub sample-round : Laid orchard → Computed → SampleRound orchard phase order given left answer
+  pub sample-round : Laid sample → Computed → SampleRound sample phase order given left answer
   sample-round laid computed =
-      let returns : returned input ≡ answer = returned-at input orchard (laid .decoded) ∙ computed .returns in
+      let returns : returned input ≡ answer = returned-at input sample (laid .decoded) ∙ computed .returns in
       record {
         accepted = laid .accepted;
         decoded = laid .decoded;
-        starts = start-at input orchard (laid .decoded) ∙ computed .starts;
-        ends = ap (λ (r : RunResult). r .haps) (result-at input orchard (laid .decoded)) ∙ computed .ends;
+        starts = start-at input sample (laid .decoded) ∙ computed .starts;
+        ends = ap (λ (r : RunResult). r .haps) (result-at input sample (laid .decoded)) ∙ computed .ends;
         returns = returns;
         outcome = λ slices room.
-            outcome-done input (setsOf phase) slices (sizes orchard) 1 (laid .accepted)
-            (ap (roundChecks (sizes orchard .n) rates phase (setsOf phase) order 1000000) room ∙ computed .checked)
+            outcome-done input (setsOf phase) slices (sizes sample) 1 (laid .accepted)
+            (ap (roundChecks (sizes sample .n) rates phase (setsOf phase) order 1000000) room ∙ computed .checked)
             ∙ ap done returns;
       }

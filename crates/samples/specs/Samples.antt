@@ -61,11 +61,11 @@ noVariants = record { variants = []; fragments = []; cutoff = neg 2000 }
 
 -- the sizes that the head of such a case gives: each fragment has one call
 abbrev pub sizes : Case → Sizes
-sizes orchard = record { n = length (orchard .variants); f = length (orchard .fragments); c = length (orchard .fragments); cut = 2000 }
+sizes sample = record { n = length (sample .variants); f = length (sample .fragments); c = length (sample .fragments); cut = 2000 }
 
 -- a round on the words and bases that `encode` makes of a case: these phase bytes, one order, the highest limit
 abbrev pub roundOn : Case → List ℕ → List ℕ → RoundInput
-roundOn orchard phase order = roundInput (encodeWords orchard) (encodeBases orchard) rates phase order 1000000
+roundOn sample phase order = roundInput (encodeWords sample) (encodeBases sample) rates phase order 1000000
 
 -- each variant is of set 0
 abbrev pub setsOf : List ℕ → List ℤ
@@ -81,17 +81,17 @@ pub record KnotIs (k t : ℕ) : Type 0 where
   pub entry : T k ≡ t
 
 -- A round from the haplotypes `given` to the haplotypes `left`, with this answer
-pub record SampleRound (orchard : Case) (phase order given left : List ℕ) (answer : RoundAnswer) : Type 0 where
+pub record SampleRound (sample : Case) (phase order given left : List ℕ) (answer : RoundAnswer) : Type 0 where
   -- the words and bases are accepted, and stand for the case
-  pub accepted : caseOf (encodeWords orchard) (encodeBases orchard) ≡ done (sizes orchard)
-  pub decoded : decode (encodeWords orchard) (encodeBases orchard) ≡ orchard
+  pub accepted : caseOf (encodeWords sample) (encodeBases sample) ≡ done (sizes sample)
+  pub decoded : decode (encodeWords sample) (encodeBases sample) ≡ sample
   -- section 5's haplotypes, those that the run leaves, and what is returned
-  pub starts : start (roundOn orchard phase order) ≡ given
-  pub ends : result (roundOn orchard phase order) .haps ≡ left
-  pub returns : returned (roundOn orchard phase order) ≡ answer
+  pub starts : start (roundOn sample phase order) ≡ given
+  pub ends : result (roundOn sample phase order) .haps ≡ left
+  pub returns : returned (roundOn sample phase order) ≡ answer
   -- nothing is refused, whatever slices are lent that are long enough
-  pub outcome : (slices : RoundSlices) → shortOfSlices (length (orchard .variants)) (length (orchard .fragments)) slices ≡ 0
-      → roundOutcome (roundOn orchard phase order) (setsOf phase) slices ≡ done answer
+  pub outcome : (slices : RoundSlices) → shortOfSlices (length (sample .variants)) (length (sample .fragments)) slices ≡ 0
+      → roundOutcome (roundOn sample phase order) (setsOf phase) slices ≡ done answer
 
 pub record Samples : Type 0 where
   -- (a) T[0] 4096, (b) T[128] 2396, (c) T[256] 1318, (d) T[1664] 0

@@ -1,14 +1,13 @@
 -- Demand 3 of document 01: what holds of a run over its whole list of orders, whatever they are and whatever the limit.
 -- `proofs/Run.antt` proves it of every accepted run. Assumes nothing.
 use mathlib.Core.Path.{_≡_}
-use mathlib.Core.Bool.{Bool, not}
-use mathlib.Core.List.{List, []}
-use Prim.Native.Nat.{ℕ, zero, suc, _+_, _*_, _%_, _<_, _≤_}
+use mathlib.Core.Bool.{not}
+use mathlib.Core.List.{List}
+use Prim.Native.Nat.{ℕ, zero, suc, _+_, _*_, _<_, _≤_}
 use lib.Dec.{T}
-use lib.ListN.{length, getD}
 use lib.IntN.{pos, _+ℤ_, _-ℤ_, _*ℤ_}
 use lib.Signed.{_≤ℤ_, _<ℤ_}
-use Rattle.sweeps.specs.Sweeps.{SweepCase, RunResult, allele0, allele1, sameHaps, scoreWith, sweep, run, phasedTotal, pairNumber, phasedCount}
+use Rattle.sweeps.specs.Sweeps.{SweepCase, RunResult, allele0, allele1, sameHaps, scoreWith, sweep, phasedTotal, pairNumber, phasedCount}
 
 -- the haplotypes after s sweeps, sweep s going by the order o s
 unfoldable pub after : SweepCase → (ℕ → List ℕ) → List ℕ → ℕ → List ℕ
