@@ -35,11 +35,11 @@ unfolding likelihood sumOver
 likelihood-sum counts a [] = refl
 likelihood-sum counts a (c ∷ cs) = ap (λ (z : ℤ). callShare counts a c +ℤ z) (likelihood-sum counts a cs)
 
-cond-down : (n : ℕ) (t : Bool) (x y : ℤ) → DownTo n x → DownTo n y → DownTo n (cond t x y)
+pub cond-down : (n : ℕ) (t : Bool) (x y : ℤ) → DownTo n x → DownTo n y → DownTo n (cond t x y)
 cond-down n true x y d e = d
 cond-down n false x y d e = e
 
-share-down : (counts : ℕ → Bool) (a : ℕ → ℕ) (c : Call) → DownTo 262144 (c .qual) → DownTo 262144 (c .one-minus-qual) → DownTo 262144 (callShare counts a c)
+pub share-down : (counts : ℕ → Bool) (a : ℕ → ℕ) (c : Call) → DownTo 262144 (c .qual) → DownTo 262144 (c .one-minus-qual) → DownTo 262144 (callShare counts a c)
 unfolding callTerm
 share-down counts a c q o = cond-down 262144 (counts (c .variant)) _ (pos 0) (cond-down 262144 (eqb (c .allele) (a (c .variant))) _ _ o q) (down-zero 262144)
 

@@ -1,4 +1,4 @@
--- Section 5 read off the words of an accepted case: what the functions below the operation give. `proofs/PhaseRead.antt` ties each to the
+-- Section 5 read off the words of an accepted case: what the functions below the operation give. `proofs/Decodes.antt` ties each to the
 -- definition over the decoded case.
 -- Assumes nothing.
 use mathlib.Core.Path.{_≡_}

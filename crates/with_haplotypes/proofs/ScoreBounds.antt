@@ -2,11 +2,11 @@
 -- likelihoods at most 262,144 steps a call and 4,096 more, and never above 0; so the sum of all of them, there being
 -- 16,384 calls and 4,096 fragments at most, less than 2^33 steps. Assumes nothing.
 use mathlib.Core.Path.{_≡_}
-use mathlib.Core.Bool.{Bool, true, false, cond}
+use mathlib.Core.Bool.{Bool, cond}
 use mathlib.Core.List.{List, [], _∷_, map}
 use Prim.Native.Nat.{ℕ, zero, suc, _+_, _*_, _/_, _%_, _^_, _≤_}
 use native.Mathlib.Omega.{arith}
-use lib.Dec.{T, eqb}
+use lib.Dec.{T}
 use lib.IntN.{ℤ, pos, negℤ, natAbs, _-ℤ_}
 use lib.ListN.{length}
 use Rattle.steps.proofs.Signed.{zlin, up-pos, dn-pos, neg-up, neg-dn, natAbs-parts, parts-add, parts-minus}
@@ -27,11 +27,11 @@ use Rattle.genotype_probs.specs.Rates.{ratesFault}
 use Rattle.genotype_probs.specs.Priors.{getPrior}
 use Rattle.genotype_probs.proofs.PriorBounds.{Down, prior-down}
 use Rattle.genotype_probs.proofs.RateLaws.{rates-in}
-use Rattle.sweeps.specs.Sweeps.{SweepCase, allele0, allele1, putPair, sumTo, callTerm, likelihood, hasCall, perCall, readShare, withOwn, scoreWith, score, totalOf, mixOf}
+use Rattle.sweeps.specs.Sweeps.{SweepCase, allele0, allele1, putPair, sumTo, likelihood, hasCall, perCall, readShare, withOwn, scoreWith, score, totalOf, mixOf}
 use Rattle.sweeps.proofs.Basics.{one-call}
 use Rattle.call_genotypes.specs.Likelihoods.{callShare}
 use Rattle.call_genotypes.specs.SweepCaseOf.{sweepCaseOf}
-use Rattle.call_genotypes.proofs.SweepCases.{likelihood-sum, variants-are, mix-is}
+use Rattle.call_genotypes.proofs.SweepCases.{likelihood-sum, cond-down, share-down, variants-are, mix-is}
 use Rattle.call_genotypes.proofs.Sizes.{down-abs}
 
 -- ---- numbers in −n..0
@@ -40,10 +40,6 @@ from-down {n} {z} d =
     let a = natAbs-parts z in
     let m = d .most in
     let l = d .not-above in down-in n z (omega arith) (omega (zlin, up-pos 0, dn-pos 0))
-
-by-cond : {n : ℕ} (t : Bool) (x y : ℤ) → DownTo n x → DownTo n y → DownTo n (cond t x y)
-by-cond true x y d e = d
-by-cond false x y d e = e
 
 -- two likelihoods mixed: at least the smaller less 4,096, and at most 0
 mix-down : (n : ℕ) (a b : ℤ) → DownTo n a → DownTo n b → DownTo (n + 4096) (mixOf a b)
@@ -66,11 +62,6 @@ mix-down n a b d e =
     (omega (zlin, parts-add c (pos 4096), add-below x y c (omega zlin) (omega zlin)))
 
 -- ---- a fragment's likelihoods
-share-down : (counts : ℕ → Bool) (a : ℕ → ℕ) (c : Call) → DownTo 262144 (c .qual) → DownTo 262144 (c .one-minus-qual) → DownTo 262144 (callShare counts a c)
-unfolding callTerm
-share-down counts a c q o =
-    by-cond (counts (c .variant)) _ (pos 0) (by-cond (eqb (c .allele) (a (c .variant))) _ _ o q) (down-zero 262144)
-
 -- what a fragment's usable calls have: each likelihood over them, and that they rise
 record FragmentIn (cs : List Call) : Type 0 where
   likelihood-in : (counts : ℕ → Bool) (a : ℕ → ℕ) → DownTo (262144 * length cs) (likelihood counts a cs)
@@ -138,7 +129,7 @@ module _ (rates : Rates) (phased : ℕ → Bool) (w : List ℤ) (b : List ℕ) (
   own-in : (v : ℕ) (h : List ℕ) (cs : List Call) → FragmentIn cs → DownTo (shareTop cs) (perCall v cs (readShare C (withOwn C v) h cs))
   own-in v h cs f =
       rw (one-call v 0 cs (readShare C (withOwn C v) h cs) (f .rises))
-      (by-cond (hasCall v cs) _ (pos 0) (share-in (withOwn C v) h cs f) (down-zero (shareTop cs)))
+      (cond-down _ (hasCall v cs) _ (pos 0) (share-in (withOwn C v) h cs f) (down-zero (shareTop cs)))
 
   -- ---- scores
   score-down : (v : ℕ) (h : List ℕ) (i j : ℕ) → DownTo (2 ^ 36) (scoreWith C v h i j)
@@ -158,7 +149,7 @@ module _ (rates : Rates) (phased : ℕ → Bool) (w : List ℤ) (b : List ℕ) (
 
   -- ---- totals
   prior-share : (counts : ℕ → Bool) (h : List ℕ) (v : ℕ) → DownTo 1052672 (cond (counts v) (C .prior v (allele0 h v) (allele1 h v)) (pos 0))
-  prior-share counts h v = by-cond (counts v) _ (pos 0) (prior-in v (allele0 h v) (allele1 h v)) (down-zero 1052672)
+  prior-share counts h v = cond-down _ (counts v) _ (pos 0) (prior-in v (allele0 h v) (allele1 h v)) (down-zero 1052672)
 
   pub total-in : (counts : ℕ → Bool) (h : List ℕ) → DownTo (2 ^ 40) (totalOf C counts h)
   unfolding totalOf
