@@ -142,6 +142,15 @@ add-shift a b c =
     casesZ b a (shift-first a b c)
     (λ k. let i : a ≤ℤ b = omega zlin in add-swap (a +ℤ c) (b +ℤ c) ∙ shift-first b a c i ∙ ap (λ (z : ℤ). z +ℤ c) (add-swap b a))
 
+-- so only how far the first is above the second counts
+pub add-exp-from : (a b : ℤ) → addExp (b +ℤ a) b ≡ b +ℤ addExp a (pos 0)
+add-exp-from a b =
+    let e : b +ℤ a ≡ a +ℤ b = omega (zlin, parts-add a b, parts-add b a) in
+    let z : b ≡ pos 0 +ℤ b = omega (zlin, parts-add (pos 0) b, up-pos 0, dn-pos 0) in
+    let s = addExp a (pos 0) in
+    let m : s +ℤ b ≡ b +ℤ s = omega (zlin, parts-add s b, parts-add b s) in
+    ap (λ (x : ℤ). addExp x b) e ∙ ap (λ (x : ℤ). addExp (a +ℤ b) x) z ∙ add-shift a (pos 0) b ∙ m
+
 -- ---- two halves are one
 pub add-halves : addExp (negsuc 4095) (negsuc 4095) ≡ pos 0
 unfolding addExp larger difference addend T knots
