@@ -41,7 +41,7 @@ module _ (x y : ℕ) (g : Gentle x y) where
   line-falls r h =
       let p = product (suc r) h in let e = g .falls in let n = g .near in let s = mul-suc (x - y) r in omega arith
 
-  line-start : line x y 0 ≡ x
+  pub line-start : line x y 0 ≡ x
   unfolding line
   line-start = let z = product 0 (omega arith) in omega arith
 

@@ -5,6 +5,8 @@ pub mod Rule
 pub mod Slope
 pub mod Addends
 pub mod AddExp
+pub mod LineTable
+pub mod Pieces
 pub mod Marks
 pub mod Sums
 pub mod OneMinus

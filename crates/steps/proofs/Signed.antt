@@ -210,6 +210,10 @@ add-abs a b =
     let y = natAbs-parts b in
     let z = natAbs-parts (a +ℤ b) in by-sign (a +ℤ b) (λ e. omega arith) (λ e. omega arith)
 
+pub times-abs : (k : ℕ) (a : ℤ) → natAbs (pos k *ℤ a) ≡ k * natAbs a
+times-abs k (pos n) = refl
+times-abs k (negsuc n) = neg-abs (pos (k * suc n))
+
 pub minus-abs : (a b : ℤ) → natAbs (a -ℤ b) ≤ natAbs a + natAbs b
 minus-abs a b = let h = add-abs a (negℤ b) in let e = neg-abs b in omega arith
 

@@ -13,7 +13,9 @@ ghost use Rattle.steps.specs.Probs.{half, quarter, Known, lnOf};
 
 pub mod addend;
 mod knots;
+mod lines;
 pub mod logs;
+pub mod one_plus;
 pub mod phred;
 
 // A log probability, in steps.
