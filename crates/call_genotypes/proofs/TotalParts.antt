@@ -17,6 +17,10 @@ use Rattle.call_genotypes.specs.Likelihoods.{CallSlices, callsOf, flagge
 use Rattle.call_genotypes.specs.Totals.{pairPrior, heldCase, priorShare, fragmentShare, PriorsIn}
 use Rattle.call_genotypes.proofs.RunningSums.{table-sum}
 
+-- two sums of equal parts
+pub same-sum : {a b m n : ℤ} → a ≡ b → m ≡ n → a +ℤ m ≡ b +ℤ n
+same-sum p q = cc
+
 -- ---- a fragment
 -- mixed likelihoods are at most 8192 steps further from 0 than the likelihoods
 pub mix-small : (a b : ℤ) (n : ℕ) → natAbs a ≤ n → natAbs b ≤ n → natAbs (mixOf a b) ≤ n + 8192

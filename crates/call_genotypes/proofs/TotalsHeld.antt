@@ -6,7 +6,7 @@ use mathlib.Core.List.{List, []}
 use Prim.Native.Nat.{ℕ, _+_, _*_, _/_, _%_, _^_, _≤_, _<_}
 use native.Mathlib.Omega.{arith}
 use native.Mathlib.Nat.{add-zero, mul-add-div-right, div-eq-of-lt, mul-add-mod-self-right, mod-eq-of-lt}
-use lib.IntN.{ℤ, pos, natAbs}
+use lib.IntN.{ℤ, pos, natAbs, _+ℤ_}
 use lib.ListN.{length, getD}
 use lib.Seq.{ext-getD}
 use Rattle.variants_and_fragments.specs.declared.Sizes.{Sizes}
@@ -22,10 +22,10 @@ use Rattle.genotype_probs.proofs.AlleleLaws.{nine}
 use Rattle.genotype_probs.proofs.TableSums.{place-in}
 use Rattle.sweeps.specs.Sweeps.{SweepCase, GoodHaps, allele0, allele1, sumTo, likelihood, readShare, totalOf, phasedTotal, sourceTotal}
 use Rattle.sweeps.proofs.Basics.{sumTo-cong}
-use Rattle.call_genotypes.specs.Held.{Held}
+use Rattle.call_genotypes.specs.Held.{Held, Liks}
 use Rattle.call_genotypes.specs.SweepCaseOf.{sweepCaseOf}
 use Rattle.call_genotypes.specs.Likelihoods.{callsOf, flagged}
-use Rattle.call_genotypes.specs.Totals.{pairPrior, heldCase, priorShare, fragmentShare, PriorsIn}
+use Rattle.call_genotypes.specs.Totals.{pairPrior, heldCase, priorShare, fragmentShare, standingShare, standingTotal, PriorsIn}
 use Rattle.call_genotypes.proofs.RunningSums.{table-sum}
 use Rattle.call_genotypes.proofs.CallsHeld.{callsOfRows}
 use Rattle.call_genotypes.proofs.LikelihoodsHeld.{flag-is, frags-counted, frag-held, likelihood0-is, likelihood1-is}
@@ -139,8 +139,26 @@ module _
     total-held = sym (total-parts (s .n) (s .f) ks pri (callsOfRows slices) row-ends hap mask) ∙ cc (priors-sum, fragments-sum)
 
   -- with the flags of the phased variants it is the phased total
+  flags-held : (v : ℕ) → v < s .n → getD ph v 0 ≡ cond (C .phased v) 1 0
+  flags-held v h = held .ph-are v (omega (arith, counted rates phased w b s accepted))
+
   pub phased-total-held : totalOf (heldWith ph) (flagged ph) hap ≡ phasedTotal C hap
-  phased-total-held = total-held (C .phased) ph (λ v h. held .ph-are v (omega (arith, counted rates phased w b s accepted)))
+  phased-total-held = total-held (C .phased) ph flags-held
+
+  -- and so is the total of the likelihoods that stand
+  module _ {lik : List ℤ} (liks : Liks C hap lik) where
+    standing-is : (f : ℕ) → f < s .f → standingShare lik f ≡ fragmentShare (callsOfRows slices) row-ends hap ph f
+    unfolding standingShare fragmentShare
+    standing-is f h =
+        let l : f < length (C .frags) = omega (arith, frags-counted rates phased w b s accepted made) in
+        cc (liks .firsts f l, liks .seconds f l, likelihood0-is rates phased w b s accepted made (C .phased) hap ph flags-held f h, likelihood1-is rates phased w b s accepted made (C .phased) hap ph flags-held f h)
+
+    pub standing-total-held : standingTotal (s .n) (s .f) ks pri lik hap ph ≡ phasedTotal C hap
+    unfolding standingTotal
+    standing-total-held =
+        ap (λ (z : ℤ). sumTo (s .n) (priorShare ks pri hap ph) +ℤ z) (sumTo-cong (s .f) (standingShare lik) (fragmentShare (callsOfRows slices) row-ends hap ph) standing-is)
+        ∙ total-parts (s .n) (s .f) ks pri (callsOfRows slices) row-ends hap ph
+        ∙ phased-total-held
 
   -- with each flag 1 it is the source's total
   pub source-total-held : (ones : List ℕ) → ((v : ℕ) → v < s .n → getD ones v 0 ≡ 1) → totalOf (heldWith ones) (flagged ones) hap ≡ sourceTotal C hap

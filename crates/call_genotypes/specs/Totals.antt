@@ -3,10 +3,10 @@
 use mathlib.Core.Bool.{cond}
 use mathlib.Core.List.{List}
 use Prim.Native.Nat.{ℕ, _+_, _*_, _^_, _≤_, _<_}
-use lib.IntN.{ℤ, pos, natAbs}
+use lib.IntN.{ℤ, pos, natAbs, _+ℤ_}
 use lib.ListN.{length, getD}
 use Rattle.variants_and_fragments.specs.Decode.{tabulate}
-use Rattle.sweeps.specs.Sweeps.{SweepCase, allele0, allele1, likelihood, mixOf}
+use Rattle.sweeps.specs.Sweeps.{SweepCase, allele0, allele1, sumTo, likelihood, mixOf}
 use Rattle.call_genotypes.specs.Likelihoods.{CallSlices, callsOf, flagged, alleleOn}
 
 -- the prior of the pair (i, j) at v, nine places a variant
@@ -32,6 +32,14 @@ priorShare ks pri hap mask v = cond (flagged mask v) (pairPrior ks pri v (allele
 unfoldable pub fragmentShare : CallSlices → List ℕ → List ℕ → List ℕ → ℕ → ℤ
 fragmentShare calls ends hap mask f =
     mixOf (likelihood (flagged mask) (alleleOn hap 0) (callsOf calls ends f)) (likelihood (flagged mask) (alleleOn hap 1) (callsOf calls ends f))
+
+-- the same of the likelihoods that stand in lik, two a fragment
+unfoldable pub standingShare : List ℤ → ℕ → ℤ
+standingShare lik f = mixOf (getD lik (2 * f) (pos 0)) (getD lik (2 * f + 1) (pos 0))
+
+-- the priors of n variants and the mixed likelihoods of f fragments, as these stand
+unfoldable pub standingTotal : ℕ → ℕ → List ℕ → List ℤ → List ℤ → List ℕ → List ℕ → ℤ
+standingTotal n f ks pri lik hap mask = sumTo n (priorShare ks pri hap mask) +ℤ sumTo f (standingShare lik)
 
 -- each of n variants has its k, its flag, its pair and its nine priors, and the pair's prior is one of them, at most 2^21 steps from 0
 pub record PriorsIn (n : ℕ) (ks : List ℕ) (pri : List ℤ) (hap mask : List ℕ) : Type 0 where

@@ -19,10 +19,13 @@ pub struct ReadLikelihoods {
 fn call_term(allele: u32, own: u8, qual: i32, one_minus_qual: i32) -> i64
     ensures { λ r. ⌜ r ≡ cond (eqb allele own) «one_minus_qual» qual ⌝ }
 {
+    let x = one_minus_qual as i64;
+    let y = qual as i64;
     if allele == own as u32 {
-        return one_minus_qual as i64;
+        x
+    } else {
+        y
     }
-    qual as i64
 }
 
 // What the call of row i adds to its read's likelihood on haplotype h: nothing at a variant whose flag is not 1.
@@ -40,10 +43,12 @@ fn call_share(
     ensures { λ r. ⌜ (r ≡ callShare (flagged (now (mask .entry))) (alleleOn (now (hap .entry)) h) (callHeld (callSlices (now (variants .entry)) (now (alleles .entry)) (now (quals .entry)) (now («one_minus_quals» .entry))) i)) × (natAbs r ≤ 262144) ⌝ }
 {
     let v = variants[i] as usize;
+    let y = call_term(alleles[i], hap[2 * v + h], quals[i], one_minus_quals[i]);
     if mask[v] == 1 {
-        return call_term(alleles[i], hap[2 * v + h], quals[i], one_minus_quals[i]);
+        y
+    } else {
+        0
     }
-    0
 }
 
 // A read's likelihoods, from its rows, a to e. At the loop's head the first j of them are added.

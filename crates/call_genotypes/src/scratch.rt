@@ -49,3 +49,22 @@ pub fn nine_each() -> [i64; 9216]
 {
     [0i64; 9216]
 }
+
+// The three before this for at most 128 variants and 512 fragments.
+pub fn few_places() -> [usize; 128]
+    ensures { λ r. ⌜ length r ≡ 128 ⌝ }
+{
+    [0usize; 128]
+}
+
+pub fn few_ends() -> [usize; 512]
+    ensures { λ r. ⌜ length r ≡ 512 ⌝ }
+{
+    [0usize; 512]
+}
+
+pub fn few_nine_each() -> [i64; 1152]
+    ensures { λ r. ⌜ length r ≡ 1152 ⌝ }
+{
+    [0i64; 1152]
+}

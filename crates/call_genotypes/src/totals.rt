@@ -1,12 +1,14 @@
-// Totals of a pair of haplotypes over the flagged variants, recomputed from the rows.
+// Totals of a pair of haplotypes over the flagged variants, recomputed from the rows or from the likelihoods that stand.
 ghost use mathlib.Core.Path.{_≡_};
-ghost use Prim.Native.Nat.{_+_, _^_, _≤_};
+ghost use Prim.Native.Nat.{_+_, _*_, _^_, _≤_};
 ghost use lib.IntN.{natAbs};
+ghost use lib.ListN.{length};
 ghost use Rattle.steps.specs.Table.{knots};
 ghost use Rattle.variants_and_fragments.specs.Pile.{pileStart};
 ghost use Rattle.sweeps.specs.Sweeps.{sumTo, totalOf, mixOf};
 ghost use Rattle.call_genotypes.specs.Likelihoods.{CallsIn, EndsIn, callSlices, flagged};
-ghost use Rattle.call_genotypes.specs.Totals.{PriorsIn, heldCase, priorShare, fragmentShare};
+ghost use Rattle.call_genotypes.specs.Scores.{Within};
+ghost use Rattle.call_genotypes.specs.Totals.{PriorsIn, heldCase, priorShare, fragmentShare, standingShare, standingTotal};
 use crate::likelihoods::read_likelihoods;
 use steps::logs;
 use variants_and_fragments::Sizes;
@@ -107,5 +109,38 @@ pub fn total(
         mask,
         s.f,
     );
+    x + y
+}
+
+// The mixed likelihoods of n fragments, as they stand in lik. At the loop's head those of the first f are added.
+fn mixes_total(t: &[u16; 1665], lik: &[i64], n: usize) -> i64
+    requires { ⌜ (now t ≡ knots) × (n ≤ 4096) × (2 * n ≤ length (now lik)) × Within (2 ^ 32) (now lik) ⌝ }
+    ensures { λ r. ⌜ (r ≡ sumTo n (standingShare (now (lik .entry)))) × (natAbs r ≤ 2 ^ 45) ⌝ }
+{
+    let mut sum: i64 = 0;
+    let mut f = 0;
+    while f < n {
+        sum += mixed(t, lik[2 * f], lik[2 * f + 1]);
+        f += 1;
+    }
+    sum
+}
+
+// The total over the flagged variants, of the likelihoods that stand: their priors plus, per fragment, its mixed likelihoods.
+pub fn standing_total(
+    s: Sizes,
+    t: &[u16; 1665],
+    ks: &[u8],
+    pri: &[i64],
+    lik: &[i64],
+    hap: &[u8],
+    mask: &[u8],
+) -> i64
+    requires { ⌜ (now t ≡ knots) × PriorsIn (s .n) (now ks) (now pri) (now hap) (now mask) ⌝ }
+    requires { ⌜ (s .f ≤ 4096) × (2 * (s .f) ≤ length (now lik)) × Within (2 ^ 32) (now lik) ⌝ }
+    ensures { λ r. ⌜ r ≡ standingTotal (s .n) (s .f) (now (ks .entry)) (now (pri .entry)) (now (lik .entry)) (now (hap .entry)) (now (mask .entry)) ⌝ }
+{
+    let x = priors_total(ks, pri, hap, mask, s.n);
+    let y = mixes_total(t, lik, s.f);
     x + y
 }

@@ -36,9 +36,6 @@ shared-slice-read-v c = search needs
 cast-v : tie.Need-cast-v
 cast-v c = let s = c .before .before .before .before .before in omega (arith, flag-there s)
 
-shared-slice-read-if1 : tie.Need-shared-slice-read-if1
-shared-slice-read-if1 c = flag-there (c .before .before .before .before .before .before)
-
 mul-call-term : tie.Need-mul-call-term
 mul-call-term c = search needs
 
@@ -46,15 +43,14 @@ shared-slice-read-call-term : tie.Need-shared-slice-read-call-term
 shared-slice-read-call-term c = search needs
 
 mul-call-term-2 : tie.Need-mul-call-term-2
-mul-call-term-2 c = let s = c .before .before .before .before .before .before .before .before in omega (arith, pair-there s)
+mul-call-term-2 c = let s = c .before .before .before .before .before .before in omega (arith, pair-there s)
 
 add-call-term : tie.Need-add-call-term
-add-call-term c =
-    let s = c .before .before .before .before .before .before .before .before in omega (arith, pair-there s, s .pre .1)
+add-call-term c = let s = c .before .before .before .before .before .before in omega (arith, pair-there s, s .pre .1)
 
 shared-slice-read-call-term-2 : tie.Need-shared-slice-read-call-term-2
 shared-slice-read-call-term-2 c =
-    let s = c .before .before .before .before .before .before .before .before .before in omega (arith, pair-there s, s .pre .1)
+    let s = c .before .before .before .before .before .before .before in omega (arith, pair-there s, s .pre .1)
 
 mul-call-term-3 : tie.Need-mul-call-term-3
 mul-call-term-3 c = search needs
@@ -72,7 +68,10 @@ call-term-requires : tie.Need-call-term-requires
 call-term-requires c κs = search needs
 
 abbrev start : tie.After-call-term → tie.Start
-start c = c .before .before .before .before .before .before .before .before .before .before .before .before
+start c = c .before .before .before .before .before .before .before .before .before .before
+
+shared-slice-read-if1 : tie.Need-shared-slice-read-if1
+shared-slice-read-if1 c = flag-there (start (c .before))
 
 -- the row's qualities
 abbrev qual : tie.Start → ℤ
@@ -95,15 +94,16 @@ result-is c =
 
 returns : tie.Need-returns
 returns c =
-    let s = start c in (
-      result-is c
-          ∙ share-flagged (callSlices (now (s .args .variants)) (now (s .args .alleles)) (now (s .args .quals)) (now (s .args .one-minus-quals))) (now (s .args .hap)) (now (s .args .mask)) (s .args .i) (s .args .h) (c .before .before .before .before .before .if1 .taken),
-      rw (result-is c) (either-small 262144 (match s) (one-minus-qual s) (qual s) (s .pre .0 .one-minus-qual-small (s .args .i) (omega arith)) (s .pre .0 .qual-small (s .args .i) (omega arith))),
+    let r = c .before .before in
+    let s = start r in (
+      result-is r
+          ∙ share-flagged (callSlices (now (s .args .variants)) (now (s .args .alleles)) (now (s .args .quals)) (now (s .args .one-minus-quals))) (now (s .args .hap)) (now (s .args .mask)) (s .args .i) (s .args .h) (c .if1 .taken),
+      rw (result-is r) (either-small 262144 (match s) (one-minus-qual s) (qual s) (s .pre .0 .one-minus-qual-small (s .args .i) (omega arith)) (s .pre .0 .qual-small (s .args .i) (omega arith))),
     )
 
 returns-2 : tie.Need-returns-2
 returns-2 c =
-    let s = c .before .before .before .before .before .before .before in
+    let s = start (c .before .before) in
     (share-unflagged (callSlices (now (s .args .variants)) (now (s .args .alleles)) (now (s .args .quals)) (now (s .args .one-minus-quals))) (now (s .args .hap)) (now (s .args .mask)) (s .args .i) (s .args .h) (c .if1 .left), omega arith)
 
 pub call-share-spec : {M : Type 1} → statement M
@@ -113,7 +113,6 @@ call-share-spec =
     mul-v
     shared-slice-read-v
     cast-v
-    shared-slice-read-if1
     mul-call-term
     shared-slice-read-call-term
     mul-call-term-2
@@ -124,5 +123,6 @@ call-share-spec =
     mul-call-term-4
     shared-slice-copy-out-call-term-2
     call-term-requires
+    shared-slice-read-if1
     returns
     returns-2)

@@ -12,17 +12,17 @@ use Rattle.call_genotypes.proofs.likelihoods.call_term.Tie as tie
 widened : (z : ℤ) → SFits w32 z → SFits w64 (toZ w32 (ofZ w32 z))
 widened z f = rw (toZ-ofZ f) (sfits-widen tt f)
 
-cast-result : tie.Need-cast-result
-cast-result c = widened _ (c .before .fits .one-minus-qual)
+cast-x : tie.Need-cast-x
+cast-x c = widened _ (c .fits .one-minus-qual)
+
+cast-y : tie.Need-cast-y
+cast-y c = widened _ (c .fits .qual)
 
 returns : tie.Need-returns
 returns c = rw (eq-eqb _ _ (c .if1 .taken)) (read-wide w32 w64 _ tt (c .before .fits .one-minus-qual))
-
-cast-result-2 : tie.Need-cast-result-2
-cast-result-2 c = widened _ (c .before .fits .qual)
 
 returns-2 : tie.Need-returns-2
 returns-2 c = rw (ne-eqb _ _ (c .if1 .left)) (read-wide w32 w64 _ tt (c .before .fits .qual))
 
 pub call-term-spec : {M : Type 1} → statement M
-call-term-spec = tie.close (tie.spec cast-result returns cast-result-2 returns-2)
+call-term-spec = tie.close (tie.spec cast-x cast-y returns returns-2)

@@ -5,11 +5,11 @@ use Prim.Native.Nat.{_+_, _≤_, _^_}
 use native.Mathlib.Omega.{arith}
 use borrow.Author.Needs.{needs}
 use denote.Ref.{now}
-use lib.IntN.{ℤ, natAbs, _+ℤ_}
+use lib.IntN.{ℤ, natAbs}
 use mir.Syntax.{w64}
 use Rattle.steps.proofs.Signed.{add-abs, plus-fits, plus-read}
 use Rattle.call_genotypes.specs.Likelihoods.{callSlices}
-use Rattle.call_genotypes.proofs.TotalParts.{total-parts}
+use Rattle.call_genotypes.proofs.TotalParts.{same-sum, total-parts}
 use Rattle.call_genotypes.proofs.totals.total.Statement.{statement}
 use Rattle.call_genotypes.proofs.totals.total.Tie as tie
 
@@ -28,9 +28,6 @@ y c = c .fragments-total .result
 
 small : (c : tie.After-fragments-total) → natAbs (x c) + natAbs (y c) ≤ 2 ^ 40
 small c = omega (arith, c .before .priors-total .ensures .1, c .fragments-total .ensures .1)
-
-same-sum : {a b m n : ℤ} → a ≡ b → m ≡ n → a +ℤ m ≡ b +ℤ n
-same-sum p q = cc
 
 add-result : tie.Need-add-result
 add-result c = plus-fits w64 (x c) (y c) (omega (arith, small c))
