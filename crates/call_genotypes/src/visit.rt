@@ -2,7 +2,7 @@
 ghost use mathlib.Core.Path.{_≡_};
 ghost use mathlib.Core.Bool.{cond, _&&_};
 ghost use mathlib.Core.List.{List};
-ghost use Prim.Native.Nat.{ℕ, _+_, _*_, _^_, _<_, _≤_};
+ghost use Prim.Native.Nat.{ℕ, _+_, _*_, _/_, _^_, _<_, _≤_};
 ghost use lib.Dec.{eqb};
 ghost use lib.ListN.{length, getD, set};
 ghost use lib.IntN.{ℤ, pos, natAbs, _+ℤ_, _-ℤ_};
@@ -107,6 +107,16 @@ fn same_pair(old0: usize, old1: usize, new0: usize, new1: usize) -> bool
     old0 == new0 && old1 == new1
 }
 
+// The row of pair number b: b / k, without a division.
+fn row_of(b: usize, k: usize) -> usize
+    requires { ⌜ (k ≤ 3) × (b < 3 * k) ⌝ }
+    ensures { λ r. ⌜ r ≡ b / k ⌝ }
+{
+    let one = if b < k { 0 } else { 1 };
+    let two = if b < 2 * k { 0 } else { 1 };
+    one + two
+}
+
 // One visit of v: whether its pair changed.
 pub fn visit(
     t: &[u16; 1665],
@@ -129,8 +139,8 @@ pub fn visit(
     scores(t, ks, ph, pri, ends, who, quals, omqs, hap, lik, post, v);
     let k = ks[v] as usize;
     let b = best_pair(ks, post, v);
-    let new0 = b / k;
-    let new1 = b % k;
+    let new0 = row_of(b, k);
+    let new1 = b - new0 * k;
     let at = 2 * v;
     let old0 = hap[at] as usize;
     let old1 = hap[at + 1] as usize;
