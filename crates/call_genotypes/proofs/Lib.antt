@@ -24,6 +24,7 @@ pub mod NormalizedLaws
 pub mod TallyLaws
 pub mod CountLaws
 pub mod ScoreLaws
+pub mod PairSums
 pub mod PosteriorLaws
 pub mod AnswerLaws
 pub mod CallLaws

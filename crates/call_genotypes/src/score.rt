@@ -11,7 +11,7 @@ ghost use Rattle.variants_and_fragments.specs.Case.{Call};
 ghost use Rattle.genotype_probs.specs.Posteriors.{firstMaximum};
 ghost use Rattle.sweeps.specs.Sweeps.{SweepCase, score, mixOf};
 ghost use Rattle.sweeps.specs.Incremental.{fourValue};
-ghost use Rattle.call_genotypes.specs.Scores.{valueOf, rowAt, rowsAt, rowFour, RowIn, PileIn, Within, AlleleSums, addFour, ofAllele, pairSum, scoresOf, ScoresRoom, Some, Standing, rawScores};
+ghost use Rattle.call_genotypes.specs.Scores.{valueOf, rowAt, rowsAt, rowFour, RowIn, PileIn, Within, AlleleSums, addFour, pairSum, scoresOf, ScoresRoom, Some, Standing, rawScores};
 use steps::logs::add_exp;
 use variants_and_fragments::pileup::pile_start;
 
@@ -164,27 +164,42 @@ fn score_calls(
     }
 }
 
-// What the calls of allele x add to the score of (i, j).
-fn of_allele(acc: &[i64; 12], x: usize, i: usize, j: usize) -> i64
-    requires { ⌜ x < 3 ⌝ }
-    ensures { λ r. ⌜ r ≡ ofAllele (now (acc .entry)) x i j ⌝ }
+// What the calls of no haplotype's allele add: value 0 of all three alleles.
+fn none_sum(acc: &[i64; 12]) -> i64
+    requires { ⌜ Within (2 ^ 50) (now acc) ⌝ }
+    ensures { λ r. ⌜ r ≡ (getD (now (acc .entry)) 0 (pos 0) +ℤ getD (now (acc .entry)) 4 (pos 0)) +ℤ getD (now (acc .entry)) 8 (pos 0) ⌝ }
 {
-    let first = if x == i { 1 } else { 0 };
-    let second = if x == j { 2 } else { 0 };
-    acc[4 * x + (first + second)]
+    acc[0] + acc[4] + acc[8]
 }
 
-// What all calls add to the score of (i, j).
+// What the calls of allele x add with value w in place of value 0.
+fn gain(acc: &[i64; 12], x: usize, w: usize) -> i64
+    requires { ⌜ (x < 3) × (w < 4) ⌝ }
+    requires { ⌜ Within (2 ^ 50) (now acc) ⌝ }
+    ensures { λ r. ⌜ r ≡ getD (now (acc .entry)) (4 * x + w) (pos 0) -ℤ getD (now (acc .entry)) (4 * x) (pos 0) ⌝ }
+{
+    acc[4 * x + w] - acc[4 * x]
+}
+
+// What all calls add to the score of (i, j): the sums of neither haplotype, and what the alleles i and j gain over them.
 fn pair_sum(acc: &[i64; 12], i: usize, j: usize) -> i64
+    requires { ⌜ (i < 3) × (j < 3) ⌝ }
     requires { ⌜ Within (2 ^ 50) (now acc) ⌝ }
     ensures { λ r. ⌜ r ≡ pairSum (now (acc .entry)) i j ⌝ }
 {
-    of_allele(acc, 0, i, j) + of_allele(acc, 1, i, j) + of_allele(acc, 2, i, j)
+    let none = none_sum(acc);
+    let y = if i == j {
+        gain(acc, i, 3)
+    } else {
+        gain(acc, i, 1) + gain(acc, j, 2)
+    };
+    none + y
 }
 
 // The score of (i, j), whose prior stands at `at`.
 fn pair_score(pri: &[i64], acc: &[i64; 12], at: usize, i: usize, j: usize) -> i64
     requires { ⌜ (at < length (now pri)) × (natAbs (getD (now pri) at (pos 0)) ≤ 2 ^ 21) ⌝ }
+    requires { ⌜ (i < 3) × (j < 3) ⌝ }
     requires { ⌜ Within (2 ^ 50) (now acc) ⌝ }
     ensures { λ r. ⌜ r ≡ getD (now (pri .entry)) at (pos 0) +ℤ pairSum (now (acc .entry)) i j ⌝ }
 {
@@ -212,17 +227,22 @@ fn write_scores(pri: &[i64], post: &mut [i64], acc: &[i64; 12], v: usize, k: usi
     }
 }
 
-// The first of the greatest among the m numbers at `at`. At the loop's head b is the first of the greatest among the first g.
+// The first of the greatest among the m numbers at `at`. At the loop's head b is the first of the greatest among the first g, and
+// `best` is its number.
 pub fn first_max(s: &[i64], at: usize, m: usize) -> usize
     requires { ⌜ at + m ≤ length (now s) ⌝ }
     ensures { λ r. ⌜ r ≡ firstMaximum (λ g. getD (now (s .entry)) (at + g) (pos 0)) m ⌝ }
 {
+    if m == 0 {
+        return 0;
+    }
     let mut b: usize = 0;
-    let mut g: usize = 0;
+    let mut best: i64 = s[at];
+    let mut g: usize = 1;
     while g < m {
-        if s[at + b] < s[at + g] {
-            b = g;
-        }
+        let x = s[at + g];
+        b = if best < x { g } else { b };
+        best = if best < x { x } else { best };
         g += 1;
     }
     b
