@@ -1,5 +1,6 @@
 pub mod Tables
 pub mod Sizes
+pub mod OnePlus
 pub mod Fours
 pub mod Written
 pub mod Linked
