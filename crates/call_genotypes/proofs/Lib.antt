@@ -1,6 +1,7 @@
 pub mod Tables
 pub mod Sizes
 pub mod OnePlus
+pub mod FourValues
 pub mod Fours
 pub mod Written
 pub mod Linked

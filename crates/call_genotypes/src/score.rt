@@ -6,13 +6,14 @@ ghost use Prim.Native.Nat.{ℕ, _+_, _*_, _/_, _%_, _^_, _<_, _≤_};
 ghost use lib.ListN.{length, getD, set, replicate};
 ghost use lib.Seq.{sets};
 ghost use lib.IntN.{pos, natAbs, _+ℤ_, _-ℤ_};
-ghost use Rattle.steps.specs.Table.{knots};
+ghost use Rattle.steps.specs.Logs.{addExp};
 ghost use Rattle.variants_and_fragments.specs.Case.{Call};
 ghost use Rattle.genotype_probs.specs.Posteriors.{firstMaximum};
 ghost use Rattle.sweeps.specs.Sweeps.{SweepCase, score, mixOf};
 ghost use Rattle.sweeps.specs.Incremental.{fourValue};
+ghost use Rattle.call_genotypes.specs.Lines.{lines};
 ghost use Rattle.call_genotypes.specs.Scores.{valueOf, rowAt, rowsAt, rowFour, RowIn, PileIn, Within, AlleleSums, addFour, pairSum, scoresOf, ScoresRoom, Some, Standing, rawScores};
-use steps::logs::add_exp;
+use crate::one_plus::ln_one_plus_exp;
 use variants_and_fragments::pileup::pile_start;
 
 // A call's four values: neither haplotype has its allele, the first has, the second has, both have.
@@ -31,20 +32,29 @@ fn halved(b: i64, q: i64) -> i64
     b + q - 4096
 }
 
-// The four values of a call with qualities q and o, from its read's likelihoods without it.
-fn four_of(t: &[u16; 1665], b0: i64, b1: i64, q: i64, o: i64) -> Four
-    requires { ⌜ (now t ≡ knots) × (natAbs b0 ≤ 2 ^ 33) × (natAbs b1 ≤ 2 ^ 33) × (natAbs q ≤ 2 ^ 18) × (natAbs o ≤ 2 ^ 18) ⌝ }
+// ln_add_exp of base + d and base.
+fn mix_from(t: &[u32; 6420], base: i64, d: i64) -> i64
+    requires { ⌜ (now t ≡ lines) × (natAbs base ≤ 2 ^ 35) × (natAbs d ≤ 2 ^ 36) ⌝ }
+    ensures { λ r. ⌜ r ≡ addExp (base +ℤ d) base ⌝ }
+{
+    base + ln_one_plus_exp(t, d)
+}
+
+// The four values of a call with qualities q and o, from its read's likelihoods without it: d is how far those are apart, and g what
+// the call gains where an allele is its own.
+fn four_of(t: &[u32; 6420], b0: i64, b1: i64, q: i64, o: i64) -> Four
+    requires { ⌜ (now t ≡ lines) × (natAbs b0 ≤ 2 ^ 33) × (natAbs b1 ≤ 2 ^ 33) × (natAbs q ≤ 2 ^ 18) × (natAbs o ≤ 2 ^ 18) ⌝ }
     ensures { λ r. ⌜ ((c : Call) (w : ℕ) → c .qual ≡ q → c .one-minus-qual ≡ o → valueOf r w ≡ fourValue mixOf b0 b1 c w) ⌝ }
 {
-    let miss0 = halved(b0, q);
-    let miss1 = halved(b1, q);
-    let hit0 = halved(b0, o);
-    let hit1 = halved(b1, o);
+    let g = o - q;
+    let d = b0 - b1;
+    let base = halved(b1, q);
+    let none = mix_from(t, base, d);
     Four {
-        none: add_exp(t, miss0, miss1),
-        first: add_exp(t, hit0, miss1),
-        second: add_exp(t, miss0, hit1),
-        both: add_exp(t, hit0, hit1),
+        none,
+        first: mix_from(t, base, d + g),
+        second: mix_from(t, base + g, d - g),
+        both: none + g,
     }
 }
 
@@ -90,7 +100,7 @@ fn without(lik: &[i64], i: usize, y: i64) -> i64
 
 // The four values of the call at p, v being at (g0, g1).
 fn call_four(
-    t: &[u16; 1665],
+    t: &[u32; 6420],
     who: &[u32],
     quals: &[i32],
     omqs: &[i32],
@@ -100,7 +110,7 @@ fn call_four(
     g0: usize,
     g1: usize,
 ) -> Four
-    requires { ⌜ now t ≡ knots ⌝ }
+    requires { ⌜ now t ≡ lines ⌝ }
     requires { ⌜ RowIn (length (now lik)) (now who) (now quals) (now omqs) p ⌝ }
     requires { ⌜ Within (2 ^ 32) (now lik) ⌝ }
     ensures { λ r. ⌜ ((v w : ℕ) → valueOf r w ≡ rowFour phased g0 g1 (now (lik .entry)) (rowAt v (now (who .entry)) (now (quals .entry)) (now (omqs .entry)) p) w) ⌝ }
@@ -137,7 +147,7 @@ fn add_four(r: Four, acc: &mut [i64; 12], x: usize)
 
 // Sums the four values of the calls a..e per allele, v being at (g0, g1). At the loop's head the calls before p are in the sums.
 fn score_calls(
-    t: &[u16; 1665],
+    t: &[u32; 6420],
     who: &[u32],
     quals: &[i32],
     omqs: &[i32],
@@ -149,7 +159,7 @@ fn score_calls(
     g0: usize,
     g1: usize,
 )
-    requires { ⌜ now t ≡ knots ⌝ }
+    requires { ⌜ now t ≡ lines ⌝ }
     requires { ⌜ PileIn (length (now lik)) (now who) (now quals) (now omqs) a e ⌝ }
     requires { ⌜ Within (2 ^ 32) (now lik) ⌝ }
     requires { ⌜ now acc ≡ replicate 12 (pos 0) ⌝ }
@@ -250,7 +260,7 @@ pub fn first_max(s: &[i64], at: usize, m: usize) -> usize
 
 // Writes the scores of v's pairs, not normalised, at 9 * v.
 pub fn scores(
-    t: &[u16; 1665],
+    t: &[u32; 6420],
     ks: &[u8],
     ph: &[u8],
     pri: &[i64],
@@ -263,7 +273,7 @@ pub fn scores(
     post: &mut [i64],
     v: usize,
 )
-    requires { ⌜ now t ≡ knots ⌝ }
+    requires { ⌜ now t ≡ lines ⌝ }
     requires { ⌜ Some (λ C. Standing C (now ks) (now ph) (now pri) (now ends) (now who) (now quals) (now omqs) (now hap) (now lik) (now post) v) ⌝ }
     ensures { λ _. ⌜ ((C : SweepCase) → Standing C (now (ks .entry)) (now (ph .entry)) (now (pri .entry)) (now (ends .entry)) (now (who .entry)) (now (quals .entry)) (now (omqs .entry)) (now (hap .entry)) (now (lik .entry)) (now (post .entry)) v → now (post .exit) ≡ sets (now (post .entry)) (9 * v) (rawScores (C .k v) (score C v (now (hap .entry))))) ⌝ }
 {

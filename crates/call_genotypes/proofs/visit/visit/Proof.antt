@@ -14,24 +14,24 @@ abbrev st : tie.After-best-pair → tie.Start
 st c = c .before .before .before .before .before .before .before .before .before .before .before .before .before
 
 -- the same from where its row is known too
-abbrev st' : tie.After-row-of → tie.Start
-st' c = st (c .before)
+abbrev start : tie.After-row-of → tie.Start
+start c = st (c .before)
 
 abbrev k-of : tie.After-row-of → ℕ
-k-of c = getD (st' c .args .ks .now) (st' c .args .v) 0
+k-of c = getD (start c .args .ks .now) (start c .args .v) 0
 
 first-fits : (c : tie.After-row-of) → c .row-of .result < 9
-first-fits c = let S = st' c .pre .1 .holds in let b = c .before in
+first-fits c = let S = start c .pre .1 .holds in let b = c .before in
     first-low S _ _ (b .before .before .before .before .scores .ensures _ S) (b .best-pair .ensures) _ _ (c .row-of .ensures) refl
 
 product : (c : tie.After-row-of) → (c .row-of .result * k-of c ≤ c .before .best-pair .result) × (c .row-of .result * k-of c < 9)
-product c = let S = st' c .pre .1 .holds in let b = c .before in (
-      product-low S _ _ (b .before .before .before .before .scores .ensures _ S) (b .best-pair .ensures) _ _ (c .row-of .ensures) refl,
-      product-small S _ _ (b .before .before .before .before .scores .ensures _ S) (b .best-pair .ensures) _ _ (c .row-of .ensures) refl,
-    )
+product c = let S = start c .pre .1 .holds in let b = c .before in (
+  product-low S _ _ (b .before .before .before .before .scores .ensures _ S) (b .best-pair .ensures) _ _ (c .row-of .ensures) refl,
+  product-small S _ _ (b .before .before .before .before .scores .ensures _ S) (b .best-pair .ensures) _ _ (c .row-of .ensures) refl,
+)
 
 second-fits : (c : tie.After-row-of) → c .before .best-pair .result - c .row-of .result * k-of c < 9
-second-fits c = let S = st' c .pre .1 .holds in let b = c .before in
+second-fits c = let S = start c .pre .1 .holds in let b = c .before in
     second-low S _ _ (b .before .before .before .before .scores .ensures _ S) (b .best-pair .ensures) _ _ (c .row-of .ensures) refl
 
 scores-requires : tie.Need-scores-requires
@@ -68,7 +68,7 @@ slice-read-old0 : tie.Need-slice-read-old0
 slice-read-old0 c = search needs
 
 cast-old0 : tie.Need-cast-old0
-cast-old0 c = omega (arith, c .slice-known2 .given (2 * st' (c .before) .args .v))
+cast-old0 c = omega (arith, c .slice-known2 .given (2 * start (c .before) .args .v))
 
 add-old1 : tie.Need-add-old1
 add-old1 c = search needs
@@ -77,7 +77,7 @@ slice-read-old1 : tie.Need-slice-read-old1
 slice-read-old1 c = search needs
 
 cast-old1 : tie.Need-cast-old1
-cast-old1 c = omega (arith, c .slice-known3 .given (2 * st' (c .before .before) .args .v + 1))
+cast-old1 c = omega (arith, c .slice-known3 .given (2 * start (c .before .before) .args .v + 1))
 
 same-pair-requires : tie.Need-same-pair-requires
 same-pair-requires c κs = search needs
@@ -100,21 +100,21 @@ cast-hap : tie.Need-cast-hap
 cast-hap c = omega (arith, first-fits (c .before .before .before .before))
 
 slice-write-hap : tie.Need-slice-write-hap
-slice-write-hap c = omega (arith, in-haps (st' (c .before .before .before .before) .pre .1 .holds))
+slice-write-hap c = omega (arith, in-haps (start (c .before .before .before .before) .pre .1 .holds))
 
 cast-hap-2 : tie.Need-cast-hap-2
 cast-hap-2 c = omega (arith, second-fits (c .before .before .before .before))
 
 add-hap : tie.Need-add-hap
-add-hap c = let S = st' (c .before .before .before .before) .pre .1 .holds in omega (arith, S .held .variants-top, S .v-in)
+add-hap c = let S = start (c .before .before .before .before) .pre .1 .holds in omega (arith, S .held .variants-top, S .v-in)
 
 slice-write-hap-2 : tie.Need-slice-write-hap-2
-slice-write-hap-2 c = simp length-set (in-haps (st' (c .before .before .before .before) .pre .1 .holds))
+slice-write-hap-2 c = simp length-set (in-haps (start (c .before .before .before .before) .pre .1 .holds))
 
 move-pair-requires : tie.Need-move-pair-requires
 move-pair-requires c κs =
-    let S = st' (c .before .before .before .before .before) .pre .1 .holds in
-    record { case = st' (c .before .before .before .before .before) .pre .1 .case; holds = record { ks = _; pri = _; held = S .held; v-in = S .v-in; long = S .liks .long; small = lik-within (S .held) _ _ (S .liks) } }
+    let S = start (c .before .before .before .before .before) .pre .1 .holds in
+    record { case = start (c .before .before .before .before .before) .pre .1 .case; holds = record { ks = _; pri = _; held = S .held; v-in = S .v-in; long = S .liks .long; small = lik-within (S .held) _ _ (S .liks) } }
 
 same-length-4 : tie.Need-same-length-4
 same-length-4 c = search needs
