@@ -1,5 +1,7 @@
 pub mod Tables
 pub mod Sizes
+pub mod OnePlus
+pub mod FourValues
 pub mod Fours
 pub mod Written
 pub mod Linked
@@ -24,6 +26,7 @@ pub mod NormalizedLaws
 pub mod TallyLaws
 pub mod CountLaws
 pub mod ScoreLaws
+pub mod PairSums
 pub mod PosteriorLaws
 pub mod AnswerLaws
 pub mod CallLaws

@@ -3,9 +3,9 @@
 use mathlib.Core.Path.{_≡_, refl, sym, ap, _∙_}
 use mathlib.Core.Bool.{Bool, true, false, not, _&&_}
 use mathlib.Core.List.{List}
-use Prim.Native.Nat.{ℕ, _+_, _*_, _/_, _%_, _<_, _≤_}
+use Prim.Native.Nat.{ℕ, _+_, _-_, _*_, _/_, _%_, _<_, _≤_}
 use native.Mathlib.Omega.{arith}
-use native.Mathlib.Nat.{mod-lt, div-le-self}
+use native.Mathlib.Nat.{div-le-self, div-mul-le-self, mod-eq-sub-div-mul, mul-le-mul-right}
 use lib.Dec.{T, eqb, eqb→eq, eqb-refl}
 use lib.ListN.{length, getD, set}
 use lib.Seq.{sets}
@@ -42,9 +42,6 @@ module _ {C : SweepCase} {ks ph : List ℕ} {pri : List ℤ} {ends who : List �
   k-is : getD ks v 0 ≡ C .k v
   k-is = S .held .ks-are v (S .v-in)
 
-  pub k-some : 1 ≤ getD ks v 0
-  k-some = rw k-is (S .held .good .some-allele v (S .v-in))
-
   pub k-three : getD ks v 0 ≤ 3
   k-three = rw k-is (S .held .good .three-alleles v (S .v-in))
 
@@ -72,29 +69,43 @@ module _ {C : SweepCase} {ks ph : List ℕ} {pri : List ℤ} {ends who : List �
     best-low : b < 9
     best-low = rw best-is (omega (arith, best-first C (S .held .good) v (S .v-in) h (S .haps) .inside, nine (C .k v) (S .held .good .three-alleles v (S .v-in))))
 
-    pub first-low : b / getD ks v 0 < 9
-    first-low = omega (arith, best-low, div-le-self b (getD ks v 0))
+    -- the row of the best pair, and its place in it
+    pub row-in : b < 3 * getD ks v 0
+    row-in = let e = mul-le-mul-right (C .k v) (S .held .good .three-alleles v (S .v-in)) in rw (k-is, best-is) (omega (arith, best-first C (S .held .good) v (S .v-in) h (S .haps) .inside))
 
-    pub second-low : b % getD ks v 0 < 9
-    second-low = omega (arith, mod-lt b k-some, k-three)
+    module _ (r m : ℕ) (er : r ≡ b / getD ks v 0) (em : m ≡ b - r * getD ks v 0) where
+      pub product-low : r * getD ks v 0 ≤ b
+      product-low = rw er (div-mul-le-self b (getD ks v 0))
 
-    visit-is : visit C v h ≡ putPair h v (b / getD ks v 0) (b % getD ks v 0)
-    unfolding visit
-    visit-is = rw (k-is, best-is)
+      pub product-small : r * getD ks v 0 < 9
+      product-small = omega (arith, product-low, best-low)
 
-    same-is : (t : Bool) → t ≡ (eqb (allele0 h v) (b / getD ks v 0) && eqb (allele1 h v) (b % getD ks v 0)) → t ≡ sameHaps h (visit C v h)
-    same-is t e = e ∙ sym (same-put h v (b / getD ks v 0) (b % getD ks v 0) in-haps) ∙ ap (sameHaps h) (sym visit-is)
+      place-is : m ≡ b % getD ks v 0
+      place-is = em ∙ rw er (sym (mod-eq-sub-div-mul b (getD ks v 0)))
 
-    pub visited-same : (t : Bool) → t ≡ (eqb (allele0 h v) (b / getD ks v 0) && eqb (allele1 h v) (b % getD ks v 0)) → t ≡ true → Visited C v h h lik post post' false
-    visited-same t e y =
-        let u : T (sameHaps h (visit C v h)) = rw (← same-is t e, y) tt in
-        let s : h ≡ visit C v h = same-eq h (visit C v h) u in
-        record { haps = s; liks = S .liks; scores = ep; told = ap not (sym (is-true (sameHaps h h) (same-refl h))) }
+      pub first-low : r < 9
+      first-low = rw er (omega (arith, best-low, div-le-self b (getD ks v 0)))
 
-    pub visited-moved : (t : Bool) (h' : List ℕ) (lik' : List ℤ) → t ≡ (eqb (allele0 h v) (b / getD ks v 0) && eqb (allele1 h v) (b % getD ks v 0)) → t ≡ false
-        → h' ≡ set (set h (2 * v) (b / getD ks v 0)) (2 * v + 1) (b % getD ks v 0) → Liks C (putPair h v (b / getD ks v 0) (b % getD ks v 0)) lik' → Visited C v h h' lik' post post' true
-    unfolding putPair
-    visited-moved t h' lik' e n q L =
-        let p : h' ≡ visit C v h = q ∙ sym visit-is in
-        let f : sameHaps h h' ≡ false = ap (sameHaps h) p ∙ sym (same-is t e) ∙ n in
-        record { haps = p; liks = rw q L; scores = ep; told = rw f }
+      pub second-low : m < 9
+      second-low = omega (arith, em, best-low)
+
+      visit-is : visit C v h ≡ putPair h v r m
+      unfolding visit
+      visit-is = rw (er, place-is, k-is, best-is)
+
+      same-is : (t : Bool) → t ≡ (eqb (allele0 h v) r && eqb (allele1 h v) m) → t ≡ sameHaps h (visit C v h)
+      same-is t e = e ∙ sym (same-put h v r m in-haps) ∙ ap (sameHaps h) (sym visit-is)
+
+      pub visited-same : (t : Bool) → t ≡ (eqb (allele0 h v) r && eqb (allele1 h v) m) → t ≡ true → Visited C v h h lik post post' false
+      visited-same t e y =
+          let u : T (sameHaps h (visit C v h)) = rw (← same-is t e, y) tt in
+          let s : h ≡ visit C v h = same-eq h (visit C v h) u in
+          record { haps = s; liks = S .liks; scores = ep; told = ap not (sym (is-true (sameHaps h h) (same-refl h))) }
+
+      pub visited-moved : (t : Bool) (h' : List ℕ) (lik' : List ℤ) → t ≡ (eqb (allele0 h v) r && eqb (allele1 h v) m) → t ≡ false
+          → h' ≡ set (set h (2 * v) r) (2 * v + 1) m → Liks C (putPair h v r m) lik' → Visited C v h h' lik' post post' true
+      unfolding putPair
+      visited-moved t h' lik' e n q L =
+          let p : h' ≡ visit C v h = q ∙ sym visit-is in
+          let f : sameHaps h h' ≡ false = ap (sameHaps h) p ∙ sym (same-is t e) ∙ n in
+          record { haps = p; liks = rw q L; scores = ep; told = rw f }

@@ -1,23 +1,20 @@
 -- Scores written pair by pair, and the first of the greatest of them: what the loops hold at their heads. Assumes nothing.
-use mathlib.Core.Path.{_≡_, refl}
-use mathlib.Core.Bool.{Bool, cond}
+use mathlib.Core.Path.{_≡_, refl, sym, ap, _∙_}
+use mathlib.Core.Bool.{cond}
 use mathlib.Core.List.{List}
-use Prim.Native.Nat.{ℕ, zero, suc, _+_, _-_, _*_, _/_, _%_, _^_, _<_, _≤_}
+use Prim.Native.Nat.{ℕ, zero, suc, _+_, _-_, _*_, _/_, _%_, _<_, _≤_}
 use native.Mathlib.Omega.{arith}
-use native.Mathlib.Nat.{add-mul}
-use native.Mathlib.Numerals.{add-one}
+use native.Mathlib.Nat.{add-mul, mul-le-mul-right}
 use lib.Arith.{digits-div, digits-mod}
 use lib.ListN.{length, set, length-set}
 use lib.Seq.{sets}
 use lib.IntN.{ℤ}
-use lib.Signed.{mag, ltZ}
-use mir.Syntax.{w64}
-use mir.Val.{toZ, ofZ}
-use mir.ValLaws.{toZ-ofZ}
+use lib.Signed.{ltZ}
+use Rattle.steps.proofs.Signed.{by-test, cases}
 use Rattle.variants_and_fragments.specs.Decode.{tabulateFrom, tabulate}
 use Rattle.variants_and_fragments.proofs.Tabulated.{table-start, table-more, table-end}
 use Rattle.genotype_probs.specs.Posteriors.{firstMaximum}
-use Rattle.sweeps.proofs.Basics.{cond-ind}
+use Rattle.genotype_probs.proofs.Maxima.{maximum-more, maximum-kept}
 
 pub nine : (k : ℕ) → k ≤ 3 → k * k ≤ 9
 nine zero h = omega arith
@@ -78,10 +75,22 @@ pair-div k p i j e h = rw e (digits-div i h)
 pub pair-mod : (k p i j : ℕ) → p ≡ i * k + j → j < k → p % k ≡ j
 pair-mod k p i j e h = rw e (digits-mod i h)
 
+-- a pair's row is one of the k
+pub row-low : (k p i j : ℕ) → p ≡ i * k + j → p < k * k → i < k
+row-low k p i j e h = cases i k (λ l. l) (λ l. let m = mul-le-mul-right k l in absurd (omega arith))
+
+-- b is the first of the greatest among the first g numbers, and z is number b
+pub record Best (f : ℕ → ℤ) (b : ℕ) (z : ℤ) (g : ℕ) : Type 0 where
+  pub is : b ≡ firstMaximum f g
+  pub best : z ≡ f b
+
 -- one more number looked at
-pub max-step : (f : ℕ → ℤ) (b b' g : ℕ) (t : Bool) → mag (f b) < 2 ^ 63 → mag (f g) < 2 ^ 63 → b ≡ firstMaximum f g
-    → ltZ (toZ w64 (ofZ w64 (f b))) (toZ w64 (ofZ w64 (f g))) ≡ t → b' ≡ cond t g b → b' ≡ firstMaximum f (g + 1)
-unfolding firstMaximum
-max-step f b b' g t x y e q r =
-    let q' = rw (toZ-ofZ w64 (f b) (record { sfits = x }), toZ-ofZ w64 (f g) (record { sfits = y })) at q in
-    rw add-one (cc (q', e, r))
+pub best-step : (f : ℕ → ℤ) (b b' g : ℕ) (z z' : ℤ) → Best f b z g → b' ≡ cond (ltZ z (f g)) g b → z' ≡ cond (ltZ z (f g)) (f g) z → Best f b' z' (g + 1)
+best-step f b b' g z z' s p q =
+    by-test (ltZ z (f g))
+    (λ t.
+    let e : b' ≡ g = rw t at p in
+    record { is = e ∙ maximum-more f b g (s .is) (rw (s .best) at t); best = (rw t at q) ∙ ap f (sym e) })
+    (λ t.
+    let e : b' ≡ b = rw t at p in
+    record { is = e ∙ maximum-kept f b g (s .is) (rw (s .best) at t); best = (rw t at q) ∙ s .best ∙ ap f (sym e) })

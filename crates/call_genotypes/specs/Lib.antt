@@ -10,3 +10,4 @@ pub mod Finals
 pub mod Normalized
 pub mod NoHaplotypes
 pub mod Tally
+pub mod Lines

@@ -6,13 +6,14 @@ ghost use Prim.Native.Nat.{ℕ, _+_, _*_, _/_, _%_, _^_, _<_, _≤_};
 ghost use lib.ListN.{length, getD, set, replicate};
 ghost use lib.Seq.{sets};
 ghost use lib.IntN.{pos, natAbs, _+ℤ_, _-ℤ_};
-ghost use Rattle.steps.specs.Table.{knots};
+ghost use Rattle.steps.specs.Logs.{addExp};
 ghost use Rattle.variants_and_fragments.specs.Case.{Call};
 ghost use Rattle.genotype_probs.specs.Posteriors.{firstMaximum};
 ghost use Rattle.sweeps.specs.Sweeps.{SweepCase, score, mixOf};
 ghost use Rattle.sweeps.specs.Incremental.{fourValue};
-ghost use Rattle.call_genotypes.specs.Scores.{valueOf, rowAt, rowsAt, rowFour, RowIn, PileIn, Within, AlleleSums, addFour, ofAllele, pairSum, scoresOf, ScoresRoom, Some, Standing, rawScores};
-use steps::logs::add_exp;
+ghost use Rattle.call_genotypes.specs.Lines.{lines};
+ghost use Rattle.call_genotypes.specs.Scores.{valueOf, rowAt, rowsAt, rowFour, RowIn, PileIn, Within, AlleleSums, addFour, pairSum, scoresOf, ScoresRoom, Some, Standing, rawScores};
+use crate::one_plus::ln_one_plus_exp;
 use variants_and_fragments::pileup::pile_start;
 
 // A call's four values: neither haplotype has its allele, the first has, the second has, both have.
@@ -31,20 +32,29 @@ fn halved(b: i64, q: i64) -> i64
     b + q - 4096
 }
 
-// The four values of a call with qualities q and o, from its read's likelihoods without it.
-fn four_of(t: &[u16; 1665], b0: i64, b1: i64, q: i64, o: i64) -> Four
-    requires { ⌜ (now t ≡ knots) × (natAbs b0 ≤ 2 ^ 33) × (natAbs b1 ≤ 2 ^ 33) × (natAbs q ≤ 2 ^ 18) × (natAbs o ≤ 2 ^ 18) ⌝ }
+// ln_add_exp of base + d and base.
+fn mix_from(t: &[u32; 6420], base: i64, d: i64) -> i64
+    requires { ⌜ (now t ≡ lines) × (natAbs base ≤ 2 ^ 35) × (natAbs d ≤ 2 ^ 36) ⌝ }
+    ensures { λ r. ⌜ r ≡ addExp (base +ℤ d) base ⌝ }
+{
+    base + ln_one_plus_exp(t, d)
+}
+
+// The four values of a call with qualities q and o, from its read's likelihoods without it: d is how far those are apart, and g what
+// the call gains where an allele is its own.
+fn four_of(t: &[u32; 6420], b0: i64, b1: i64, q: i64, o: i64) -> Four
+    requires { ⌜ (now t ≡ lines) × (natAbs b0 ≤ 2 ^ 33) × (natAbs b1 ≤ 2 ^ 33) × (natAbs q ≤ 2 ^ 18) × (natAbs o ≤ 2 ^ 18) ⌝ }
     ensures { λ r. ⌜ ((c : Call) (w : ℕ) → c .qual ≡ q → c .one-minus-qual ≡ o → valueOf r w ≡ fourValue mixOf b0 b1 c w) ⌝ }
 {
-    let miss0 = halved(b0, q);
-    let miss1 = halved(b1, q);
-    let hit0 = halved(b0, o);
-    let hit1 = halved(b1, o);
+    let g = o - q;
+    let d = b0 - b1;
+    let base = halved(b1, q);
+    let none = mix_from(t, base, d);
     Four {
-        none: add_exp(t, miss0, miss1),
-        first: add_exp(t, hit0, miss1),
-        second: add_exp(t, miss0, hit1),
-        both: add_exp(t, hit0, hit1),
+        none,
+        first: mix_from(t, base, d + g),
+        second: mix_from(t, base + g, d - g),
+        both: none + g,
     }
 }
 
@@ -90,7 +100,7 @@ fn without(lik: &[i64], i: usize, y: i64) -> i64
 
 // The four values of the call at p, v being at (g0, g1).
 fn call_four(
-    t: &[u16; 1665],
+    t: &[u32; 6420],
     who: &[u32],
     quals: &[i32],
     omqs: &[i32],
@@ -100,7 +110,7 @@ fn call_four(
     g0: usize,
     g1: usize,
 ) -> Four
-    requires { ⌜ now t ≡ knots ⌝ }
+    requires { ⌜ now t ≡ lines ⌝ }
     requires { ⌜ RowIn (length (now lik)) (now who) (now quals) (now omqs) p ⌝ }
     requires { ⌜ Within (2 ^ 32) (now lik) ⌝ }
     ensures { λ r. ⌜ ((v w : ℕ) → valueOf r w ≡ rowFour phased g0 g1 (now (lik .entry)) (rowAt v (now (who .entry)) (now (quals .entry)) (now (omqs .entry)) p) w) ⌝ }
@@ -137,7 +147,7 @@ fn add_four(r: Four, acc: &mut [i64; 12], x: usize)
 
 // Sums the four values of the calls a..e per allele, v being at (g0, g1). At the loop's head the calls before p are in the sums.
 fn score_calls(
-    t: &[u16; 1665],
+    t: &[u32; 6420],
     who: &[u32],
     quals: &[i32],
     omqs: &[i32],
@@ -149,7 +159,7 @@ fn score_calls(
     g0: usize,
     g1: usize,
 )
-    requires { ⌜ now t ≡ knots ⌝ }
+    requires { ⌜ now t ≡ lines ⌝ }
     requires { ⌜ PileIn (length (now lik)) (now who) (now quals) (now omqs) a e ⌝ }
     requires { ⌜ Within (2 ^ 32) (now lik) ⌝ }
     requires { ⌜ now acc ≡ replicate 12 (pos 0) ⌝ }
@@ -164,27 +174,42 @@ fn score_calls(
     }
 }
 
-// What the calls of allele x add to the score of (i, j).
-fn of_allele(acc: &[i64; 12], x: usize, i: usize, j: usize) -> i64
-    requires { ⌜ x < 3 ⌝ }
-    ensures { λ r. ⌜ r ≡ ofAllele (now (acc .entry)) x i j ⌝ }
+// What the calls of no haplotype's allele add: value 0 of all three alleles.
+fn none_sum(acc: &[i64; 12]) -> i64
+    requires { ⌜ Within (2 ^ 50) (now acc) ⌝ }
+    ensures { λ r. ⌜ r ≡ (getD (now (acc .entry)) 0 (pos 0) +ℤ getD (now (acc .entry)) 4 (pos 0)) +ℤ getD (now (acc .entry)) 8 (pos 0) ⌝ }
 {
-    let first = if x == i { 1 } else { 0 };
-    let second = if x == j { 2 } else { 0 };
-    acc[4 * x + (first + second)]
+    acc[0] + acc[4] + acc[8]
 }
 
-// What all calls add to the score of (i, j).
+// What the calls of allele x add with value w in place of value 0.
+fn gain(acc: &[i64; 12], x: usize, w: usize) -> i64
+    requires { ⌜ (x < 3) × (w < 4) ⌝ }
+    requires { ⌜ Within (2 ^ 50) (now acc) ⌝ }
+    ensures { λ r. ⌜ r ≡ getD (now (acc .entry)) (4 * x + w) (pos 0) -ℤ getD (now (acc .entry)) (4 * x) (pos 0) ⌝ }
+{
+    acc[4 * x + w] - acc[4 * x]
+}
+
+// What all calls add to the score of (i, j): the sums of neither haplotype, and what the alleles i and j gain over them.
 fn pair_sum(acc: &[i64; 12], i: usize, j: usize) -> i64
+    requires { ⌜ (i < 3) × (j < 3) ⌝ }
     requires { ⌜ Within (2 ^ 50) (now acc) ⌝ }
     ensures { λ r. ⌜ r ≡ pairSum (now (acc .entry)) i j ⌝ }
 {
-    of_allele(acc, 0, i, j) + of_allele(acc, 1, i, j) + of_allele(acc, 2, i, j)
+    let none = none_sum(acc);
+    let y = if i == j {
+        gain(acc, i, 3)
+    } else {
+        gain(acc, i, 1) + gain(acc, j, 2)
+    };
+    none + y
 }
 
 // The score of (i, j), whose prior stands at `at`.
 fn pair_score(pri: &[i64], acc: &[i64; 12], at: usize, i: usize, j: usize) -> i64
     requires { ⌜ (at < length (now pri)) × (natAbs (getD (now pri) at (pos 0)) ≤ 2 ^ 21) ⌝ }
+    requires { ⌜ (i < 3) × (j < 3) ⌝ }
     requires { ⌜ Within (2 ^ 50) (now acc) ⌝ }
     ensures { λ r. ⌜ r ≡ getD (now (pri .entry)) at (pos 0) +ℤ pairSum (now (acc .entry)) i j ⌝ }
 {
@@ -212,17 +237,22 @@ fn write_scores(pri: &[i64], post: &mut [i64], acc: &[i64; 12], v: usize, k: usi
     }
 }
 
-// The first of the greatest among the m numbers at `at`. At the loop's head b is the first of the greatest among the first g.
+// The first of the greatest among the m numbers at `at`. At the loop's head b is the first of the greatest among the first g, and
+// `best` is its number.
 pub fn first_max(s: &[i64], at: usize, m: usize) -> usize
     requires { ⌜ at + m ≤ length (now s) ⌝ }
     ensures { λ r. ⌜ r ≡ firstMaximum (λ g. getD (now (s .entry)) (at + g) (pos 0)) m ⌝ }
 {
+    if m == 0 {
+        return 0;
+    }
     let mut b: usize = 0;
-    let mut g: usize = 0;
+    let mut best: i64 = s[at];
+    let mut g: usize = 1;
     while g < m {
-        if s[at + b] < s[at + g] {
-            b = g;
-        }
+        let x = s[at + g];
+        b = if best < x { g } else { b };
+        best = if best < x { x } else { best };
         g += 1;
     }
     b
@@ -230,7 +260,7 @@ pub fn first_max(s: &[i64], at: usize, m: usize) -> usize
 
 // Writes the scores of v's pairs, not normalised, at 9 * v.
 pub fn scores(
-    t: &[u16; 1665],
+    t: &[u32; 6420],
     ks: &[u8],
     ph: &[u8],
     pri: &[i64],
@@ -243,7 +273,7 @@ pub fn scores(
     post: &mut [i64],
     v: usize,
 )
-    requires { ⌜ now t ≡ knots ⌝ }
+    requires { ⌜ now t ≡ lines ⌝ }
     requires { ⌜ Some (λ C. Standing C (now ks) (now ph) (now pri) (now ends) (now who) (now quals) (now omqs) (now hap) (now lik) (now post) v) ⌝ }
     ensures { λ _. ⌜ ((C : SweepCase) → Standing C (now (ks .entry)) (now (ph .entry)) (now (pri .entry)) (now (ends .entry)) (now (who .entry)) (now (quals .entry)) (now (omqs .entry)) (now (hap .entry)) (now (lik .entry)) (now (post .entry)) v → now (post .exit) ≡ sets (now (post .entry)) (9 * v) (rawScores (C .k v) (score C v (now (hap .entry))))) ⌝ }
 {

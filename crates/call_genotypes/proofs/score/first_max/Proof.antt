@@ -1,43 +1,74 @@
--- `call_genotypes::score::first_max` meets its contract. The loop's invariant: b is the first of the greatest among the first g. Assumes nothing.
-use mathlib.Core.Path.{_≡_, refl}
-use mathlib.Core.Bool.{true, false}
+-- `call_genotypes::score::first_max` meets its contract. The loop's invariant: b is the first of the greatest among the first g, and best
+-- its number. Assumes nothing.
+use mathlib.Core.Path.{_≡_, ap}
+use mathlib.Core.Bool.{cond}
 use mathlib.Core.Logic.{⊎-elim}
 use Prim.Native.Nat.{ℕ, _≤_, _-_, _+_}
+use native.Mathlib.Nat.{add-zero}
 use native.Mathlib.Omega.{arith}
 use lib.ListN.{getD}
 use lib.IntN.{ℤ, pos}
+use lib.Signed.{ltZ}
+use mir.Syntax.{w64}
+use mir.Val.{toZ, ofZ}
+use Rattle.steps.proofs.Signed.{read-back}
 use Rattle.genotype_probs.specs.Posteriors.{firstMaximum}
-use Rattle.call_genotypes.proofs.Written.{max-step}
+use Rattle.genotype_probs.proofs.Maxima.{maximum-one}
+use Rattle.call_genotypes.proofs.Written.{Best, best-step}
 use Rattle.call_genotypes.proofs.score.first_max.Statement.{statement}
 use Rattle.call_genotypes.proofs.score.first_max.Tie as tie
 
 abbrev Inv-loop : tie.InvT-loop
-Inv-loop s at m b₀ g₀ b g = (g ≤ m) × (b ≤ g) × (b ≡ firstMaximum (λ x. getD s (at + x) (pos 0)) g)
+Inv-loop s at m b₀ best₀ g₀ b best g = (1 ≤ g) × (g ≤ m) × Best (λ x. getD s (at + x) (pos 0)) b (toZ w64 best) g
 
 abbrev μ-loop : tie.MeasureT-loop
-μ-loop s at m b₀ g₀ b g = m - g
+μ-loop s at m b₀ best₀ g₀ b best g = m - g
+
+abbrev st : tie.After-x Inv-loop μ-loop → tie.Start Inv-loop μ-loop
+st c = c .before .before .before .before .before
+
+-- the number looked at, and whether it is greater
+x-is : (c : tie.After-x Inv-loop μ-loop) → let n = getD (st c .args .s .now) (st c .args .at + c .before .before .loop .g) (pos 0) in toZ w64 (ofZ w64 n) ≡ n
+x-is c = read-back w64 _ (c .x .given)
+
+b-is : (c : tie.Joined2 Inv-loop μ-loop) → let l = c .before .before .before .loop in let s = st (c .before) in
+    c .if2 .b ≡ cond (ltZ (toZ w64 (l .best)) (getD (s .args .s .now) (s .args .at + l .g) (pos 0))) (l .g) (l .b)
+b-is c =
+    ⊎-elim (λ w. rw (← x-is (c .before), w .0 .taken) (w .1)) (λ w. rw (← x-is (c .before), w .0 .left) (w .1)) (c .if2 .came)
+
+best-is : (c : tie.Joined3 Inv-loop μ-loop) → let l = c .before .before .before .before .loop in let s = st (c .before .before) in let n = getD (s .args .s .now) (s .args .at + l .g) (pos 0) in
+    toZ w64 (c .if3 .best) ≡ cond (ltZ (toZ w64 (l .best)) n) n (toZ w64 (l .best))
+best-is c =
+    let e = x-is (c .before .before) in
+    ⊎-elim (λ w. rw (← e, w .0 .taken) (ap (toZ w64) (w .1))) (λ w. rw (← e, w .0 .left) (ap (toZ w64) (w .1))) (c .if3 .came)
+
+returns : tie.Need-returns Inv-loop μ-loop
+unfolding firstMaximum
+returns c = rw (c .if1 .taken)
+
+mul-best : tie.Need-mul-best Inv-loop μ-loop
+mul-best c = omega arith
+
+shared-slice-copy-out-best : tie.Need-shared-slice-copy-out-best Inv-loop μ-loop
+shared-slice-copy-out-best c = omega arith
 
 loop-holds : tie.Need-loop-holds Inv-loop μ-loop
-unfolding firstMaximum
-loop-holds c = (omega arith, omega arith, refl)
+loop-holds c =
+    let s = c .before .before in
+    let f : ℕ → ℤ = λ x. getD (s .args .s .now) (s .args .at + x) (pos 0) in (
+      omega arith,
+      omega (arith, c .before .if1 .left),
+      record { is = maximum-one f; best = rw (add-zero (s .args .at)) (read-back w64 _ (c .best .given)) },
+    )
 
-add-if1 : tie.Need-add-if1 Inv-loop μ-loop
-add-if1 c = omega arith
+add-x : tie.Need-add-x Inv-loop μ-loop
+add-x c = omega arith
 
-mul-if1 : tie.Need-mul-if1 Inv-loop μ-loop
-mul-if1 c = omega arith
+mul-x : tie.Need-mul-x Inv-loop μ-loop
+mul-x c = omega arith
 
-shared-slice-copy-out-if1 : tie.Need-shared-slice-copy-out-if1 Inv-loop μ-loop
-shared-slice-copy-out-if1 c = omega arith
-
-add-if1-2 : tie.Need-add-if1-2 Inv-loop μ-loop
-add-if1-2 c = omega arith
-
-mul-if1-2 : tie.Need-mul-if1-2 Inv-loop μ-loop
-mul-if1-2 c = omega arith
-
-shared-slice-copy-out-if1-2 : tie.Need-shared-slice-copy-out-if1-2 Inv-loop μ-loop
-shared-slice-copy-out-if1-2 c = omega arith
+shared-slice-copy-out-x : tie.Need-shared-slice-copy-out-x Inv-loop μ-loop
+shared-slice-copy-out-x c = omega arith
 
 add-g : tie.Need-add-g Inv-loop μ-loop
 add-g c = omega arith
@@ -48,16 +79,12 @@ loop-less c = omega arith
 loop-again : tie.Need-loop-again Inv-loop μ-loop
 loop-again c = (
   omega arith,
-  ⊎-elim (λ w. omega arith) (λ w. omega arith) (c .if1 .came),
-  let s = c .before .before .before .before .before in
-      let f : ℕ → ℤ = λ x. getD (s .args .s .now) (s .args .at + x) (pos 0) in
-      let l = c .before .before .before .before .loop in
-      ⊎-elim (λ w. max-step f (l .b) (c .if1 .b) (l .g) true (c .before .before .if12 .given) (c .before .if13 .given) (l .inv .2) (w .0 .taken) (w .1))
-      (λ w. max-step f (l .b) (c .if1 .b) (l .g) false (c .before .before .if12 .given) (c .before .if13 .given) (l .inv .2) (w .0 .left) (w .1)) (c .if1 .came),
+  omega arith,
+  best-step _ _ _ _ _ _ (c .before .before .before .before .loop .inv .2) (b-is (c .before)) (best-is c),
 )
 
-returns : tie.Need-returns Inv-loop μ-loop
-returns c = let e : c .before .loop .g ≡ c .before .before .args .m = omega arith in rw (← e) (c .before .loop .inv .2)
+returns-2 : tie.Need-returns-2 Inv-loop μ-loop
+returns-2 c = let e : c .before .loop .g ≡ c .before .before .before .before .args .m = omega arith in rw (← e) (c .before .loop .inv .2 .is)
 
 pub first-max-spec : {M : Type 1} → statement M
 first-max-spec =
@@ -65,14 +92,14 @@ first-max-spec =
     (tie.spec
     Inv-loop
     μ-loop
+    returns
+    mul-best
+    shared-slice-copy-out-best
     loop-holds
-    add-if1
-    mul-if1
-    shared-slice-copy-out-if1
-    add-if1-2
-    mul-if1-2
-    shared-slice-copy-out-if1-2
+    add-x
+    mul-x
+    shared-slice-copy-out-x
     add-g
     loop-less
     loop-again
-    returns)
+    returns-2)

@@ -12,7 +12,7 @@ use Rattle.call_genotypes.proofs.score.pair_score.Statement.{statement}
 use Rattle.call_genotypes.proofs.score.pair_score.Tie as tie
 
 small : (c : tie.After-pair-sum) → natAbs (c .pair-sum .result) ≤ 2 ^ 52
-small c = rw (c .pair-sum .ensures) (pair-size (c .before .before .args .acc .now) (c .before .before .args .i) (c .before .before .args .j) (c .before .before .pre .1))
+small c = rw (c .pair-sum .ensures) (pair-size (c .before .before .args .acc .now) (c .before .before .args .i) (c .before .before .args .j) (c .before .before .pre .1 .1))
 
 mul-result : tie.Need-mul-result
 mul-result c = search needs

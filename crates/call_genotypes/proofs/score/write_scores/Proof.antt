@@ -8,7 +8,7 @@ use mir.Syntax.{w64}
 use mir.Val.{toZ, ofZ}
 use Rattle.steps.proofs.Signed.{read-back}
 use Rattle.call_genotypes.specs.Scores.{pairSum}
-use Rattle.call_genotypes.proofs.Written.{nine, Writing, writing-start, row-on, place-on, writing-end, pair-div, pair-mod}
+use Rattle.call_genotypes.proofs.Written.{nine, Writing, writing-start, row-on, place-on, writing-end, pair-div, pair-mod, row-low}
 use Rattle.call_genotypes.proofs.score.write_scores.Statement.{statement}
 use Rattle.call_genotypes.proofs.score.write_scores.Tie as tie
 
@@ -47,7 +47,12 @@ add-pair-score c = omega (arith, st c .pre .0 .v-top, few c)
 
 pair-score-requires : tie.Need-pair-score-requires Inv-loop μ-loop
 pair-score-requires c κs =
-    ((omega (arith, st c .pre .0 .pri-long, few c), st c .pre .0 .pri-small (c .before .loop .p) (c .loop-test .taken)), st c .pre .1)
+    let s = st c in
+    let l = c .before .loop in
+    let low = row-low (s .args .k) (l .p) (l .i) (l .j) (l .inv .pair) (c .loop-test .taken) in (
+      (omega (arith, s .pre .0 .pri-long, few c), s .pre .0 .pri-small (l .p) (c .loop-test .taken)),
+      ((omega (arith, low, s .pre .0 .k-top), omega (arith, l .inv .low, s .pre .0 .k-top)), s .pre .1),
+    )
 
 mul-t14 : tie.Need-mul-t14 Inv-loop μ-loop
 mul-t14 c = omega (arith, st (c .before) .pre .0 .v-top)
