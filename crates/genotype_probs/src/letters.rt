@@ -14,20 +14,13 @@ pub struct Compared {
     pub letter: usize,
 }
 
-// The letter of a base.
+// The letter of a base. Bases come in any order, so no jump is to be made of the tests.
 pub fn letter_of(byte: u8) -> usize
     ensures { λ r. ⌜ r ≡ letterOf byte ⌝ }
 {
-    if byte == 65 {
-        return 0;
-    }
-    if byte == 67 {
-        return 1;
-    }
-    if byte == 71 {
-        return 2;
-    }
-    3
+    let g = if byte == 71 { 2 } else { 3 };
+    let c = if byte == 67 { 1 } else { g };
+    if byte == 65 { 0 } else { c }
 }
 
 // The letter that an allele has before any comparison.
