@@ -1,6 +1,6 @@
 -- The tests of a link and of a fragment, and the place of a fault under 5, case by case.
 -- Assumes nothing.
-use mathlib.Core.Path.{_≡_, refl}
+use mathlib.Core.Path.{_≡_, refl, sym}
 use mathlib.Core.Bool.{Bool, true, false, cond, _&&_}
 use Prim.Native.Nat.{ℕ, zero, suc, _+_, _≤_, _<_}
 use native.Mathlib.Omega.{arith}
@@ -25,6 +25,13 @@ link-over c r t v u n h = simp (ne-eqb _ _ n, lt-leb _ _ h)
 pub link-in : (c r t v u : ℕ) → (t ≡ 0 → ⊥) → t ≤ c → (ltb r t && ltb v u) ≡ linkTest c r t v u
 unfolding linkTest
 link-in c r t v u n h = simp (ne-eqb _ _ n, le-leb _ _ h)
+
+-- a next that is the record after r is above r
+pub link-after-over : (c r t v u : ℕ) → t ≡ r + 1 → c < r + 1 → false ≡ linkTest c r t v u
+link-after-over c r t v u e h = link-over c r t v u (λ z. omega arith) (omega arith)
+
+pub link-after : (c r t v u : ℕ) → t ≡ r + 1 → r + 1 ≤ c → ltb v u ≡ linkTest c r t v u
+link-after c r t v u e h = let above : r < t = omega arith in rw (sym (link-in c r t v u (λ z. omega arith) (omega arith)), lt-ltb _ _ above) refl
 
 pub frag-strand : (t c a : ℕ) (g : Bool) → 1 < t → false ≡ fragmentTest t c a g
 unfolding fragmentTest

@@ -1,9 +1,9 @@
 ghost use mathlib.Core.Path.{_≡_};
-ghost use Prim.Native.Nat.{_<_, _≤_};
+ghost use Prim.Native.Nat.{_+_, _<_, _≤_};
 ghost use lib.ListN.{length};
 ghost use Rattle.variants_and_fragments.specs.First.{firstFail};
 ghost use Rattle.variants_and_fragments.specs.Layout.{Sized};
-ghost use Rattle.variants_and_fragments.specs.Chain.{firstCallAt, linkOk, reached, Walked, FragmentChecked, FragmentsChecked, markedAt, chainFault, Marked};
+ghost use Rattle.variants_and_fragments.specs.Chain.{firstCallAt, nextCallAt, linkOk, reached, Walked, FragmentChecked, FragmentsChecked, markedAt, chainFault, Marked};
 ghost use mathlib.Core.List.{[]};
 use crate::Sizes;
 use crate::layout::call_variant;
@@ -30,8 +30,25 @@ pub fn link_ok(words: &[i32], s: Sizes, r: usize) -> bool
     (r < t) & (v < u)
 }
 
+// The same where record r's next is the record after it.
+fn after_ok(words: &[i32], s: Sizes, r: usize) -> bool
+    requires { ⌜ Sized (now words) s ⌝ }
+    requires { ⌜ (1 ≤ r) × (r ≤ s .c) × (nextCallAt (now words) s r ≡ r + 1) ⌝ }
+    ensures { λ ok. ⌜ ok ≡ linkOk (now (words .entry)) s r ⌝ }
+{
+    let c = s.c;
+    let after = r + 1;
+    if c < after {
+        return false;
+    }
+    let v = call_variant(words, s, r);
+    let u = call_variant(words, s, after);
+    v < u
+}
+
 // Fragment f's chain is right, where its first call is in 0..C; then seen marks its records too. At the loop's head the k records
-// before r are right and marked.
+// before r are right and marked. A chain mostly goes on at the record after: the arm of its own lets the machine guess that and run
+// ahead, where `r = next` waits for the word.
 pub fn walk_chain(words: &[i32], s: Sizes, f: usize, seen: &mut [u8]) -> bool
     requires { ⌜ Sized (now words) s ⌝ }
     requires { ⌜ f < s .f ⌝ }
@@ -43,18 +60,28 @@ pub fn walk_chain(words: &[i32], s: Sizes, f: usize, seen: &mut [u8]) -> bool
     let mut r = first_call(words, s, f);
     let mut k = 0;
     while k < c {
+        k += 1;
         if r == 0 {
             return true;
         }
         if seen[r] != 0 {
             return false;
         }
-        if !link_ok(words, s, r) {
-            return false;
+        let after = r + 1;
+        let next = next_call(words, s, r);
+        if next == after {
+            if !after_ok(words, s, r) {
+                return false;
+            }
+            seen[r] = 1;
+            r = after;
+        } else {
+            if !link_ok(words, s, r) {
+                return false;
+            }
+            seen[r] = 1;
+            r = next;
         }
-        seen[r] = 1;
-        r = next_call(words, s, r);
-        k += 1;
     }
     true
 }
