@@ -1,6 +1,5 @@
 pub mod Tables
 pub mod Sizes
-pub mod OnePlus
 pub mod FourValues
 pub mod Fours
 pub mod Written

@@ -10,4 +10,3 @@ pub mod Finals
 pub mod Normalized
 pub mod NoHaplotypes
 pub mod Tally
-pub mod Lines

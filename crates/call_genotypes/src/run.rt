@@ -1,7 +1,7 @@
 // The run of sweeps.
 ghost use mathlib.Core.Path.{_≡_};
 ghost use Rattle.sweeps.specs.Sweeps.{SweepCase};
-ghost use Rattle.call_genotypes.specs.Lines.{lines};
+ghost use Rattle.steps.specs.Lines.{lines};
 ghost use Rattle.call_genotypes.specs.Scores.{Some};
 ghost use Rattle.call_genotypes.specs.Runs.{RunStart, Ran};
 use crate::visit::sweep;

@@ -11,9 +11,9 @@ ghost use Rattle.variants_and_fragments.specs.Case.{Call};
 ghost use Rattle.genotype_probs.specs.Posteriors.{firstMaximum};
 ghost use Rattle.sweeps.specs.Sweeps.{SweepCase, score, mixOf};
 ghost use Rattle.sweeps.specs.Incremental.{fourValue};
-ghost use Rattle.call_genotypes.specs.Lines.{lines};
+ghost use Rattle.steps.specs.Lines.{lines};
 ghost use Rattle.call_genotypes.specs.Scores.{valueOf, rowAt, rowsAt, rowFour, RowIn, PileIn, Within, AlleleSums, addFour, pairSum, scoresOf, ScoresRoom, Some, Standing, rawScores};
-use crate::one_plus::ln_one_plus_exp;
+use steps::one_plus::ln_one_plus_exp;
 use variants_and_fragments::pileup::pile_start;
 
 // A call's four values: neither haplotype has its allele, the first has, the second has, both have.

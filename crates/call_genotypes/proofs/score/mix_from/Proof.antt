@@ -9,7 +9,7 @@ use mir.Facts.{toZ-ofZ}
 use Rattle.steps.specs.Logs.{addExp}
 use Rattle.steps.proofs.Signed.{plus-fits, plus-read}
 use Rattle.steps.proofs.AddExp.{add-size}
-use Rattle.call_genotypes.proofs.OnePlus.{add-exp-from}
+use Rattle.steps.proofs.AddExp.{add-exp-from}
 use Rattle.call_genotypes.proofs.score.mix_from.Statement.{statement}
 use Rattle.call_genotypes.proofs.score.mix_from.Tie as tie
 
