@@ -88,10 +88,10 @@ nine (suc (suc zero)) h = omega arith
 nine (suc (suc (suc zero))) h = omega arith
 nine (suc (suc (suc (suc k)))) h = absurd (omega arith)
 
--- place p of them
-pub place-is : (table : List ℤ) (w : List ℤ) (b : List ℕ) (v k p : ℕ) → k ≡ alleleCountAt w v → p < k * k → getPrior table (variantFrom w b v) (p / k) (p % k) ≡ allPriors table (variantFrom w b v) p
+-- place p of them, where (i, j) is its genotype
+pub place-is : (table : List ℤ) (w : List ℤ) (b : List ℕ) (v k p i j : ℕ) → k ≡ alleleCountAt w v → p < k * k → p / k ≡ i → p % k ≡ j → getPrior table (variantFrom w b v) i j ≡ allPriors table (variantFrom w b v) p
 unfolding allPriors
-place-is table w b v k p e h = rw (count-is w b v, ← e, lt-ltb p (k * k) h)
+place-is table w b v k p i j e h d m = rw (count-is w b v, ← e, lt-ltb p (k * k) h, d, m)
 
 pub past-places : (table : List ℤ) (w : List ℤ) (b : List ℕ) (v k p : ℕ) → k ≡ alleleCountAt w v → k * k ≤ p → pos 0 ≡ allPriors table (variantFrom w b v) p
 unfolding allPriors

@@ -1,4 +1,5 @@
 pub mod Places
+pub mod Pairs
 pub mod Comparisons
 pub mod RateLaws
 pub mod PriorBounds

@@ -51,3 +51,12 @@ from-at g at (suc n) l p d h k = elim (ℕ-discrete p n) [
   | yes e ↦ rw (e, getD-set-same (writtenFrom g at n l) (at + n) (g n) d (omega (arith, from-length g at n l)))
   | no e ↦ getD-set-other (writtenFrom g at n l) (at + n) (at + p) (g n) d (λ q. e (omega arith)) ∙ from-at g at n l p d (omega arith) (omega arith)
 ]
+
+-- a part after a part
+pub from-join : {X : Type 0} (g h : ℕ → X) (at m n : ℕ) (l : List X) → ((p : ℕ) → p < n → h p ≡ g (m + p)) → writtenFrom h (at + m) n (writtenFrom g at m l) ≡ writtenFrom g at (m + n) l
+unfolding writtenFrom
+from-join g h at m zero l e = let z : m + 0 ≡ m = omega arith in rw z
+from-join g h at m (suc n) l e =
+    let z : m + suc n ≡ suc (m + n) = omega arith in
+    let y : at + m + n ≡ at + (m + n) = omega arith in
+    rw (z, y, from-join g h at m n l (λ p k. e p (omega arith)), e n (omega arith))

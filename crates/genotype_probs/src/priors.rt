@@ -98,28 +98,20 @@ fn variant_prior(
     get_prior(table, reference, first, second)
 }
 
-// Place p of the nine of variant v.
-fn nine_places(
-    words: &[i32],
-    s: Sizes,
-    bases: &[u8],
-    table: &[i64],
-    v: usize,
-    at: usize,
-    p: usize,
-) -> i64
-    requires { ⌜ AllelesIn (now words) (now bases) s × TableIn (now table) ⌝ }
-    requires { ⌜ (v < s .n) × (at ≡ allelesStart (now words) v) ⌝ }
-    ensures { λ r. ⌜ r ≡ allPriors (now (table .entry)) (variantFrom (now (words .entry)) (now (bases .entry)) v) p ⌝ }
+// Writes 0 in the n places from `at` on. At the loop's head the first p are written.
+fn write_zeros(priors: &mut [i64], at: usize, n: usize)
+    requires { ⌜ at + n ≤ length (now priors) ⌝ }
+    ensures { λ _. ⌜ now (priors .exit) ≡ writtenFrom (λ _. pos 0) at n (now (priors .entry)) ⌝ }
 {
-    let k = layout::allele_count(words, s, v);
-    if p < k * k {
-        return variant_prior(words, s, bases, table, v, at, p / k, p % k);
+    let mut p = 0;
+    while p < n {
+        priors[at + p] = 0;
+        p += 1;
     }
-    0
 }
 
-// Writes the nine places of variant v. At the loop's head the first p are written.
+// Writes the nine places of variant v: its k by k genotypes row after row, then zeros. At the loop's head p of them are written,
+// and (i, j) is the next genotype.
 pub fn get_all_priors(
     words: &[i32],
     s: Sizes,
@@ -133,11 +125,21 @@ pub fn get_all_priors(
     requires { ⌜ (v < s .n) × (at ≡ allelesStart (now words) v) × (9 * v + 9 ≤ length (now priors)) ⌝ }
     ensures { λ _. ⌜ now (priors .exit) ≡ writtenFrom (allPriors (now (table .entry)) (variantFrom (now (words .entry)) (now (bases .entry)) v)) (9 * v) 9 (now (priors .entry)) ⌝ }
 {
+    let k = layout::allele_count(words, s, v);
+    let kk = k * k;
     let mut p = 0;
-    while p < 9 {
-        priors[9 * v + p] = nine_places(words, s, bases, table, v, at, p);
+    let mut i = 0;
+    let mut j = 0;
+    while p < kk {
+        priors[9 * v + p] = variant_prior(words, s, bases, table, v, at, i, j);
         p += 1;
+        j += 1;
+        if j == k {
+            j = 0;
+            i += 1;
+        }
     }
+    write_zeros(priors, 9 * v + kk, 9 - kk);
 }
 
 // Writes the priors of all variants. At the loop's head those of the first v are written, and `at` is where the bytes of variant v start.
