@@ -3,7 +3,7 @@
 use mathlib.Core.Path.{_≡_, sym, ap, _∙_, subst}
 use mathlib.Core.Bool.{Bool, true, cond}
 use mathlib.Core.List.{List, [], _∷_}
-use Prim.Native.Nat.{ℕ, zero, suc, _*_, _<_, _≤_}
+use Prim.Native.Nat.{ℕ, zero, suc, _*_, _^_, _<_, _≤_}
 use native.Mathlib.Omega.{arith}
 use borrow.Author.Tests.{eqb-true}
 use lib.Dec.{eqb}
@@ -21,12 +21,16 @@ use Rattle.shuffle.specs.Permutation.{Permutation}
 use Rattle.shuffle.specs.Orders.{orderCount}
 use Rattle.sweeps.specs.Sweeps.{SweepCase, GoodHaps, totalOf, phasedTotal, sourceTotal}
 use Rattle.sweeps.proofs.Run.{after-good}
+use Rattle.call_genotypes.specs.Held.{Liks}
+use Rattle.call_genotypes.specs.Scores.{Within}
 use Rattle.call_genotypes.specs.Likelihoods.{CallSlices, callSlices, CallsIn, EndsIn, flagged}
-use Rattle.call_genotypes.specs.Totals.{heldCase, PriorsIn}
+use Rattle.call_genotypes.specs.Totals.{heldCase, standingTotal, PriorsIn}
 use Rattle.call_genotypes.specs.Runs.{orderOf, Ran}
 use Rattle.call_genotypes.proofs.CallsHeld.{calls-in, ends-in-order}
 use Rattle.call_genotypes.proofs.HeldCases.{counted}
-use Rattle.call_genotypes.proofs.TotalsHeld.{priors-in, phased-total-held, source-total-held}
+use Rattle.call_genotypes.proofs.LikelihoodsHeld.{frags-counted}
+use Rattle.call_genotypes.proofs.Linked.{lik-within}
+use Rattle.call_genotypes.proofs.TotalsHeld.{priors-in, standing-total-held, source-total-held}
 use Rattle.with_haplotypes.specs.declared.RoundAnswer.{RoundAnswer}
 use Rattle.with_haplotypes.specs.Round.{RoundInput, case, sweepCase, start, orderOfSweep, result}
 use Rattle.with_haplotypes.specs.Steps.{Admitted, RoundStart, RoundRan}
@@ -74,14 +78,26 @@ module _ {input : RoundInput} {s : Sizes} {m limit : ℕ} {ks ph : List ℕ} {pr
       let n = variants-counted (R .admitted) in
       (priors-in (s .n) mask (R .run-start .held) g n l, (calls-in k made h mask (omega (arith, g .len)) l, ends-in-order k made (R .piles .row-ends-long)))
 
+  fragments-counted : length (C .frags) ≡ s .f
+  unfolding sweepCase case
+  fragments-counted = frags-counted (input .rates) (phasedFlags (decode (input .words) (input .bases)) (input .phase)) (input .words) (input .bases) s (R .admitted .accepted) (R .piles .piled .rows)
+
   pub flags-long : s .n ≤ length ph
   flags-long = omega (arith, R .run-start .held .ph-long, variants-counted (R .admitted))
 
-  -- what `total` answers
-  pub phased-total : (h : List ℕ) → GoodHaps C h → totalOf (heldCase (s .n) (s .f) ks pri calls row-ends ph) (flagged ph) h ≡ phasedTotal C h
-  unfolding sweepCase case
-  phased-total h g = phased-total-held (input .rates) (phasedFlags (decode (input .words) (input .bases)) (input .phase)) (input .words) (input .bases) s (R .admitted .accepted) (R .piles .piled .rows) (R .run-start .held) g
+  -- what `standing_total` wants, of haplotypes and their likelihoods, and what it answers
+  module _ {h : List ℕ} {l : List ℤ} (g : GoodHaps C h) (liks : Liks C h l) where
+    pub standing-asks : PriorsIn (s .n) ks pri h ph × ((s .f ≤ 4096) × (2 * s .f ≤ length l) × Within (2 ^ 32) l)
+    standing-asks = (
+      priors-in (s .n) ph (R .run-start .held) g (variants-counted (R .admitted)) flags-long,
+      (known (R .admitted) .sized .f-top, omega (arith, liks .long, fragments-counted), lik-within (R .run-start .held) h l liks),
+    )
 
+    pub phased-total : standingTotal (s .n) (s .f) ks pri l h ph ≡ phasedTotal C h
+    unfolding sweepCase case
+    phased-total = standing-total-held (input .rates) (phasedFlags (decode (input .words) (input .bases)) (input .phase)) (input .words) (input .bases) s (R .admitted .accepted) (R .piles .piled .rows) (R .run-start .held) g liks
+
+  -- what `total` answers
   pub source-total : (h ones : List ℕ) → GoodHaps C h → ((v : ℕ) → v < s .n → getD ones v 0 ≡ 1) → totalOf (heldCase (s .n) (s .f) ks pri calls row-ends ones) (flagged ones) h ≡ sourceTotal C h
   unfolding sweepCase case
   source-total h ones g all = source-total-held (input .rates) (phasedFlags (decode (input .words) (input .bases)) (input .phase)) (input .words) (input .bases) s (R .admitted .accepted) (R .piles .piled .rows) (R .run-start .held) g ones all

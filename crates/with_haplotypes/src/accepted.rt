@@ -24,6 +24,7 @@ use call_genotypes::scratch::numbers;
 use call_genotypes::scratch::places;
 use call_genotypes::scratch::qualities;
 use call_genotypes::sweep_case::write_allele_counts;
+use call_genotypes::totals::standing_total;
 use call_genotypes::totals::total;
 use genotype_probs::Rates;
 use haplotype_assembly::phase::write_phase;
@@ -44,7 +45,7 @@ fn ones() -> [u8; 1024]
     [1u8; 1024]
 }
 
-// The sweeps, and the totals before and after them.
+// The sweeps, and the totals before and after them: the phased ones from the likelihoods that stand, the source's from the rows.
 fn run_with_totals(
     s: Sizes,
     t: &[u16; 1665],
@@ -72,7 +73,7 @@ fn run_with_totals(
     ensures { λ r. ⌜ ((i : RoundInput) → RoundStart i s m limit (now (ks .entry)) (now (ph .entry)) (now (pri .entry)) (now (variants .entry)) (now (alleles .entry)) (now (quals .entry)) (now (omqs .entry)) (now (ends .entry)) (now («pile_ends» .entry)) (now (who .entry)) (now («pile_quals» .entry)) (now («pile_omqs» .entry)) (now (orders .entry)) (now (hap .entry)) (now (lik .entry)) (now (post .entry)) → RoundRan i (now (post .entry)) r (now (hap .exit)) (now (lik .exit)) (now (post .exit))) ⌝ }
 {
     let n = s.n;
-    let start = total(s, t, ks, pri, variants, alleles, quals, omqs, ends, hap, ph);
+    let start = standing_total(s, t, ks, pri, lik, hap, ph);
     let r = run_sweeps(
         t,
         ks,
@@ -91,7 +92,7 @@ fn run_with_totals(
         limit,
     );
     let all = ones();
-    let end = total(s, t, ks, pri, variants, alleles, quals, omqs, ends, hap, ph);
+    let end = standing_total(s, t, ks, pri, lik, hap, ph);
     let source = total(
         s,
         t,
