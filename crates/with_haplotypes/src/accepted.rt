@@ -28,6 +28,7 @@ use call_genotypes::totals::standing_total;
 use call_genotypes::totals::total;
 use genotype_probs::Rates;
 use haplotype_assembly::phase::write_phase;
+use steps::one_plus;
 use variants_and_fragments::Sizes;
 use variants_and_fragments::pileup::pile_calls;
 
@@ -74,8 +75,9 @@ fn run_with_totals(
 {
     let n = s.n;
     let start = standing_total(s, t, ks, pri, lik, hap, ph);
+    let l = one_plus::lines();
     let r = run_sweeps(
-        t,
+        &l,
         ks,
         ph,
         pri,
