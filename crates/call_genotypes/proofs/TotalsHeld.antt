@@ -142,7 +142,7 @@ module _
   flags-held : (v : ℕ) → v < s .n → getD ph v 0 ≡ cond (C .phased v) 1 0
   flags-held v h = held .ph-are v (omega (arith, counted rates phased w b s accepted))
 
-  pub phased-total-held : totalOf (heldWith ph) (flagged ph) hap ≡ phasedTotal C hap
+  phased-total-held : totalOf (heldWith ph) (flagged ph) hap ≡ phasedTotal C hap
   phased-total-held = total-held (C .phased) ph flags-held
 
   -- and so is the total of the likelihoods that stand

@@ -1,4 +1,4 @@
--- 01, section 6: the case that the lent slices hold by fragment, over which a total is recomputed.
+-- 01, section 6: the case that the lent slices hold by fragment, over which a total is recomputed; and the total of likelihoods that stand.
 -- Assumes nothing.
 use mathlib.Core.Bool.{cond}
 use mathlib.Core.List.{List}

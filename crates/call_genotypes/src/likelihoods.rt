@@ -21,11 +21,7 @@ fn call_term(allele: u32, own: u8, qual: i32, one_minus_qual: i32) -> i64
 {
     let x = one_minus_qual as i64;
     let y = qual as i64;
-    if allele == own as u32 {
-        x
-    } else {
-        y
-    }
+    if allele == own as u32 { x } else { y }
 }
 
 // What the call of row i adds to its read's likelihood on haplotype h: nothing at a variant whose flag is not 1.
@@ -44,11 +40,7 @@ fn call_share(
 {
     let v = variants[i] as usize;
     let y = call_term(alleles[i], hap[2 * v + h], quals[i], one_minus_quals[i]);
-    if mask[v] == 1 {
-        y
-    } else {
-        0
-    }
+    if mask[v] == 1 { y } else { 0 }
 }
 
 // A read's likelihoods, from its rows, a to e. At the loop's head the first j of them are added.

@@ -55,12 +55,13 @@ pub record PilesMade (w : List ℤ) (s : Sizes) (variants alleles : List ℕ) (q
   pub room : PilesRoom (s .n) (s .c) ends who pile-quals pile-one-minus-quals
   pub row-ends-long : s .f ≤ length row-ends
 
--- room for the rows and the piles
-pub record ScratchRoom (s : Sizes) (rows : RowSlices) (row-ends ambiguous ends who : List ℕ) (quals one-minus-quals : List ℤ) : Type 0 where
+-- room for the rows, the piles and the priors
+pub record ScratchRoom (s : Sizes) (rows : RowSlices) (row-ends ambiguous ends who : List ℕ) (quals one-minus-quals pri : List ℤ) : Type 0 where
   pub rows-room : RowsRoom (s .c) rows
   pub row-ends-long : s .f ≤ length row-ends
   pub ambiguous-long : s .n ≤ length ambiguous
   pub piles-room : PilesRoom (s .n) (s .c) ends who quals one-minus-quals
+  pub pri-long : 9 * s .n ≤ length pri
 
 -- room for the run: haplotypes and likelihoods of exactly the need
 pub record RunRoom (s : Sizes) (hap : List ℕ) (lik post : List ℤ) : Type 0 where

@@ -1,7 +1,7 @@
 // A round over an accepted input.
 ghost use mathlib.Core.Path.{_≡_};
 ghost use mathlib.Core.Bool.{true};
-ghost use Prim.Native.Nat.{_≤_};
+ghost use Prim.Native.Nat.{_*_, _≤_};
 ghost use lib.Dec.{eqb};
 ghost use lib.ListN.{length};
 ghost use Rattle.steps.specs.Table.{knots};
@@ -16,7 +16,10 @@ use call_genotypes::likelihoods::write_likelihoods;
 use call_genotypes::normalized::normalize_all;
 use call_genotypes::priors::make_priors;
 use call_genotypes::run::run_sweeps;
+use call_genotypes::scratch::few_ends;
+use call_genotypes::scratch::few_nine_each;
 use call_genotypes::scratch::few_numbers;
+use call_genotypes::scratch::few_places;
 use call_genotypes::scratch::few_qualities;
 use call_genotypes::scratch::fragment_ends;
 use call_genotypes::scratch::nine_each;
@@ -117,7 +120,8 @@ fn run_with_totals(
     }
 }
 
-// The priors, the given phase and its likelihoods, and the run from there; the calls stand in rows and piles.
+// The priors, the given phase and its likelihoods, and the run from there; the calls stand in rows and piles, and the priors are written
+// in pri.
 fn run_piled(
     t: &[u16; 1665],
     words: &[i32],
@@ -135,6 +139,7 @@ fn run_piled(
     who: &[u32],
     pile_quals: &[i32],
     pile_omqs: &[i32],
+    pri: &mut [i64],
     orders: &[u32],
     hap: &mut [u8],
     lik: &mut [i64],
@@ -144,11 +149,10 @@ fn run_piled(
 ) -> RoundAnswer
     requires { ⌜ (now t ≡ knots) × Admitted (roundInput (now words) (now bases) rates (now phase) (now orders) limit) s m ⌝ }
     requires { ⌜ AlleleCounts (now words) (s .n) (now ks) × PilesMade (now words) s (now variants) (now alleles) (now quals) (now omqs) (now ends) (now «pile_ends») (now who) (now «pile_quals») (now «pile_omqs») ⌝ }
-    requires { ⌜ RunRoom s (now hap) (now lik) (now post) ⌝ }
+    requires { ⌜ RunRoom s (now hap) (now lik) (now post) × (9 * (s .n) ≤ length (now pri)) ⌝ }
     ensures { λ r. ⌜ RoundRan (roundInput (now (words .entry)) (now (bases .entry)) rates (now (phase .entry)) (now (orders .entry)) limit) (now (post .entry)) r (now (hap .exit)) (now (lik .exit)) (now (post .exit)) ⌝ }
 {
-    let mut pri = nine_each();
-    make_priors(t, words, s, bases, rates, &mut pri);
+    make_priors(t, words, s, bases, rates, pri);
     let mut phased = zeros();
     write_phase(words, s, phase, hap, &mut phased);
     write_likelihoods(variants, alleles, quals, omqs, ends, hap, &phased, lik, s.f);
@@ -157,7 +161,7 @@ fn run_piled(
         t,
         ks,
         &phased,
-        &pri,
+        pri,
         variants,
         alleles,
         quals,
@@ -196,6 +200,7 @@ fn run_in(
     who: &mut [u32],
     pile_quals: &mut [i32],
     pile_omqs: &mut [i32],
+    pri: &mut [i64],
     orders: &[u32],
     hap: &mut [u8],
     lik: &mut [i64],
@@ -205,7 +210,7 @@ fn run_in(
 ) -> RoundAnswer
     requires { ⌜ (now t ≡ knots) × Admitted (roundInput (now words) (now bases) rates (now phase) (now orders) limit) s m ⌝ }
     requires { ⌜ AlleleCounts (now words) (s .n) (now ks) × RunRoom s (now hap) (now lik) (now post) ⌝ }
-    requires { ⌜ ScratchRoom s (rowSlices (now fragments) (now variants) (now alleles) (now quals) (now omqs)) (now ends) (now ambiguous) (now «pile_ends») (now who) (now «pile_quals») (now «pile_omqs») ⌝ }
+    requires { ⌜ ScratchRoom s (rowSlices (now fragments) (now variants) (now alleles) (now quals) (now omqs)) (now ends) (now ambiguous) (now «pile_ends») (now who) (now «pile_quals») (now «pile_omqs») (now pri) ⌝ }
     ensures { λ r. ⌜ RoundRan (roundInput (now (words .entry)) (now (bases .entry)) rates (now (phase .entry)) (now (orders .entry)) limit) (now (post .entry)) r (now (hap .exit)) (now (lik .exit)) (now (post .exit)) ⌝ }
 {
     pile_calls(
@@ -240,6 +245,7 @@ fn run_in(
         who,
         pile_quals,
         pile_omqs,
+        pri,
         orders,
         hap,
         lik,
@@ -280,6 +286,7 @@ fn run_large(
     let mut who = numbers();
     let mut pile_quals = qualities();
     let mut pile_omqs = qualities();
+    let mut pri = nine_each();
     run_in(
         t,
         words,
@@ -299,6 +306,7 @@ fn run_large(
         &mut who,
         &mut pile_quals,
         &mut pile_omqs,
+        &mut pri,
         orders,
         hap,
         lik,
@@ -308,7 +316,7 @@ fn run_large(
     )
 }
 
-// The same with scratch for at most 1,024 call records, which costs a small case less to clear.
+// The same with scratch for at most 1,024 call records, 128 variants and 512 fragments, which costs a small case less to clear.
 fn run_small(
     t: &[u16; 1665],
     words: &[i32],
@@ -326,7 +334,7 @@ fn run_small(
 ) -> RoundAnswer
     requires { ⌜ (now t ≡ knots) × Admitted (roundInput (now words) (now bases) rates (now phase) (now orders) limit) s m ⌝ }
     requires { ⌜ AlleleCounts (now words) (s .n) (now ks) × RunRoom s (now hap) (now lik) (now post) ⌝ }
-    requires { ⌜ s .c ≤ 1024 ⌝ }
+    requires { ⌜ (s .c ≤ 1024) × (s .n ≤ 128) × (s .f ≤ 512) ⌝ }
     ensures { λ r. ⌜ RoundRan (roundInput (now (words .entry)) (now (bases .entry)) rates (now (phase .entry)) (now (orders .entry)) limit) (now (post .entry)) r (now (hap .exit)) (now (lik .exit)) (now (post .exit)) ⌝ }
 {
     let mut fragments = few_numbers();
@@ -334,12 +342,13 @@ fn run_small(
     let mut alleles = few_numbers();
     let mut quals = few_qualities();
     let mut omqs = few_qualities();
-    let mut ends = fragment_ends();
-    let mut ambiguous = places();
-    let mut pile_ends = places();
+    let mut ends = few_ends();
+    let mut ambiguous = few_places();
+    let mut pile_ends = few_places();
     let mut who = few_numbers();
     let mut pile_quals = few_qualities();
     let mut pile_omqs = few_qualities();
+    let mut pri = few_nine_each();
     run_in(
         t,
         words,
@@ -359,6 +368,7 @@ fn run_small(
         &mut who,
         &mut pile_quals,
         &mut pile_omqs,
+        &mut pri,
         orders,
         hap,
         lik,
@@ -388,7 +398,7 @@ fn run_accepted(
     requires { ⌜ AlleleCounts (now words) (s .n) (now ks) × RunRoom s (now hap) (now lik) (now post) ⌝ }
     ensures { λ r. ⌜ RoundRan (roundInput (now (words .entry)) (now (bases .entry)) rates (now (phase .entry)) (now (orders .entry)) limit) (now (post .entry)) r (now (hap .exit)) (now (lik .exit)) (now (post .exit)) ⌝ }
 {
-    if s.c <= 1024 {
+    if s.c <= 1024 && s.n <= 128 && s.f <= 512 {
         return run_small(
             t,
             words,

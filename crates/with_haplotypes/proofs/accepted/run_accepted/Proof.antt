@@ -4,11 +4,15 @@ use mathlib.Core.Path.{_≡_}
 use Prim.Native.Nat.{_≤_}
 use native.Mathlib.Omega.{arith}
 use borrow.Author.Needs.{needs}
+use borrow.Author.Tests.{leb-true}
 use Rattle.with_haplotypes.proofs.accepted.run_accepted.Statement.{statement}
 use Rattle.with_haplotypes.proofs.accepted.run_accepted.Tie as tie
 
 run-small-requires : tie.Need-run-small-requires
-run-small-requires c κs = let s = c .before .before .before .before .before .before .before .before .before .before in (s .pre .0, (s .pre .1, c .before .before .before .if1 .taken))
+run-small-requires c κs =
+    let t = c .before .before .before in
+    let s = t .before .before .before .before .before .before .before .before .before .before .before in
+    (s .pre .0, (s .pre .1, (t .before .before .before .before .if1 .taken, leb-true (s .args .s .n) 128 (t .before .before .if2 .taken), leb-true (s .args .s .f) 512 (t .if3 .taken))))
 
 same-length : tie.Need-same-length
 same-length c = search needs

@@ -8,6 +8,16 @@ use Rattle.with_haplotypes.proofs.RoundLaws.{known}
 use Rattle.with_haplotypes.proofs.accepted.run_in.Statement.{statement}
 use Rattle.with_haplotypes.proofs.accepted.run_in.Tie as tie
 
+-- where the function starts, and the piles
+abbrev start : tie.After-pile-calls → tie.Start
+start c = c .before .before .before .before .before .before .before .before .before .before .before .before .before .before .before .before .before .before .before .before .before .before .before .before
+
+abbrev piles : tie.After-run-piled-arg13 → tie.After-pile-calls
+piles c = c .before .before .before .before .before .before .before .before .before .before .before .before .before .before .before .before .before .before .before .before .before .before .before .before .before .before .before .before .before .before .before
+
+abbrev ran : tie.After-post → tie.After-run-piled
+ran c = c .before .before .before .before .before
+
 pile-calls-requires : tie.Need-pile-calls-requires
 pile-calls-requires c κs =
     let s = c .before .before .before .before .before .before .before .before .before .before .before .before .before .before .before .before .before .before .before .before .before .before .before in
@@ -16,8 +26,8 @@ pile-calls-requires c κs =
 
 run-piled-requires : tie.Need-run-piled-requires
 run-piled-requires c κs =
-    let s = c .before .before .before .before .before .before .before .before .before .before .before .before .before .before .before .before .before .before .before .before .before .before .before .before .before .before .before .before .before .before .before .before .before .before .before .before .before .before .before .before .before .before .before .before .before .before .before .before .before .before .before .before .before .before in
-    let p = c .before .before .before .before .before .before .before .before .before .before .before .before .before .before .before .before .before .before .before .before .before .before .before .before .before .before .before .before .before .before in
+    let p = piles c in
+    let s = start p in
     let r = s .pre .1 .1 in (
       s .pre .0,
       (
@@ -37,54 +47,57 @@ run-piled-requires c κs =
             row-ends-long = omega (arith, r .row-ends-long, p .pile-calls .kept .1 .1 .1 .1 .1 .1 .1 .0);
           },
         ),
-        s .pre .1 .0 .1,
+        (s .pre .1 .0 .1, r .pri-long),
       ),
     )
 
 same-length : tie.Need-same-length
-same-length c = c .before .before .before .before .before .before .before .before .before .before .before .before .before .before .before .before .before .before .before .before .before .before .before .before .before .before .before .before .before .before .before .before .before .before .before .pile-calls .kept .1 .1 .0
+same-length c = piles (ran c .before) .pile-calls .kept .1 .1 .0
 
 same-length-2 : tie.Need-same-length-2
-same-length-2 c = c .before .before .before .before .before .before .before .before .before .before .before .before .before .before .before .before .before .before .before .before .before .before .before .before .before .before .before .before .before .before .before .before .before .before .before .pile-calls .kept .1 .1 .1 .0
+same-length-2 c = piles (ran c .before) .pile-calls .kept .1 .1 .1 .0
 
 same-length-3 : tie.Need-same-length-3
-same-length-3 c = c .before .before .before .before .before .before .before .before .before .before .before .before .before .before .before .before .before .before .before .before .before .before .before .before .before .before .before .before .before .before .before .before .before .before .before .pile-calls .kept .1 .1 .1 .1 .0
+same-length-3 c = piles (ran c .before) .pile-calls .kept .1 .1 .1 .1 .0
 
 same-length-4 : tie.Need-same-length-4
-same-length-4 c = c .before .before .before .before .before .before .before .before .before .before .before .before .before .before .before .before .before .before .before .before .before .before .before .before .before .before .before .before .before .before .before .before .before .before .before .pile-calls .kept .1 .1 .1 .1 .1 .0
+same-length-4 c = piles (ran c .before) .pile-calls .kept .1 .1 .1 .1 .1 .0
 
 same-length-5 : tie.Need-same-length-5
-same-length-5 c = c .before .before .before .before .before .before .before .before .before .before .before .before .before .before .before .before .before .before .before .before .before .before .before .before .before .before .before .before .before .before .before .before .before .before .before .pile-calls .kept .1 .1 .1 .1 .1 .1 .0
+same-length-5 c = piles (ran c .before) .pile-calls .kept .1 .1 .1 .1 .1 .1 .0
 
 same-length-6 : tie.Need-same-length-6
-same-length-6 c = c .before .before .before .before .before .before .before .before .before .before .before .before .before .before .before .before .before .before .before .before .before .before .before .before .before .before .before .before .before .before .before .before .before .before .before .pile-calls .kept .1 .1 .1 .1 .1 .1 .1 .0
+same-length-6 c = piles (ran c .before) .pile-calls .kept .1 .1 .1 .1 .1 .1 .1 .0
 
 same-length-7 : tie.Need-same-length-7
-same-length-7 c = c .before .before .before .before .before .before .before .before .before .before .before .before .before .before .before .before .before .before .before .before .before .before .before .before .before .before .before .before .before .before .before .before .before .before .before .pile-calls .kept .1 .1 .1 .1 .1 .1 .1 .1 .0
+same-length-7 c = piles (ran c .before) .pile-calls .kept .1 .1 .1 .1 .1 .1 .1 .1 .0
 
 same-length-8 : tie.Need-same-length-8
-same-length-8 c = c .before .before .before .before .before .before .before .before .before .before .before .before .before .before .before .before .before .before .before .before .before .before .before .before .before .before .before .before .before .before .before .before .before .before .before .pile-calls .kept .1 .1 .1 .1 .1 .1 .1 .1 .1 .0
+same-length-8 c = piles (ran c .before) .pile-calls .kept .1 .1 .1 .1 .1 .1 .1 .1 .1 .0
 
 same-length-9 : tie.Need-same-length-9
-same-length-9 c = c .before .before .before .before .before .before .before .before .before .before .before .before .before .before .before .before .before .before .before .before .before .before .before .before .before .before .before .before .before .before .before .before .before .before .before .pile-calls .kept .1 .1 .1 .1 .1 .1 .1 .1 .1 .1 .0
+same-length-9 c = piles (ran c .before) .pile-calls .kept .1 .1 .1 .1 .1 .1 .1 .1 .1 .1 .0
 
 same-length-10 : tie.Need-same-length-10
-same-length-10 c = c .before .before .before .before .before .before .before .before .before .before .before .before .before .before .before .before .before .before .before .before .before .before .before .before .before .before .before .before .before .before .before .before .before .before .before .pile-calls .kept .1 .1 .1 .1 .1 .1 .1 .1 .1 .1 .1 .0
+same-length-10 c = piles (ran c .before) .pile-calls .kept .1 .1 .1 .1 .1 .1 .1 .1 .1 .1 .1 .0
 
 same-length-11 : tie.Need-same-length-11
-same-length-11 c = c .before .before .before .before .before .before .before .before .before .before .before .before .before .before .before .before .before .before .before .before .before .before .before .before .before .before .before .before .before .before .before .before .before .before .before .pile-calls .kept .1 .1 .1 .1 .1 .1 .1 .1 .1 .1 .1 .1 .0
+same-length-11 c = piles (ran c .before) .pile-calls .kept .1 .1 .1 .1 .1 .1 .1 .1 .1 .1 .1 .1 .0
 
 same-length-12 : tie.Need-same-length-12
-same-length-12 c = c .before .before .before .before .run-piled .kept .1 .1 .1 .1 .1 .1 .1 .1 .1 .1 .1 .1 .1 .1 .1 .1 .1 .0
+same-length-12 c = ran c .run-piled .kept .1 .1 .1 .1 .1 .1 .1 .1 .1 .1 .1 .1 .1 .1 .1 .1 .0
 
 same-length-13 : tie.Need-same-length-13
-same-length-13 c = c .before .before .before .before .run-piled .kept .1 .1 .1 .1 .1 .1 .1 .1 .1 .1 .1 .1 .1 .1 .1 .1 .1 .1 .0
+same-length-13 c = ran c .run-piled .kept .1 .1 .1 .1 .1 .1 .1 .1 .1 .1 .1 .1 .1 .1 .1 .1 .1 .1 .0
 
 same-length-14 : tie.Need-same-length-14
-same-length-14 c = c .before .before .before .before .run-piled .kept .1 .1 .1 .1 .1 .1 .1 .1 .1 .1 .1 .1 .1 .1 .1 .1 .1 .1 .1 .0
+same-length-14 c = ran c .run-piled .kept .1 .1 .1 .1 .1 .1 .1 .1 .1 .1 .1 .1 .1 .1 .1 .1 .1 .1 .1 .0
+
+same-length-15 : tie.Need-same-length-15
+same-length-15 c = ran c .run-piled .kept .1 .1 .1 .1 .1 .1 .1 .1 .1 .1 .1 .1 .1 .1 .1 .1 .1 .1 .1 .1 .0
 
 returns : tie.Need-returns
-returns c = c .before .before .before .before .run-piled .ensures
+returns c = ran c .run-piled .ensures
 
 pub run-in-spec : {M : Type 1} → statement M
 run-in-spec =
@@ -106,4 +119,5 @@ run-in-spec =
     same-length-12
     same-length-13
     same-length-14
+    same-length-15
     returns)

@@ -41,6 +41,9 @@ qualities-requires-3 c κs = search needs
 qualities-requires-4 : tie.Need-qualities-requires-4
 qualities-requires-4 c κs = search needs
 
+nine-each-requires : tie.Need-nine-each-requires
+nine-each-requires c κs = search needs
+
 slice-aggregate-run-in : tie.Need-slice-aggregate-run-in
 slice-aggregate-run-in c = search needs
 
@@ -74,31 +77,36 @@ slice-aggregate-run-in-10 c = search needs
 slice-aggregate-run-in-11 : tie.Need-slice-aggregate-run-in-11
 slice-aggregate-run-in-11 c = search needs
 
+slice-aggregate-run-in-12 : tie.Need-slice-aggregate-run-in-12
+slice-aggregate-run-in-12 c = search needs
+
 run-in-requires : tie.Need-run-in-requires
 run-in-requires c κs =
-    let s = c .before .before .before .before .before .before .before .before .before .before .before .before .before .before .before .before .before .before .before .before .before .before .before .before .before .before .before .before .before .before in
+    let m = c .before .before .before .before .before .before .before .before .before .before .before .before .before .before .before in
+    let s = m .before .before .before .before .before .before .before .before .before .before .before .before .before .before .before .before .before in
     let k = known (s .pre .0 .1) in
-    let n = k .sized .n-top in
-    let r = k .sized .c-top in (
+    let r = k .sized .c-top in
+    let n = k .sized .n-top in (
       s .pre .0,
       (
         s .pre .1,
         record {
           rows-room = record {
-            fragments-long = omega (arith, r, c .before .before .before .before .before .before .before .before .before .before .before .before .before .before .before .before .before .before .before .before .before .before .before .before .numbers .ensures);
-            variants-long = omega (arith, r, c .before .before .before .before .before .before .before .before .before .before .before .before .before .before .before .before .before .before .before .before .before .before .before .numbers2 .ensures);
-            alleles-long = omega (arith, r, c .before .before .before .before .before .before .before .before .before .before .before .before .before .before .before .before .before .before .before .before .before .before .numbers3 .ensures);
-            quals-long = omega (arith, r, c .before .before .before .before .before .before .before .before .before .before .before .before .before .before .before .before .before .before .before .before .before .qualities .ensures);
-            one-minus-quals-long = omega (arith, r, c .before .before .before .before .before .before .before .before .before .before .before .before .before .before .before .before .before .before .before .before .qualities2 .ensures);
+            fragments-long = omega (arith, r, m .before .before .before .before .before .before .before .before .before .before .before .numbers .ensures);
+            variants-long = omega (arith, r, m .before .before .before .before .before .before .before .before .before .before .numbers2 .ensures);
+            alleles-long = omega (arith, r, m .before .before .before .before .before .before .before .before .before .numbers3 .ensures);
+            quals-long = omega (arith, r, m .before .before .before .before .before .before .before .before .qualities .ensures);
+            one-minus-quals-long = omega (arith, r, m .before .before .before .before .before .before .before .qualities2 .ensures);
           };
-          row-ends-long = omega (arith, k .sized .f-top, c .before .before .before .before .before .before .before .before .before .before .before .before .before .before .before .before .before .before .before .fragment-ends .ensures);
-          ambiguous-long = omega (arith, n, c .before .before .before .before .before .before .before .before .before .before .before .before .before .before .before .before .before .before .places .ensures);
+          row-ends-long = omega (arith, k .sized .f-top, m .before .before .before .before .before .before .fragment-ends .ensures);
+          ambiguous-long = omega (arith, n, m .before .before .before .before .before .places .ensures);
           piles-room = record {
-            ends-long = omega (arith, n, c .before .before .before .before .before .before .before .before .before .before .before .before .before .before .before .before .before .places2 .ensures);
-            who-long = omega (arith, r, c .before .before .before .before .before .before .before .before .before .before .before .before .before .before .before .before .numbers4 .ensures);
-            quals-long = omega (arith, r, c .before .before .before .before .before .before .before .before .before .before .before .before .before .before .before .qualities3 .ensures);
-            one-minus-quals-long = omega (arith, r, c .before .before .before .before .before .before .before .before .before .before .before .before .before .before .qualities4 .ensures);
+            ends-long = omega (arith, n, m .before .before .before .before .places2 .ensures);
+            who-long = omega (arith, r, m .before .before .before .numbers4 .ensures);
+            quals-long = omega (arith, r, m .before .before .qualities3 .ensures);
+            one-minus-quals-long = omega (arith, r, m .before .qualities4 .ensures);
           };
+          pri-long = omega (arith, n, m .nine-each .ensures);
         },
       ),
     )
@@ -113,7 +121,7 @@ same-length-3 : tie.Need-same-length-3
 same-length-3 c = search needs
 
 returns : tie.Need-returns
-returns c = c .before .before .before .before .before .before .before .before .before .before .before .before .before .before .before .run-in .ensures
+returns c = c .before .before .before .before .before .before .before .before .before .before .before .before .before .before .before .before .run-in .ensures
 
 pub run-large-spec : {M : Type 1} → statement M
 run-large-spec =
@@ -130,6 +138,7 @@ run-large-spec =
     numbers-requires-4
     qualities-requires-3
     qualities-requires-4
+    nine-each-requires
     slice-aggregate-run-in
     slice-aggregate-run-in-2
     slice-aggregate-run-in-3
@@ -141,6 +150,7 @@ run-large-spec =
     slice-aggregate-run-in-9
     slice-aggregate-run-in-10
     slice-aggregate-run-in-11
+    slice-aggregate-run-in-12
     run-in-requires
     same-length
     same-length-2
