@@ -1,4 +1,6 @@
 pub mod Tables
+pub mod OnePlus
+pub mod GapLaws
 pub mod Sizes
 pub mod Fours
 pub mod Written

@@ -1,4 +1,5 @@
 pub mod Held
+pub mod Lines
 pub mod Scores
 pub mod Visits
 pub mod Runs

@@ -3,6 +3,7 @@ pub mod finals;
 pub mod likelihoods;
 pub mod no_haplotypes;
 pub mod normalized;
+pub mod one_plus;
 pub mod priors;
 pub mod run;
 pub mod score;

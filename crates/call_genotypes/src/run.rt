@@ -1,6 +1,6 @@
 // The run of sweeps.
 ghost use mathlib.Core.Path.{_≡_};
-ghost use Rattle.steps.specs.Table.{knots};
+ghost use Rattle.call_genotypes.specs.Lines.{lines};
 ghost use Rattle.sweeps.specs.Sweeps.{SweepCase};
 ghost use Rattle.call_genotypes.specs.Scores.{Some};
 ghost use Rattle.call_genotypes.specs.Runs.{RunStart, Ran};
@@ -15,7 +15,7 @@ pub struct RunAnswer {
 // Sweeps until one changes nothing, at most `limit` of them; sweep s goes by part s mod m of the orders, of n entries each.
 // At the loop's head s sweeps are made, and each changed something.
 pub fn run_sweeps(
-    t: &[u16; 1665],
+    t: &[u32; 6420],
     ks: &[u8],
     ph: &[u8],
     pri: &[i64],
@@ -31,7 +31,7 @@ pub fn run_sweeps(
     m: usize,
     limit: usize,
 ) -> RunAnswer
-    requires { ⌜ now t ≡ knots ⌝ }
+    requires { ⌜ now t ≡ lines ⌝ }
     requires { ⌜ Some (λ C. RunStart C (now ks) (now ph) (now pri) (now ends) (now who) (now quals) (now omqs) (now orders) (now hap) (now lik) (now post) n m limit) ⌝ }
     ensures { λ r. ⌜ ((C : SweepCase) → RunStart C (now (ks .entry)) (now (ph .entry)) (now (pri .entry)) (now (ends .entry)) (now (who .entry)) (now (quals .entry)) (now (omqs .entry)) (now (orders .entry)) (now (hap .entry)) (now (lik .entry)) (now (post .entry)) n m limit → Ran C (now (orders .entry)) (now (hap .entry)) (now (hap .exit)) (now (lik .exit)) (now (post .entry)) (now (post .exit)) n m limit (r .sweeps) (r .settled)) ⌝ }
 {

@@ -6,7 +6,7 @@ ghost use Prim.Native.Nat.{ℕ, _+_, _*_, _^_, _<_, _≤_};
 ghost use lib.Dec.{eqb};
 ghost use lib.ListN.{length, getD, set};
 ghost use lib.IntN.{ℤ, pos, natAbs, _+ℤ_, _-ℤ_};
-ghost use Rattle.steps.specs.Table.{knots};
+ghost use Rattle.call_genotypes.specs.Lines.{lines};
 ghost use Rattle.genotype_probs.specs.Posteriors.{firstMaximum};
 ghost use Rattle.sweeps.specs.Sweeps.{SweepCase, GoodHaps, allele0, allele1, putPair};
 ghost use Rattle.call_genotypes.specs.Held.{Held, Liks};
@@ -109,7 +109,7 @@ fn same_pair(old0: usize, old1: usize, new0: usize, new1: usize) -> bool
 
 // One visit of v: whether its pair changed.
 pub fn visit(
-    t: &[u16; 1665],
+    t: &[u32; 6420],
     ks: &[u8],
     ph: &[u8],
     pri: &[i64],
@@ -122,7 +122,7 @@ pub fn visit(
     post: &mut [i64],
     v: usize,
 ) -> bool
-    requires { ⌜ now t ≡ knots ⌝ }
+    requires { ⌜ now t ≡ lines ⌝ }
     requires { ⌜ Some (λ C. Standing C (now ks) (now ph) (now pri) (now ends) (now who) (now quals) (now omqs) (now hap) (now lik) (now post) v) ⌝ }
     ensures { λ r. ⌜ ((C : SweepCase) → Standing C (now (ks .entry)) (now (ph .entry)) (now (pri .entry)) (now (ends .entry)) (now (who .entry)) (now (quals .entry)) (now (omqs .entry)) (now (hap .entry)) (now (lik .entry)) (now (post .entry)) v → Visited C v (now (hap .entry)) (now (hap .exit)) (now (lik .exit)) (now (post .entry)) (now (post .exit)) r) ⌝ }
 {
@@ -145,7 +145,7 @@ pub fn visit(
 
 // One sweep in the given order: whether a visit changed its pair. At the loop's head the first p visits are made.
 pub fn sweep(
-    t: &[u16; 1665],
+    t: &[u32; 6420],
     ks: &[u8],
     ph: &[u8],
     pri: &[i64],
@@ -158,7 +158,7 @@ pub fn sweep(
     lik: &mut [i64],
     post: &mut [i64],
 ) -> bool
-    requires { ⌜ now t ≡ knots ⌝ }
+    requires { ⌜ now t ≡ lines ⌝ }
     requires { ⌜ Some (λ C. SweepStart C (now ks) (now ph) (now pri) (now ends) (now who) (now quals) (now omqs) (now order) (now hap) (now lik) (now post)) ⌝ }
     ensures { λ r. ⌜ ((C : SweepCase) → SweepStart C (now (ks .entry)) (now (ph .entry)) (now (pri .entry)) (now (ends .entry)) (now (who .entry)) (now (quals .entry)) (now (omqs .entry)) (now (order .entry)) (now (hap .entry)) (now (lik .entry)) (now (post .entry)) → Swept C (now (order .entry)) (now (hap .entry)) (now (hap .exit)) (now (lik .exit)) (now (post .entry)) (now (post .exit)) r) ⌝ }
 {
