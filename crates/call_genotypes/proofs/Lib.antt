@@ -1,6 +1,8 @@
 pub mod Tables
 pub mod OnePlus
+pub mod Turns
 pub mod GapLaws
+pub mod GapSums
 pub mod Sizes
 pub mod Fours
 pub mod Written

@@ -26,7 +26,8 @@ use Rattle.sweeps.proofs.Scored.{score-pileup}
 use Rattle.sweeps.proofs.Fours.{share-value}
 use Rattle.call_genotypes.specs.Held.{GoodRow, Held, Liks}
 use Rattle.call_genotypes.specs.Scores.{rowAt, rowsAt, rowGaps, turn, PileIn, Within, AlleleSums, QualsIn, neitherSum, pairGap, scoresOf, ScoresRoom, Standing, rawScores}
-use Rattle.call_genotypes.proofs.GapLaws.{rowFour, pairs-are, neither-are}
+use Rattle.call_genotypes.proofs.GapLaws.{rowFour}
+use Rattle.call_genotypes.proofs.GapSums.{pairs-are, neither-are}
 use Rattle.call_genotypes.proofs.Sizes.{down-abs}
 use Rattle.call_genotypes.proofs.Tables.{table-length, table-from, table-same}
 

@@ -1,8 +1,8 @@
 -- How far from 0 likelihoods, a call's four numbers and their sums lie: nothing that a visit adds up leaves an i64. Assumes nothing.
-use mathlib.Core.Path.{_≡_, sym, _∙_}
+use mathlib.Core.Path.{_≡_, _∙_}
 use mathlib.Core.Bool.{Bool, true, false, cond}
 use mathlib.Core.List.{List}
-use Prim.Native.Nat.{ℕ, zero, suc, _+_, _*_, _/_, _%_, _^_, _<_, _≤_}
+use Prim.Native.Nat.{ℕ, zero, suc, _+_, _*_, _/_, _%_, _^_, _≤_}
 use native.Mathlib.Omega.{arith}
 use lib.Dec.{eqb}
 use lib.ListN.{length, getD}
@@ -12,7 +12,7 @@ use Rattle.steps.proofs.AddExp.{add-size}
 use Rattle.variants_and_fragments.specs.Sums.{DownTo}
 use Rattle.call_genotypes.specs.declared.score.Gaps.{Gaps}
 use Rattle.call_genotypes.specs.Scores.{onePlus, gapValue, rowAt, valueOf, rowGaps, RowIn, Within, baseSum, pairGap}
-use Rattle.call_genotypes.proofs.GapLaws.{times-size}
+use Rattle.call_genotypes.proofs.Turns.{times-size}
 
 -- a number in −n..0
 pub down-abs : (n : ℕ) (z : ℤ) → DownTo n z → natAbs z ≤ n

@@ -207,7 +207,11 @@ fn neither_sum(quals: &[i32], acc: &[i64; 12], a: usize, e: usize, phased: bool,
     ensures { λ r. ⌜ (r ≡ neitherSum phased g1 (now (quals .entry)) (now (acc .entry)) a e) × (natAbs r ≤ 2 ^ 53) ⌝ }
 {
     let n = base_sum(acc, e - a);
-    if phased { n - acc[4 * g1 + 2] } else { n + sum_quals(quals, a, e) }
+    if phased {
+        n - acc[4 * g1 + 2]
+    } else {
+        n + sum_quals(quals, a, e)
+    }
 }
 
 // How far the score of (i, j) is above that.
@@ -215,7 +219,11 @@ fn pair_gap(acc: &[i64; 12], i: usize, j: usize) -> i64
     requires { ⌜ (i < 3) × (j < 3) × Within (2 ^ 50) (now acc) ⌝ }
     ensures { λ r. ⌜ r ≡ pairGap (now (acc .entry)) i j ⌝ }
 {
-    if i == j { acc[4 * i + 2] } else { acc[4 * i] + acc[4 * j + 1] }
+    if i == j {
+        acc[4 * i + 2]
+    } else {
+        acc[4 * i] + acc[4 * j + 1]
+    }
 }
 
 // The score of (i, j), whose prior stands at `at`.

@@ -1,5 +1,5 @@
 -- `call_genotypes::score::make_turns` meets its contract: two stores, at an unphased variant none. Assumes nothing.
-use mathlib.Core.Path.{_≡_, ap, _∙_}
+use mathlib.Core.Path.{_≡_, ap}
 use mathlib.Core.List.{List}
 use Prim.Native.Nat.{_≤_}
 use native.Mathlib.Omega.{arith}
@@ -9,7 +9,7 @@ use lib.IntN.{ℤ, pos, natAbs, _+ℤ_, _-ℤ_}
 use mir.Syntax.{w64}
 use mir.Val.{SFits, toZ, ofZ}
 use Rattle.steps.proofs.Signed.{read-small, sfits, add-abs, minus-abs}
-use Rattle.call_genotypes.proofs.GapLaws.{once-stored, turns-made, no-turns}
+use Rattle.call_genotypes.proofs.Turns.{once-stored, turns-made, no-turns}
 use Rattle.call_genotypes.proofs.Tables.{replicate-at}
 use Rattle.call_genotypes.proofs.score.make_turns.Statement.{statement}
 use Rattle.call_genotypes.proofs.score.make_turns.Tie as tie

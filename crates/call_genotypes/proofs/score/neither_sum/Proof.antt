@@ -1,10 +1,10 @@
 -- `call_genotypes::score::neither_sum` meets its contract: one term more, subtracted or added, does not wrap. Assumes nothing.
-use mathlib.Core.Path.{_≡_, ap, _∙_}
-use Prim.Native.Nat.{_+_, _-_, _*_, _^_, _≤_, _<_}
+use mathlib.Core.Path.{ap, _∙_}
+use Prim.Native.Nat.{_+_, _-_, _*_, _^_, _≤_}
 use native.Mathlib.Omega.{arith}
 use borrow.Author.Needs.{needs}
 use lib.ListN.{getD}
-use lib.IntN.{ℤ, pos, natAbs, _+ℤ_, _-ℤ_}
+use lib.IntN.{ℤ, pos, natAbs, _-ℤ_}
 use mir.Syntax.{w64}
 use Rattle.steps.proofs.Signed.{plus-fits, plus-read, minus-fits, minus-read, add-abs, minus-abs}
 use Rattle.call_genotypes.proofs.Sizes.{base-size}

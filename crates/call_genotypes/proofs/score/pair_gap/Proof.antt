@@ -1,11 +1,10 @@
 -- `call_genotypes::score::pair_gap` meets its contract: a sum, or two of them added, none above 2^50. Assumes nothing.
-use mathlib.Core.Path.{_≡_}
 use Prim.Native.Nat.{_+_, _*_, _^_, _<_}
 use native.Mathlib.Omega.{arith}
 use borrow.Author.Needs.{needs}
 use borrow.Author.Tests.{eq-eqb, ne-eqb}
 use lib.ListN.{getD}
-use lib.IntN.{ℤ, pos, natAbs, _+ℤ_}
+use lib.IntN.{ℤ, pos, natAbs}
 use mir.Syntax.{w64}
 use Rattle.steps.proofs.Signed.{plus-fits, plus-read, read-small}
 use Rattle.call_genotypes.proofs.score.pair_gap.Statement.{statement}

@@ -6,7 +6,7 @@ use borrow.Author.Needs.{needs}
 use mir.Syntax.{w64}
 use mir.Val.{toZ, ofZ}
 use Rattle.steps.proofs.Signed.{read-back}
-use Rattle.call_genotypes.proofs.GapLaws.{turn-small}
+use Rattle.call_genotypes.proofs.Turns.{turn-small}
 use Rattle.call_genotypes.proofs.Linked.{lik-within, pile-in, quals-in, scores-room, first-three, second-three, scored}
 use Rattle.call_genotypes.proofs.score.scores.Statement.{statement}
 use Rattle.call_genotypes.proofs.score.scores.Tie as tie

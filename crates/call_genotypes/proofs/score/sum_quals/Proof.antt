@@ -63,10 +63,12 @@ loop-again c =
     let i = c .before in
     let l = i .before .loop in
     let s = st i in
-    let n : l .p + 1 - s .args .a ≡ (l .p - s .args .a) + 1 = omega (arith, l .inv .0) in
-    (omega (arith, l .inv .0), rw n (running-more _ top (s .args .e - s .args .a) (toZ w64 (l .n)) _ (l .p - s .args .a) (l .inv .1) (omega (arith, i .loop-test .taken, l .inv .0))
-    (added-read (toZ w64 (l .n)) (c .quality-at .result) (its i) (added c) (omega (arith, l .inv .1 .small, small i, few i)))
-    (omega (arith, small i))))
+    let n : l .p + 1 - s .args .a ≡ (l .p - s .args .a) + 1 = omega (arith, l .inv .0) in (
+      omega (arith, l .inv .0),
+      rw n (running-more _ top (s .args .e - s .args .a) (toZ w64 (l .n)) _ (l .p - s .args .a) (l .inv .1) (omega (arith, i .loop-test .taken, l .inv .0))
+          (added-read (toZ w64 (l .n)) (c .quality-at .result) (its i) (added c) (omega (arith, l .inv .1 .small, small i, few i)))
+          (omega (arith, small i))),
+    )
 
 returns : tie.Need-returns Inv-loop μ-loop
 unfolding qualSum

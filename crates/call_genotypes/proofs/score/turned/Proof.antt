@@ -1,14 +1,12 @@
 -- `call_genotypes::score::turned` meets its contract: a product with −1, 0 or 1 does not wrap. Assumes nothing.
-use mathlib.Core.Path.{_≡_}
 use Prim.Native.Nat.{_^_, _≤_}
 use native.Mathlib.Omega.{arith}
 use borrow.Author.Needs.{needs}
 use lib.ListN.{getD}
 use lib.IntN.{ℤ, pos, natAbs, _*ℤ_}
 use mir.Syntax.{w64}
-use mir.Val.{toZ, ofZ}
 use Rattle.steps.proofs.Signed.{read-small, sfits}
-use Rattle.call_genotypes.proofs.GapLaws.{times-size}
+use Rattle.call_genotypes.proofs.Turns.{times-size}
 use Rattle.call_genotypes.proofs.score.turned.Statement.{statement}
 use Rattle.call_genotypes.proofs.score.turned.Tie as tie
 
