@@ -85,7 +85,7 @@ pub record Summing (value : Row → ℕ → ℤ) (row : ℕ → Row) (a e p : �
   pub from : a ≤ p
   pub few : p ≤ a + 16384
   pub long : length acc ≡ 12
-  pub small : Within ((p - a) * 2 ^ 34) acc
+  pub small : Within ((p - a) * 2 ^ 35) acc
   pub left : (x w : ℕ) → w < 4 → getD acc (4 * x + w) (pos 0) +ℤ alleleSum value (tabulateFrom row p (e - p)) x w ≡ alleleSum value (tabulateFrom row a (e - a)) x w
 
 module _ (value : Row → ℕ → ℤ) (row : ℕ → Row) (a e : ℕ) where
@@ -99,12 +99,12 @@ module _ (value : Row → ℕ → ℤ) (row : ℕ → Row) (a e : ℕ) where
   }
 
   pub summing-step : (p : ℕ) (acc acc' : List ℤ) (val : ℕ → ℤ) (x : ℕ) → Summing value row a e p acc → p < e → e ≤ a + 16384 → x ≡ row p .call .allele → x < 3
-      → ((w : ℕ) → val w ≡ value (row p) w) → ((w : ℕ) → natAbs (val w) ≤ 2 ^ 34) → acc' ≡ addFour val x acc → Summing value row a e (p + 1) acc'
+      → ((w : ℕ) → val w ≡ value (row p) w) → ((w : ℕ) → natAbs (val w) ≤ 2 ^ 35) → acc' ≡ addFour val x acc → Summing value row a e (p + 1) acc'
   summing-step p acc acc' val x s l f ex low ev size q = record {
     from = omega arith;
     few = omega arith;
     long = rw q (added-length val x acc (s .long) low);
-    small = λ i. rw q (let k = added-small val x acc (s .long) low ((p - a) * 2 ^ 34) (2 ^ 34) (s .small) size i in omega arith);
+    small = λ i. rw q (let k = added-small val x acc (s .long) low ((p - a) * 2 ^ 35) (2 ^ 35) (s .small) size i in omega arith);
     left = left-on;
   }
     where

@@ -1,6 +1,8 @@
 pub mod Tables
+pub mod Turns
+pub mod GapLaws
+pub mod GapSums
 pub mod Sizes
-pub mod FourValues
 pub mod Fours
 pub mod Written
 pub mod Linked
@@ -25,7 +27,6 @@ pub mod NormalizedLaws
 pub mod TallyLaws
 pub mod CountLaws
 pub mod ScoreLaws
-pub mod PairSums
 pub mod PosteriorLaws
 pub mod AnswerLaws
 pub mod CallLaws

@@ -9,7 +9,7 @@ use borrow.Author.Tests.{eq-eqb, ne-eqb}
 use lib.Dec.{T, eqb, eqb→eq}
 use lib.ListN.{length, getD, length-map, List·getD-eq-default}
 use lib.Seq.{slice, slice-cons, length-slice, sets}
-use lib.IntN.{ℤ, pos, _+ℤ_}
+use lib.IntN.{ℤ, pos, _+ℤ_, +ℤ-assoc}
 use Rattle.steps.proofs.Signed.{cases}
 use Rattle.variants_and_fragments.specs.Case.{Call, All, end, also}
 use Rattle.variants_and_fragments.specs.Pileup.{Row, noRow, rowOf}
@@ -19,12 +19,16 @@ use Rattle.variants_and_fragments.specs.Decode.{tabulateFrom}
 use Rattle.variants_and_fragments.proofs.Alls.{all-at, all-imp}
 use Rattle.sweeps.specs.Sweeps.{SweepCase, allele0, allele1, score, scoreWith, mixOf}
 use Rattle.sweeps.specs.Incremental.{rowsIn, pileupFrom, share, whichValue, rowValue}
+use Rattle.variants_and_fragments.specs.Sums.{sumOver}
+use Rattle.genotype_probs.proofs.TableSums.{pair-in}
 use Rattle.sweeps.proofs.Basics.{sumOver-cong}
 use Rattle.sweeps.proofs.Scored.{score-pileup}
-use Rattle.sweeps.proofs.Fours.{share-value, allele-sums}
+use Rattle.sweeps.proofs.Fours.{share-value}
 use Rattle.call_genotypes.specs.Held.{GoodRow, Held, Liks}
-use Rattle.call_genotypes.specs.Scores.{rowAt, rowsAt, rowFour, PileIn, Within, AlleleSums, pairSum, scoresOf, ScoresRoom, Standing, rawScores}
-use Rattle.call_genotypes.proofs.Sizes.{down-abs, which-low}
+use Rattle.call_genotypes.specs.Scores.{rowAt, rowsAt, rowGaps, turn, PileIn, Within, AlleleSums, QualsIn, neitherSum, pairGap, scoresOf, ScoresRoom, Standing, rawScores}
+use Rattle.call_genotypes.proofs.GapLaws.{rowFour}
+use Rattle.call_genotypes.proofs.GapSums.{pairs-are, neither-are}
+use Rattle.call_genotypes.proofs.Sizes.{down-abs}
 use Rattle.call_genotypes.proofs.Tables.{table-length, table-from, table-same}
 
 -- ---- the rows of a pile
@@ -118,6 +122,13 @@ module _ {C : SweepCase} {ks ph : List ℕ} {pri : List ℤ} {ends who : List �
       };
     }
 
+    pub quals-in : QualsIn quals (pileStart ends v) (getD ends v 0)
+    quals-in = let P = pile-in (2 * length (C .frags)) refl in record {
+      few = P .few;
+      long = λ p a b. P .rows-in p a b .quals-long;
+      small = λ p a b. P .rows-in p a b .qual-small;
+    }
+
     -- the byte is 1 for a phased variant
     pub phased-is : not (eqb (getD ph v 0) 0) ≡ C .phased v
     phased-is = rw (H .ph-are v in-n) (go (C .phased v))
@@ -158,25 +169,47 @@ module _ {C : SweepCase} {ks ph : List ℕ} {pri : List ℤ} {ends who : List �
   unfolding rowValue rowFour
   value-is row w = let m : C .mix ≡ mixOf = fun-ext (λ a. fun-ext (λ b. S .held .mix-is a b)) in rw m
 
-  pair-score-is : (acc : List ℤ) → AlleleSums values (pileupFrom v 0 (C .frags)) acc → (i j : ℕ) → C .prior v i j +ℤ pairSum acc i j ≡ scoreWith C v h i j
-  pair-score-is acc A i j = sym
-      (score-pileup C (S .held .good .rise) v h (omega (arith, S .haps .len, S .v-in)) L0 L1 (S .liks .firsts) (S .liks .seconds) i j
-      ∙ ap (λ z. C .prior v i j +ℤ z)
-      (sumOver-cong (pileupFrom v 0 (C .frags)) (share C v h L0 L1 i j) (λ row. values row (whichValue i j (row .call .allele)))
-      (λ row. share-value C v h L0 L1 i j row ∙ value-is row (whichValue i j (row .call .allele)))
-      ∙ sym (allele-sums values (whichValue i j) (pileupFrom v 0 (C .frags)) (all-imp (λ row g. g .allele-in) (S .held .rows-in v (S .v-in))))
-      ∙ sym (cc (A .sums 0 (whichValue i j 0) (omega arith) (which-low i j 0), A .sums 1 (whichValue i j 1) (omega arith) (which-low i j 1), A .sums 2 (whichValue i j 2) (omega arith) (which-low i j 2)))))
+  abbrev pile-of : List Row
+  pile-of = pileupFrom v 0 (C .frags)
 
-  pub scores-are : (acc : List ℤ) → AlleleSums values (pileupFrom v 0 (C .frags)) acc → scoresOf pri acc v (C .k v) ≡ rawScores (C .k v) (score C v h)
-  unfolding score
-  scores-are acc A = table-same _ _ 0 (C .k v * C .k v) (λ p a b.
-      let l : p < C .k v * C .k v = omega arith in
-      ap (λ z. z +ℤ pairSum acc (p / C .k v) (p % C .k v)) (S .held .pri-are v p (S .v-in) l) ∙ pair-score-is acc A (p / C .k v) (p % C .k v))
+  module _ (alpha acc : List ℤ) (base : ℤ) (turns : (x : ℕ) → getD alpha x (pos 0) ≡ turn (C .phased v) (allele0 h v) (allele1 h v) x) (A : AlleleSums (rowGaps alpha lik) pile-of acc)
+      (b : base ≡ sumOver pile-of (λ row. values row 0)) where
+    pair-score-is : (i j : ℕ) → i < 3 → j < 3 → (C .prior v i j +ℤ base) +ℤ pairGap acc i j ≡ scoreWith C v h i j
+    pair-score-is i j l m = sym
+        (score-pileup C (S .held .good .rise) v h (omega (arith, S .haps .len, S .v-in)) L0 L1 (S .liks .firsts) (S .liks .seconds) i j
+        ∙ ap (λ z. C .prior v i j +ℤ z)
+        (sumOver-cong pile-of (share C v h L0 L1 i j) (λ row. values row (whichValue i j (row .call .allele)))
+        (λ row. share-value C v h L0 L1 i j row ∙ value-is row (whichValue i j (row .call .allele)))
+        ∙ pairs-are (C .phased v) (allele0 h v) (allele1 h v) alpha lik turns pile-of acc A i j l m
+        ∙ ap (λ z. z +ℤ pairGap acc i j) (sym b))
+        ∙ sym (+ℤ-assoc (C .prior v i j) base (pairGap acc i j)))
 
-  -- the same from what the code has: the start of the pile and the flag of a phased variant
-  pub scored : (a : ℕ) (acc post' : List ℤ) → a ≡ pileStart ends v
-      → AlleleSums (rowFour (not (eqb (getD ph v 0) 0)) (allele0 h v) (allele1 h v) lik) (rowsAt v who quals one-minus-quals a (getD ends v 0)) acc
-      → post' ≡ sets post (9 * v) (scoresOf pri acc v (getD ks v 0)) → post' ≡ sets post (9 * v) (rawScores (C .k v) (score C v h))
-  scored a acc post' e A q =
-      let B = rw (e, phased-is (S .held) v (S .v-in), pile-rows (S .held) v (S .v-in)) at A in
-      q ∙ rw (S .held .ks-are v (S .v-in), scores-are acc B)
+    scores-are : scoresOf pri acc base v (C .k v) ≡ rawScores (C .k v) (score C v h)
+    unfolding score
+    scores-are = table-same _ _ 0 (C .k v * C .k v) (λ p a e.
+        let l : p < C .k v * C .k v = omega arith in
+        let n = pair-in (C .k v) p (S .held .good .some-allele v (S .v-in)) l in
+        let t = S .held .good .three-alleles v (S .v-in) in
+        ap (λ z. (z +ℤ base) +ℤ pairGap acc (p / C .k v) (p % C .k v)) (S .held .pri-are v p (S .v-in) l) ∙ pair-score-is (p / C .k v) (p % C .k v) (omega arith) (omega arith))
+
+  -- the alleles that stand are two of three
+  pub first-three : allele0 h v < 3
+  first-three = omega (arith, S .haps .low v (S .v-in), S .held .good .three-alleles v (S .v-in))
+
+  pub second-three : allele1 h v < 3
+  second-three = omega (arith, S .haps .high v (S .v-in), S .held .good .three-alleles v (S .v-in))
+
+  -- the same from what the code has: the start of the pile, the flag of a phased variant, each allele's turn and the sums
+  pub scored : (a : ℕ) (alpha acc post' : List ℤ) (base : ℤ) → a ≡ pileStart ends v
+      → ((x : ℕ) → getD alpha x (pos 0) ≡ turn (not (eqb (getD ph v 0) 0)) (allele0 h v) (allele1 h v) x)
+      → AlleleSums (rowGaps alpha lik) (rowsAt v who quals one-minus-quals a (getD ends v 0)) acc
+      → base ≡ neitherSum (not (eqb (getD ph v 0) 0)) (allele1 h v) quals acc a (getD ends v 0)
+      → post' ≡ sets post (9 * v) (scoresOf pri acc base v (getD ks v 0)) → post' ≡ sets post (9 * v) (rawScores (C .k v) (score C v h))
+  scored a alpha acc post' base e turns A b q =
+      let w = rw (phased-is (S .held) v (S .v-in)) at turns in
+      let r = pile-rows (S .held) v (S .v-in) in
+      let low = all-imp (λ row g. g .allele-in) (S .held .rows-in v (S .v-in)) in
+      let B = rw (e, r) at A in
+      let n = neither-are (C .phased v) (allele0 h v) (allele1 h v) alpha lik w second-three v who quals one-minus-quals (pileStart ends v) (getD ends v 0) acc (rw r B) (rw r low) in
+      let c = rw (e, phased-is (S .held) v (S .v-in), n, r) at b in
+      q ∙ rw (S .held .ks-are v (S .v-in), scores-are alpha acc base w B c)

@@ -33,7 +33,7 @@ use Rattle.call_genotypes.specs.NoHaplotypes.{mixed, callScore, pairScor
 use Rattle.call_genotypes.specs.Tally.{bothGain, oneGain, gainAt, Tallied, pairGain, gained}
 
 -- ---- sums
-sum-plus : {X : Type 0} (xs : List X) (f g : X → ℤ) → sumOver xs (λ x. f x +ℤ g x) ≡ sumOver xs f +ℤ sumOver xs g
+pub sum-plus : {X : Type 0} (xs : List X) (f g : X → ℤ) → sumOver xs (λ x. f x +ℤ g x) ≡ sumOver xs f +ℤ sumOver xs g
 unfolding sumOver
 sum-plus [] f g = refl
 sum-plus (x ∷ xs) f g =

@@ -1,20 +1,18 @@
--- How far from 0 likelihoods, a call's four values and their sums lie: nothing that a visit adds up leaves an i64. Assumes nothing.
-use mathlib.Core.Path.{_≡_, sym, _∙_}
+-- How far from 0 likelihoods, a call's four numbers and their sums lie: nothing that a visit adds up leaves an i64. Assumes nothing.
+use mathlib.Core.Path.{_≡_, _∙_}
 use mathlib.Core.Bool.{Bool, true, false, cond}
 use mathlib.Core.List.{List}
-use Prim.Native.Nat.{ℕ, zero, suc, _+_, _*_, _/_, _%_, _^_, _<_, _≤_}
+use Prim.Native.Nat.{ℕ, zero, suc, _+_, _*_, _/_, _%_, _^_, _≤_}
 use native.Mathlib.Omega.{arith}
 use lib.Dec.{eqb}
 use lib.ListN.{length, getD}
-use lib.IntN.{ℤ, pos, natAbs, _+ℤ_, _-ℤ_}
+use lib.IntN.{ℤ, pos, natAbs, _+ℤ_, _-ℤ_, _*ℤ_}
 use Rattle.steps.proofs.Signed.{zlin, up-pos, dn-pos, neg-up, neg-dn, natAbs-parts, by-sign, add-abs, minus-abs}
 use Rattle.steps.proofs.AddExp.{add-size}
-use Rattle.variants_and_fragments.specs.Case.{Call}
 use Rattle.variants_and_fragments.specs.Sums.{DownTo}
-use Rattle.sweeps.specs.Sweeps.{callTerm, mixOf}
-use Rattle.sweeps.specs.Incremental.{fourValue, whichValue}
-use Rattle.call_genotypes.specs.declared.score.Four.{Four}
-use Rattle.call_genotypes.specs.Scores.{rowAt, valueOf, rowFour, RowIn, Within, ofAllele, pairSum}
+use Rattle.call_genotypes.specs.declared.score.Gaps.{Gaps}
+use Rattle.call_genotypes.specs.Scores.{onePlus, gapValue, rowAt, valueOf, rowGaps, RowIn, Within, baseSum, pairGap}
+use Rattle.call_genotypes.proofs.Turns.{times-size}
 
 -- a number in −n..0
 pub down-abs : (n : ℕ) (z : ℤ) → DownTo n z → natAbs z ≤ n
@@ -25,83 +23,73 @@ down-abs n z d =
     let v = neg-dn (pos n) in
     by-sign z (λ e. omega (zlin, natAbs-parts z, up-pos 0, dn-pos 0, up-pos n, dn-pos n)) (λ e. omega (zlin, natAbs-parts z, up-pos n, dn-pos n))
 
--- b + q, less 4,096
-pub half-size : (b q : ℤ) → natAbs b ≤ 2 ^ 33 → natAbs q ≤ 2 ^ 18 → natAbs ((b +ℤ q) -ℤ pos 4096) ≤ 2 ^ 33 + 2 ^ 18 + 4096
-half-size b q h k = omega (arith, minus-abs (b +ℤ q) (pos 4096), add-abs b q)
+-- ---- a call's four numbers
+pub one-plus-size : (d : ℤ) (n : ℕ) → natAbs d ≤ n → natAbs (onePlus d) ≤ n + 4096
+one-plus-size d n h = add-size d (pos 0) n h (omega arith)
 
--- the mix of two such sums
-pub halves-size : (b c q o : ℤ) → natAbs b ≤ 2 ^ 33 → natAbs c ≤ 2 ^ 33 → natAbs q ≤ 2 ^ 18 → natAbs o ≤ 2 ^ 18 → natAbs (mixOf (b +ℤ q) (c +ℤ o)) ≤ 2 ^ 34
-unfolding mixOf
-halves-size b c q o hb hc hq ho =
-    omega (arith, add-size ((b +ℤ q) -ℤ pos 4096) ((c +ℤ o) -ℤ pos 4096) (2 ^ 33 + 2 ^ 18 + 4096) (half-size b q hb hq) (half-size c o hc ho))
+module _ (b d g : ℤ) (hb : natAbs b ≤ 2 ^ 32) (hd : natAbs d ≤ 2 ^ 33 + 2 ^ 20) (hg : natAbs g ≤ 2 ^ 19) where
+  pub here-size : natAbs (onePlus d) ≤ 2 ^ 33 + 2 ^ 21
+  here-size = omega (arith, one-plus-size d (2 ^ 33 + 2 ^ 20) hd)
 
--- a call's four values
-pub four-size : (b0 b1 : ℤ) (c : Call) (w : ℕ) → natAbs b0 ≤ 2 ^ 33 → natAbs b1 ≤ 2 ^ 33 → natAbs (c .qual) ≤ 2 ^ 18 → natAbs (c .one-minus-qual) ≤ 2 ^ 18
-    → natAbs (fourValue mixOf b0 b1 c w) ≤ 2 ^ 34
-unfolding fourValue
-four-size b0 b1 c zero h0 h1 hq ho = halves-size b0 b1 (c .qual) (c .qual) h0 h1 hq hq
-four-size b0 b1 c (suc zero) h0 h1 hq ho = halves-size b0 b1 (c .one-minus-qual) (c .qual) h0 h1 ho hq
-four-size b0 b1 c (suc (suc zero)) h0 h1 hq ho = halves-size b0 b1 (c .qual) (c .one-minus-qual) h0 h1 hq ho
-four-size b0 b1 c (suc (suc (suc w))) h0 h1 hq ho = halves-size b0 b1 (c .one-minus-qual) (c .one-minus-qual) h0 h1 ho ho
+  pub above-size : natAbs (onePlus (d +ℤ g)) ≤ 2 ^ 33 + 2 ^ 21
+  above-size = omega (arith, one-plus-size (d +ℤ g) (2 ^ 33 + 2 ^ 20 + 2 ^ 19) (omega (arith, add-abs d g)))
 
--- the four values by number
-pub four-cases : (r : Four) (b0 b1 q o : ℤ) → r .none ≡ mixOf (b0 +ℤ q) (b1 +ℤ q) → r .first ≡ mixOf (b0 +ℤ o) (b1 +ℤ q) → r .second ≡ mixOf (b0 +ℤ q) (b1 +ℤ o)
-    → r .both ≡ mixOf (b0 +ℤ o) (b1 +ℤ o) → (c : Call) (w : ℕ) → c .qual ≡ q → c .one-minus-qual ≡ o → valueOf r w ≡ fourValue mixOf b0 b1 c w
-unfolding valueOf fourValue
-four-cases r b0 b1 q o n f s b c zero eq eo = rw (eq) n
-four-cases r b0 b1 q o n f s b c (suc zero) eq eo = rw (eq, eo) f
-four-cases r b0 b1 q o n f s b c (suc (suc zero)) eq eo = rw (eq, eo) s
-four-cases r b0 b1 q o n f s b c (suc (suc (suc w))) eq eo = rw eo b
+  pub below-size : natAbs (onePlus (d -ℤ g)) ≤ 2 ^ 33 + 2 ^ 21
+  below-size = omega (arith, one-plus-size (d -ℤ g) (2 ^ 33 + 2 ^ 20 + 2 ^ 19) (omega (arith, minus-abs d g)))
 
--- what a call itself adds
-pub own-size : (phased hit : Bool) (q o : ℤ) → natAbs q ≤ 2 ^ 18 → natAbs o ≤ 2 ^ 18 → natAbs (cond phased (cond hit o q) (pos 0)) ≤ 2 ^ 18
-own-size true true q o hq ho = ho
-own-size true false q o hq ho = hq
-own-size false hit q o hq ho = omega arith
+  pub gap-size : (w : ℕ) → natAbs (gapValue b d g w) ≤ 2 ^ 35
+  unfolding gapValue
+  gap-size zero = omega (arith, minus-abs (onePlus (d +ℤ g)) (onePlus d), above-size, here-size)
+  gap-size (suc zero) = omega (arith, add-abs (onePlus (d -ℤ g) -ℤ onePlus d) g, minus-abs (onePlus (d -ℤ g)) (onePlus d), below-size, here-size)
+  gap-size (suc (suc zero)) = omega arith
+  gap-size (suc (suc (suc w))) = omega (arith, add-abs b (onePlus d), here-size)
 
-pub base-size : (l y : ℤ) → natAbs l ≤ 2 ^ 32 → natAbs y ≤ 2 ^ 18 → natAbs (l -ℤ y) ≤ 2 ^ 33
-base-size l y h k = omega (arith, minus-abs l y)
+-- the four numbers by number
+pub gap-values : (r : Gaps) (b d g : ℤ) → r .first ≡ onePlus (d +ℤ g) -ℤ onePlus d → r .second ≡ (onePlus (d -ℤ g) -ℤ onePlus d) +ℤ g → r .both ≡ g → r .base ≡ b +ℤ onePlus d
+    → (w : ℕ) → valueOf r w ≡ gapValue b d g w
+unfolding valueOf gapValue
+gap-values r b d g f s t e zero = f
+gap-values r b d g f s t e (suc zero) = s
+gap-values r b d g f s t e (suc (suc zero)) = t
+gap-values r b d g f s t e (suc (suc (suc w))) = e
 
--- the values of a row
-module _ (who : List ℕ) (quals one-minus-quals lik : List ℤ) (v p : ℕ) (phased : Bool) (g0 g1 : ℕ) where
-  pub row-size : RowIn (length lik) who quals one-minus-quals p → Within (2 ^ 32) lik → (w : ℕ) → natAbs (rowFour phased g0 g1 lik (rowAt v who quals one-minus-quals p) w) ≤ 2 ^ 34
-  unfolding rowFour rowAt callTerm
-  row-size R W w =
-      let q = getD quals p (pos 0) in
-      let o = getD one-minus-quals p (pos 0) in
-      let l0 = getD lik (2 * (getD who p 0 / 4)) (pos 0) in
-      let l1 = getD lik (2 * (getD who p 0 / 4) + 1) (pos 0) in
-      let y0 = cond phased (cond (eqb (getD who p 0 % 4) g0) o q) (pos 0) in
-      let y1 = cond phased (cond (eqb (getD who p 0 % 4) g1) o q) (pos 0) in
-      four-size (l0 -ℤ y0) (l1 -ℤ y1) (rowAt v who quals one-minus-quals p .call) w
-      (base-size l0 y0 (W (2 * (getD who p 0 / 4))) (own-size phased (eqb (getD who p 0 % 4) g0) q o (R .qual-small) (R .one-minus-qual-small)))
-      (base-size l1 y1 (W (2 * (getD who p 0 / 4) + 1)) (own-size phased (eqb (getD who p 0 % 4) g1) q o (R .qual-small) (R .one-minus-qual-small)))
-      (R .qual-small) (R .one-minus-qual-small)
+pub quality-gap-size : (q o : ℤ) → natAbs q ≤ 2 ^ 18 → natAbs o ≤ 2 ^ 18 → natAbs (o -ℤ q) ≤ 2 ^ 19
+quality-gap-size q o h k = omega (arith, minus-abs o q)
 
-  -- from the bases that the code has
-  pub row-values : (r : Four) (q o b0 b1 : ℤ) → q ≡ getD quals p (pos 0) → o ≡ getD one-minus-quals p (pos 0)
-      → b0 ≡ getD lik (2 * (getD who p 0 / 4)) (pos 0) -ℤ cond phased (cond (eqb (getD who p 0 % 4) g0) o q) (pos 0)
-      → b1 ≡ getD lik (2 * (getD who p 0 / 4) + 1) (pos 0) -ℤ cond phased (cond (eqb (getD who p 0 % 4) g1) o q) (pos 0)
-      → ((c : Call) (w : ℕ) → c .qual ≡ q → c .one-minus-qual ≡ o → valueOf r w ≡ fourValue mixOf b0 b1 c w)
-      → (w : ℕ) → valueOf r w ≡ rowFour phased g0 g1 lik (rowAt v who quals one-minus-quals p) w
-  unfolding rowFour rowAt callTerm
-  row-values r q o b0 b1 eq eo e0 e1 f w = f (rowAt v who quals one-minus-quals p .call) w (sym eq) (sym eo) ∙ rw (e0, e1, eq, eo)
+pub distance-size : (l b y : ℤ) → natAbs l ≤ 2 ^ 32 → natAbs b ≤ 2 ^ 32 → natAbs y ≤ 2 ^ 19 → natAbs ((l -ℤ b) +ℤ y) ≤ 2 ^ 33 + 2 ^ 20
+distance-size l b y hl hb hy = omega (arith, add-abs (l -ℤ b) y, minus-abs l b)
 
--- ---- a pair's value, and the sum of its three
-pub one-or-none : (b : Bool) → cond b 1 0 ≤ 1
-one-or-none true = omega arith
-one-or-none false = omega arith
+-- the numbers of a row
+module _ (who : List ℕ) (quals one-minus-quals lik alpha : List ℤ) (v p : ℕ) where
+  pub row-size : RowIn (length lik) who quals one-minus-quals p → Within (2 ^ 32) lik → Within 1 alpha → (w : ℕ) → natAbs (rowGaps alpha lik (rowAt v who quals one-minus-quals p) w) ≤ 2 ^ 35
+  unfolding rowGaps rowAt
+  row-size R W A w =
+      let f = 2 * (getD who p 0 / 4) in
+      let g = getD one-minus-quals p (pos 0) -ℤ getD quals p (pos 0) in
+      let y = getD alpha (getD who p 0 % 4) (pos 0) *ℤ g in
+      let hg = quality-gap-size (getD quals p (pos 0)) (getD one-minus-quals p (pos 0)) (R .qual-small) (R .one-minus-qual-small) in
+      gap-size (getD lik (f + 1) (pos 0)) ((getD lik f (pos 0) -ℤ getD lik (f + 1) (pos 0)) +ℤ y) g (W (f + 1))
+      (distance-size (getD lik f (pos 0)) (getD lik (f + 1) (pos 0)) y (W f) (W (f + 1)) (times-size (getD alpha (getD who p 0 % 4) (pos 0)) g (2 ^ 19) (A (getD who p 0 % 4)) hg))
+      hg w
 
-pub two-or-none : (b : Bool) → cond b 2 0 ≤ 2
-two-or-none true = omega arith
-two-or-none false = omega arith
+  -- from what the code has
+  pub row-values : (r : Gaps) (b d g : ℤ) → g ≡ getD one-minus-quals p (pos 0) -ℤ getD quals p (pos 0) → b ≡ getD lik (2 * (getD who p 0 / 4) + 1) (pos 0)
+      → d ≡ (getD lik (2 * (getD who p 0 / 4)) (pos 0) -ℤ b) +ℤ (getD alpha (getD who p 0 % 4) (pos 0) *ℤ g)
+      → ((w : ℕ) → valueOf r w ≡ gapValue b d g w) → (w : ℕ) → valueOf r w ≡ rowGaps alpha lik (rowAt v who quals one-minus-quals p) w
+  unfolding rowGaps rowAt
+  row-values r b d g eg eb ed f w = f w ∙ cc
 
-pub which-low : (i j x : ℕ) → whichValue i j x < 4
-which-low i j x = omega (arith, one-or-none (eqb x i), two-or-none (eqb x j))
+-- ---- the three parts of a pair's score
+pub base-size : (acc : List ℤ) (n : ℕ) → Within (2 ^ 50) acc → n ≤ 16384 → natAbs (baseSum acc n) ≤ 2 ^ 52
+base-size acc n W h =
+    omega (arith, minus-abs ((getD acc 3 (pos 0) +ℤ getD acc 7 (pos 0)) +ℤ getD acc 11 (pos 0)) (pos (4096 * n)), add-abs (getD acc 3 (pos 0) +ℤ getD acc 7 (pos 0)) (getD acc 11 (pos 0)), add-abs (getD acc 3 (pos 0)) (getD acc 7 (pos 0)), W 3, W 7, W 11)
 
-pub pair-size : (acc : List ℤ) (i j : ℕ) → Within (2 ^ 50) acc → natAbs (pairSum acc i j) ≤ 2 ^ 52
-pair-size acc i j W =
-    omega (arith, add-abs (ofAllele acc 0 i j +ℤ ofAllele acc 1 i j) (ofAllele acc 2 i j), add-abs (ofAllele acc 0 i j) (ofAllele acc 1 i j), W (4 * 0 + whichValue i j 0), W (4 * 1 + whichValue i j 1), W (4 * 2 + whichValue i j 2))
+pub pair-size : (acc : List ℤ) (i j : ℕ) → Within (2 ^ 50) acc → natAbs (pairGap acc i j) ≤ 2 ^ 51
+pair-size acc i j W = go (eqb i j)
+  where
+    go : (t : Bool) → natAbs (cond t (getD acc (4 * i + 2) (pos 0)) (getD acc (4 * i) (pos 0) +ℤ getD acc (4 * j + 1) (pos 0))) ≤ 2 ^ 51
+    go true = omega (arith, W (4 * i + 2))
+    go false = omega (arith, add-abs (getD acc (4 * i) (pos 0)) (getD acc (4 * j + 1) (pos 0)), W (4 * i), W (4 * j + 1))
 
 pub either-size : (b : Bool) (q o : ℤ) (n : ℕ) → natAbs q ≤ n → natAbs o ≤ n → natAbs (cond b o q) ≤ n
 either-size true q o n hq ho = ho

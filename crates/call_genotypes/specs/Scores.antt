@@ -1,16 +1,19 @@
 -- What the code of a visit computes from the lent slices, row by row and pair by pair. Assumes nothing.
 use mathlib.Core.Path.{_≡_}
-use mathlib.Core.Bool.{Bool}
+use mathlib.Core.Bool.{Bool, cond}
 use mathlib.Core.List.{List}
 use Prim.Native.Nat.{ℕ, zero, suc, _+_, _-_, _*_, _/_, _%_, _^_, _<_, _≤_}
+use lib.Dec.{eqb}
 use lib.ListN.{length, getD}
 use lib.Seq.{sets}
-use lib.IntN.{ℤ, pos, natAbs, _+ℤ_}
+use lib.IntN.{ℤ, pos, natAbs, _+ℤ_, _-ℤ_, _*ℤ_}
+use Rattle.steps.specs.Logs.{addExp}
 use Rattle.variants_and_fragments.specs.Pileup.{Row, rowOf}
 use Rattle.variants_and_fragments.specs.Decode.{tabulateFrom, tabulate}
-use Rattle.sweeps.specs.Sweeps.{SweepCase, GoodHaps, score, mixOf}
-use Rattle.sweeps.specs.Incremental.{without, fourValue, whichValue, alleleSum}
-use Rattle.call_genotypes.specs.declared.score.Four.{Four}
+use Rattle.variants_and_fragments.specs.Sums.{sumOver}
+use Rattle.sweeps.specs.Sweeps.{SweepCase, GoodHaps, score}
+use Rattle.sweeps.specs.Incremental.{alleleSum}
+use Rattle.call_genotypes.specs.declared.score.Gaps.{Gaps}
 use Rattle.call_genotypes.specs.Held.{Held, Liks}
 
 -- the row of a pile of v that stands at p
@@ -26,17 +29,39 @@ rowAt v who quals one-minus-quals p = rowOf (getD who p 0 / 4) (record {
 abbrev pub rowsAt : ℕ → List ℕ → List ℤ → List ℤ → ℕ → ℕ → List Row
 rowsAt v who quals one-minus-quals a e = tabulateFrom (rowAt v who quals one-minus-quals) a (e - a)
 
--- a struct's four values by number
-unfoldable pub valueOf : Four → ℕ → ℤ
-valueOf r zero = r .none
-valueOf r (suc zero) = r .first
-valueOf r (suc (suc zero)) = r .second
-valueOf r (suc (suc (suc w))) = r .both
+-- ln(1 + exp(d)), in steps
+abbrev pub onePlus : ℤ → ℤ
+onePlus d = addExp d (pos 0)
 
--- a row's value w, where v is at (g0, g1) and lik has the likelihoods that stand
-unfoldable pub rowFour : Bool → ℕ → ℕ → List ℤ → Row → ℕ → ℤ
-rowFour phased g0 g1 lik row w =
-    fourValue mixOf (without phased (getD lik (2 * row .fragment) (pos 0)) (row .call) g0) (without phased (getD lik (2 * row .fragment + 1) (pos 0)) (row .call) g1) (row .call) w
+-- the four numbers of a call whose one_minus_qual is g above its qual, its read having without it a first likelihood d above the second: how far
+-- a score rises over the one where neither haplotype has the call's allele, if the first has (0), the second (1), both (2); and, b being
+-- the read's second likelihood that stands, b plus ln(1 + exp(d)) (3)
+unfoldable pub gapValue : ℤ → ℤ → ℤ → ℕ → ℤ
+gapValue b d g zero = onePlus (d +ℤ g) -ℤ onePlus d
+gapValue b d g (suc zero) = (onePlus (d -ℤ g) -ℤ onePlus d) +ℤ g
+gapValue b d g (suc (suc zero)) = g
+gapValue b d g (suc (suc (suc w))) = b +ℤ onePlus d
+
+-- a struct's four numbers by number
+unfoldable pub valueOf : Gaps → ℕ → ℤ
+valueOf r zero = r .first
+valueOf r (suc zero) = r .second
+valueOf r (suc (suc zero)) = r .both
+valueOf r (suc (suc (suc w))) = r .base
+
+-- how far a row's one_minus_qual is above its qual
+abbrev pub rowGap : Row → ℤ
+rowGap row = row .call .one-minus-qual -ℤ row .call .qual
+
+-- a row's number w, where lik has the likelihoods that stand, and a call of allele x without its own term moves their distance by alpha[x] gaps
+unfoldable pub rowGaps : List ℤ → List ℤ → Row → ℕ → ℤ
+rowGaps alpha lik row w =
+    let b = getD lik (2 * row .fragment + 1) (pos 0) in
+    gapValue b ((getD lik (2 * row .fragment) (pos 0) -ℤ b) +ℤ (getD alpha (row .call .allele) (pos 0) *ℤ rowGap row)) (rowGap row) w
+
+-- [x = g1] − [x = g0] at a phased variant that is at (g0, g1); 0 at an unphased one, whose calls are not in the likelihoods that stand
+unfoldable pub turn : Bool → ℕ → ℕ → ℕ → ℤ
+turn phased g0 g1 x = cond phased (cond (eqb x g1) (pos 1) (pos 0) -ℤ cond (eqb x g0) (pos 1) (pos 0)) (pos 0)
 
 -- the row at p: its ranges, there being room for n likelihoods
 pub record RowIn (n : ℕ) (who : List ℕ) (quals one-minus-quals : List ℤ) (p : ℕ) : Type 0 where
@@ -62,16 +87,32 @@ pub record AlleleSums (value : Row → ℕ → ℤ) (rows : List Row) (acc : Lis
   pub sums : (x w : ℕ) → x < 3 → w < 4 → getD acc (4 * x + w) (pos 0) ≡ alleleSum value rows x w
   pub small : Within (2 ^ 50) acc
 
--- what the calls of allele x add to the score of (i, j)
-abbrev pub ofAllele : List ℤ → ℕ → ℕ → ℕ → ℤ
-ofAllele acc x i j = getD acc (4 * x + whichValue i j x) (pos 0)
+-- the quals at a..e: few, and small
+pub record QualsIn (quals : List ℤ) (a e : ℕ) : Type 0 where
+  pub few : e ≤ a + 16384
+  pub long : (p : ℕ) → a ≤ p → p < e → p < length quals
+  pub small : (p : ℕ) → a ≤ p → p < e → natAbs (getD quals p (pos 0)) ≤ 2 ^ 18
 
-abbrev pub pairSum : List ℤ → ℕ → ℕ → ℤ
-pairSum acc i j = (ofAllele acc 0 i j +ℤ ofAllele acc 1 i j) +ℤ ofAllele acc 2 i j
+-- the sum of the n quals from a on
+unfoldable pub qualSum : List ℤ → ℕ → ℕ → ℤ
+qualSum quals a n = sumOver (tabulateFrom (λ p. getD quals p (pos 0)) a n) (λ q. q)
+
+-- what n calls add to a score if neither haplotype has their alleles, but for the last term of `neitherSum`
+abbrev pub baseSum : List ℤ → ℕ → ℤ
+baseSum acc n = ((getD acc 3 (pos 0) +ℤ getD acc 7 (pos 0)) +ℤ getD acc 11 (pos 0)) -ℤ pos (4096 * n)
+
+-- what the calls at a..e add to a score if neither haplotype has their alleles
+abbrev pub neitherSum : Bool → ℕ → List ℤ → List ℤ → ℕ → ℕ → ℤ
+neitherSum phased g1 quals acc a e =
+    cond phased (baseSum acc (e - a) -ℤ getD acc (4 * g1 + 2) (pos 0)) (baseSum acc (e - a) +ℤ qualSum quals a (e - a))
+
+-- how far the score of (i, j) is above that
+abbrev pub pairGap : List ℤ → ℕ → ℕ → ℤ
+pairGap acc i j = cond (eqb i j) (getD acc (4 * i + 2) (pos 0)) (getD acc (4 * i) (pos 0) +ℤ getD acc (4 * j + 1) (pos 0))
 
 -- the scores of the k × k pairs at v, in row-major order
-abbrev pub scoresOf : List ℤ → List ℤ → ℕ → ℕ → List ℤ
-scoresOf pri acc v k = tabulate (k * k) (λ p. getD pri (9 * v + p) (pos 0) +ℤ pairSum acc (p / k) (p % k))
+abbrev pub scoresOf : List ℤ → List ℤ → ℤ → ℕ → ℕ → List ℤ
+scoresOf pri acc base v k = tabulate (k * k) (λ p. (getD pri (9 * v + p) (pos 0) +ℤ base) +ℤ pairGap acc (p / k) (p % k))
 
 -- acc with value w added at 4 × x + w, w = 0..3
 unfoldable pub addFour : (ℕ → ℤ) → ℕ → List ℤ → List ℤ

@@ -1,60 +1,39 @@
 // The scores of one variant's pairs. A pile's row is a u32 of `who`, 4 times the fragment plus the allele, with its qual in
 // `quals` and its one_minus_qual in `omqs`.
 ghost use mathlib.Core.Path.{_≡_};
-ghost use mathlib.Core.Bool.{cond};
-ghost use Prim.Native.Nat.{ℕ, _+_, _*_, _/_, _%_, _^_, _<_, _≤_};
+ghost use Prim.Native.Nat.{ℕ, _+_, _-_, _*_, _/_, _%_, _^_, _<_, _≤_};
 ghost use lib.ListN.{length, getD, set, replicate};
 ghost use lib.Seq.{sets};
-ghost use lib.IntN.{pos, natAbs, _+ℤ_, _-ℤ_};
-ghost use Rattle.steps.specs.Logs.{addExp};
-ghost use Rattle.variants_and_fragments.specs.Case.{Call};
+ghost use lib.IntN.{pos, natAbs, _+ℤ_, _-ℤ_, _*ℤ_};
 ghost use Rattle.genotype_probs.specs.Posteriors.{firstMaximum};
-ghost use Rattle.sweeps.specs.Sweeps.{SweepCase, score, mixOf};
-ghost use Rattle.sweeps.specs.Incremental.{fourValue};
+ghost use Rattle.sweeps.specs.Sweeps.{SweepCase, score};
 ghost use Rattle.steps.specs.Lines.{lines};
-ghost use Rattle.call_genotypes.specs.Scores.{valueOf, rowAt, rowsAt, rowFour, RowIn, PileIn, Within, AlleleSums, addFour, pairSum, scoresOf, ScoresRoom, Some, Standing, rawScores};
+ghost use Rattle.call_genotypes.specs.Scores.{valueOf, gapValue, rowAt, rowsAt, rowGaps, turn, RowIn, PileIn, Within, AlleleSums, addFour, QualsIn, qualSum, baseSum, neitherSum, pairGap, scoresOf, ScoresRoom, Some, Standing, rawScores};
 use steps::one_plus::ln_one_plus_exp;
 use variants_and_fragments::pileup::pile_start;
 
-// A call's four values: neither haplotype has its allele, the first has, the second has, both have.
-pub struct Four {
-    pub none: i64,
+// Of a call: how far a score rises over the one where neither haplotype has its allele, if the first has, the second has, both have;
+// and its read's second likelihood plus ln(1 + exp(d)), the first without the call being d above the second.
+pub struct Gaps {
     pub first: i64,
     pub second: i64,
     pub both: i64,
+    pub base: i64,
 }
 
-// b + q, less 4,096.
-fn halved(b: i64, q: i64) -> i64
-    requires { ⌜ (natAbs b ≤ 2 ^ 33) × (natAbs q ≤ 2 ^ 18) ⌝ }
-    ensures { λ r. ⌜ r ≡ (b +ℤ q) -ℤ pos 4096 ⌝ }
+// The four numbers of a call whose one_minus_qual is g above its qual.
+fn gaps_of(t: &[u32; 6420], b: i64, d: i64, g: i64) -> Gaps
+    requires { ⌜ (now t ≡ lines) × (natAbs b ≤ 2 ^ 32) × (natAbs d ≤ 2 ^ 33 + 2 ^ 20) × (natAbs g ≤ 2 ^ 19) ⌝ }
+    ensures { λ r. ⌜ ((w : ℕ) → valueOf r w ≡ gapValue b d g w) ⌝ }
 {
-    b + q - 4096
-}
-
-// ln_add_exp of base + d and base.
-fn mix_from(t: &[u32; 6420], base: i64, d: i64) -> i64
-    requires { ⌜ (now t ≡ lines) × (natAbs base ≤ 2 ^ 35) × (natAbs d ≤ 2 ^ 36) ⌝ }
-    ensures { λ r. ⌜ r ≡ addExp (base +ℤ d) base ⌝ }
-{
-    base + ln_one_plus_exp(t, d)
-}
-
-// The four values of a call with qualities q and o, from its read's likelihoods without it: d is how far those are apart, and g what
-// the call gains where an allele is its own.
-fn four_of(t: &[u32; 6420], b0: i64, b1: i64, q: i64, o: i64) -> Four
-    requires { ⌜ (now t ≡ lines) × (natAbs b0 ≤ 2 ^ 33) × (natAbs b1 ≤ 2 ^ 33) × (natAbs q ≤ 2 ^ 18) × (natAbs o ≤ 2 ^ 18) ⌝ }
-    ensures { λ r. ⌜ ((c : Call) (w : ℕ) → c .qual ≡ q → c .one-minus-qual ≡ o → valueOf r w ≡ fourValue mixOf b0 b1 c w) ⌝ }
-{
-    let g = o - q;
-    let d = b0 - b1;
-    let base = halved(b1, q);
-    let none = mix_from(t, base, d);
-    Four {
-        none,
-        first: mix_from(t, base, d + g),
-        second: mix_from(t, base + g, d - g),
-        both: none + g,
+    let m0 = ln_one_plus_exp(t, d);
+    let m1 = ln_one_plus_exp(t, d + g);
+    let m2 = ln_one_plus_exp(t, d - g);
+    Gaps {
+        first: m1 - m0,
+        second: m2 - m0 + g,
+        both: g,
+        base: b + m0,
     }
 }
 
@@ -82,46 +61,61 @@ pub fn quality_at(quals: &[i32], p: usize) -> i64
     quals[p] as i64
 }
 
-// What a call itself adds to a likelihood that stands: nothing at an unphased variant.
-fn own(phased: bool, hit: bool, q: i64, o: i64) -> i64
-    ensures { λ r. ⌜ r ≡ cond phased (cond hit o q) (pos 0) ⌝ }
+// How far o is above q.
+fn gap(q: i64, o: i64) -> i64
+    requires { ⌜ (natAbs q ≤ 2 ^ 18) × (natAbs o ≤ 2 ^ 18) ⌝ }
+    ensures { λ r. ⌜ r ≡ o -ℤ q ⌝ }
 {
-    let y = if hit { o } else { q };
-    if phased { y } else { 0 }
+    o - q
 }
 
-// The likelihood at i without y.
-fn without(lik: &[i64], i: usize, y: i64) -> i64
-    requires { ⌜ (i < length (now lik)) × (natAbs (getD (now lik) i (pos 0)) ≤ 2 ^ 32) × (natAbs y ≤ 2 ^ 18) ⌝ }
-    ensures { λ r. ⌜ r ≡ getD (now (lik .entry)) i (pos 0) -ℤ y ⌝ }
+// The likelihood at i.
+fn likelihood_at(lik: &[i64], i: usize) -> i64
+    requires { ⌜ i < length (now lik) ⌝ }
+    ensures { λ r. ⌜ r ≡ getD (now (lik .entry)) i (pos 0) ⌝ }
 {
-    lik[i] - y
+    lik[i]
 }
 
-// The four values of the call at p, v being at (g0, g1).
-fn call_four(
+// What a call of allele x, without its own term, moves the distance of its read's likelihoods by.
+fn turned(alpha: &[i64; 4], x: usize, g: i64) -> i64
+    requires { ⌜ (x < 4) × (natAbs (getD (now alpha) x (pos 0)) ≤ 1) × (natAbs g ≤ 2 ^ 19) ⌝ }
+    ensures { λ r. ⌜ (r ≡ getD (now (alpha .entry)) x (pos 0) *ℤ g) × (natAbs r ≤ 2 ^ 19) ⌝ }
+{
+    alpha[x] * g
+}
+
+// How far l is above b, and y more.
+fn distance(l: i64, b: i64, y: i64) -> i64
+    requires { ⌜ (natAbs l ≤ 2 ^ 32) × (natAbs b ≤ 2 ^ 32) × (natAbs y ≤ 2 ^ 19) ⌝ }
+    ensures { λ r. ⌜ r ≡ (l -ℤ b) +ℤ y ⌝ }
+{
+    l - b + y
+}
+
+// The four numbers of the call at p.
+fn call_gaps(
     t: &[u32; 6420],
     who: &[u32],
     quals: &[i32],
     omqs: &[i32],
     lik: &[i64],
+    alpha: &[i64; 4],
     p: usize,
-    phased: bool,
-    g0: usize,
-    g1: usize,
-) -> Four
+) -> Gaps
     requires { ⌜ now t ≡ lines ⌝ }
     requires { ⌜ RowIn (length (now lik)) (now who) (now quals) (now omqs) p ⌝ }
     requires { ⌜ Within (2 ^ 32) (now lik) ⌝ }
-    ensures { λ r. ⌜ ((v w : ℕ) → valueOf r w ≡ rowFour phased g0 g1 (now (lik .entry)) (rowAt v (now (who .entry)) (now (quals .entry)) (now (omqs .entry)) p) w) ⌝ }
+    requires { ⌜ Within 1 (now alpha) ⌝ }
+    ensures { λ r. ⌜ ((v w : ℕ) → valueOf r w ≡ rowGaps (now (alpha .entry)) (now (lik .entry)) (rowAt v (now (who .entry)) (now (quals .entry)) (now (omqs .entry)) p) w) ⌝ }
 {
     let f = 2 * fragment_at(who, p);
     let x = allele_at(who, p);
     let q = quality_at(quals, p);
-    let o = quality_at(omqs, p);
-    let b0 = without(lik, f, own(phased, x == g0, q, o));
-    let b1 = without(lik, f + 1, own(phased, x == g1, q, o));
-    four_of(t, b0, b1, q, o)
+    let g = gap(q, quality_at(omqs, p));
+    let b = likelihood_at(lik, f + 1);
+    let d = distance(likelihood_at(lik, f), b, turned(alpha, x, g));
+    gaps_of(t, b, d, g)
 }
 
 // Adds y to a sum.
@@ -132,102 +126,127 @@ fn raise(acc: &mut [i64; 12], i: usize, y: i64)
     acc[i] = acc[i] + y;
 }
 
-// Adds the four values of a call of allele x to the sums of x.
-fn add_four(r: Four, acc: &mut [i64; 12], x: usize)
-    requires { ⌜ (x < 3) × ((w : ℕ) → natAbs (valueOf r w) ≤ 2 ^ 34) ⌝ }
+// Adds the four numbers of a call of allele x to the sums of x.
+fn add_four(r: Gaps, acc: &mut [i64; 12], x: usize)
+    requires { ⌜ (x < 3) × ((w : ℕ) → natAbs (valueOf r w) ≤ 2 ^ 35) ⌝ }
     requires { ⌜ Within (2 ^ 49) (now acc) ⌝ }
     ensures { λ _. ⌜ now (acc .exit) ≡ addFour (valueOf r) x (now (acc .entry)) ⌝ }
 {
     let at = 4 * x;
-    raise(acc, at, r.none);
-    raise(acc, at + 1, r.first);
-    raise(acc, at + 2, r.second);
-    raise(acc, at + 3, r.both);
+    raise(acc, at, r.first);
+    raise(acc, at + 1, r.second);
+    raise(acc, at + 2, r.both);
+    raise(acc, at + 3, r.base);
 }
 
-// Sums the four values of the calls a..e per allele, v being at (g0, g1). At the loop's head the calls before p are in the sums.
+// Sums the four numbers of the calls a..e per allele. At the loop's head the calls before p are in the sums.
 fn score_calls(
     t: &[u32; 6420],
     who: &[u32],
     quals: &[i32],
     omqs: &[i32],
     lik: &[i64],
+    alpha: &[i64; 4],
     acc: &mut [i64; 12],
     a: usize,
     e: usize,
-    phased: bool,
-    g0: usize,
-    g1: usize,
 )
     requires { ⌜ now t ≡ lines ⌝ }
     requires { ⌜ PileIn (length (now lik)) (now who) (now quals) (now omqs) a e ⌝ }
     requires { ⌜ Within (2 ^ 32) (now lik) ⌝ }
+    requires { ⌜ Within 1 (now alpha) ⌝ }
     requires { ⌜ now acc ≡ replicate 12 (pos 0) ⌝ }
-    ensures { λ _. ⌜ ((v : ℕ) → AlleleSums (rowFour phased g0 g1 (now (lik .entry))) (rowsAt v (now (who .entry)) (now (quals .entry)) (now (omqs .entry)) a e) (now (acc .exit))) ⌝ }
+    ensures { λ _. ⌜ ((v : ℕ) → AlleleSums (rowGaps (now (alpha .entry)) (now (lik .entry))) (rowsAt v (now (who .entry)) (now (quals .entry)) (now (omqs .entry)) a e) (now (acc .exit))) ⌝ }
 {
     let mut p = a;
     while p < e {
-        let r = call_four(t, who, quals, omqs, lik, p, phased, g0, g1);
+        let r = call_gaps(t, who, quals, omqs, lik, alpha, p);
         let x = allele_at(who, p);
         add_four(r, acc, x);
         p += 1;
     }
 }
 
-// What the calls of no haplotype's allele add: value 0 of all three alleles.
-fn none_sum(acc: &[i64; 12]) -> i64
-    requires { ⌜ Within (2 ^ 50) (now acc) ⌝ }
-    ensures { λ r. ⌜ r ≡ (getD (now (acc .entry)) 0 (pos 0) +ℤ getD (now (acc .entry)) 4 (pos 0)) +ℤ getD (now (acc .entry)) 8 (pos 0) ⌝ }
+// Each allele's turn, v being at (g0, g1): nothing at an unphased variant, whose calls are not in the likelihoods.
+fn make_turns(alpha: &mut [i64; 4], phased: bool, g0: usize, g1: usize)
+    requires { ⌜ (now alpha ≡ replicate 4 (pos 0)) × (g0 < 3) × (g1 < 3) ⌝ }
+    ensures { λ _. ⌜ ((x : ℕ) → getD (now (alpha .exit)) x (pos 0) ≡ turn phased g0 g1 x) ⌝ }
 {
-    acc[0] + acc[4] + acc[8]
+    if phased {
+        alpha[g0] = alpha[g0] - 1;
+        alpha[g1] = alpha[g1] + 1;
+    }
 }
 
-// What the calls of allele x add with value w in place of value 0.
-fn gain(acc: &[i64; 12], x: usize, w: usize) -> i64
-    requires { ⌜ (x < 3) × (w < 4) ⌝ }
-    requires { ⌜ Within (2 ^ 50) (now acc) ⌝ }
-    ensures { λ r. ⌜ r ≡ getD (now (acc .entry)) (4 * x + w) (pos 0) -ℤ getD (now (acc .entry)) (4 * x) (pos 0) ⌝ }
+// The sum of the quals at a..e. At the loop's head those before p are in it.
+fn sum_quals(quals: &[i32], a: usize, e: usize) -> i64
+    requires { ⌜ QualsIn (now quals) a e ⌝ }
+    ensures { λ r. ⌜ (r ≡ qualSum (now (quals .entry)) a (e - a)) × (natAbs r ≤ 2 ^ 32) ⌝ }
 {
-    acc[4 * x + w] - acc[4 * x]
+    let mut n: i64 = 0;
+    let mut p = a;
+    while p < e {
+        n += quality_at(quals, p);
+        p += 1;
+    }
+    n
 }
 
-// What all calls add to the score of (i, j): the sums of neither haplotype, and what the alleles i and j gain over them.
-fn pair_sum(acc: &[i64; 12], i: usize, j: usize) -> i64
-    requires { ⌜ (i < 3) × (j < 3) ⌝ }
-    requires { ⌜ Within (2 ^ 50) (now acc) ⌝ }
-    ensures { λ r. ⌜ r ≡ pairSum (now (acc .entry)) i j ⌝ }
+// The last numbers of all n calls, less 4,096 each.
+fn base_sum(acc: &[i64; 12], n: usize) -> i64
+    requires { ⌜ Within (2 ^ 50) (now acc) × (n ≤ 16384) ⌝ }
+    ensures { λ r. ⌜ r ≡ baseSum (now (acc .entry)) n ⌝ }
 {
-    let none = none_sum(acc);
-    let y = if i == j {
-        gain(acc, i, 3)
+    acc[3] + acc[7] + acc[11] - (4096 * n) as i64
+}
+
+// What the calls a..e add to a score if neither haplotype has their alleles, the second having g1.
+fn neither_sum(quals: &[i32], acc: &[i64; 12], a: usize, e: usize, phased: bool, g1: usize) -> i64
+    requires { ⌜ QualsIn (now quals) a e × (a ≤ e) × (g1 < 3) ⌝ }
+    requires { ⌜ Within (2 ^ 50) (now acc) ⌝ }
+    ensures { λ r. ⌜ (r ≡ neitherSum phased g1 (now (quals .entry)) (now (acc .entry)) a e) × (natAbs r ≤ 2 ^ 53) ⌝ }
+{
+    let n = base_sum(acc, e - a);
+    if phased {
+        n - acc[4 * g1 + 2]
     } else {
-        gain(acc, i, 1) + gain(acc, j, 2)
-    };
-    none + y
+        n + sum_quals(quals, a, e)
+    }
+}
+
+// How far the score of (i, j) is above that.
+fn pair_gap(acc: &[i64; 12], i: usize, j: usize) -> i64
+    requires { ⌜ (i < 3) × (j < 3) × Within (2 ^ 50) (now acc) ⌝ }
+    ensures { λ r. ⌜ r ≡ pairGap (now (acc .entry)) i j ⌝ }
+{
+    if i == j {
+        acc[4 * i + 2]
+    } else {
+        acc[4 * i] + acc[4 * j + 1]
+    }
 }
 
 // The score of (i, j), whose prior stands at `at`.
-fn pair_score(pri: &[i64], acc: &[i64; 12], at: usize, i: usize, j: usize) -> i64
-    requires { ⌜ (at < length (now pri)) × (natAbs (getD (now pri) at (pos 0)) ≤ 2 ^ 21) ⌝ }
-    requires { ⌜ (i < 3) × (j < 3) ⌝ }
+fn pair_score(pri: &[i64], acc: &[i64; 12], base: i64, at: usize, i: usize, j: usize) -> i64
+    requires { ⌜ (at < length (now pri)) × (natAbs (getD (now pri) at (pos 0)) ≤ 2 ^ 21) × (natAbs base ≤ 2 ^ 53) × (i < 3) × (j < 3) ⌝ }
     requires { ⌜ Within (2 ^ 50) (now acc) ⌝ }
-    ensures { λ r. ⌜ r ≡ getD (now (pri .entry)) at (pos 0) +ℤ pairSum (now (acc .entry)) i j ⌝ }
+    ensures { λ r. ⌜ r ≡ (getD (now (pri .entry)) at (pos 0) +ℤ base) +ℤ pairGap (now (acc .entry)) i j ⌝ }
 {
-    pri[at] + pair_sum(acc, i, j)
+    pri[at] + base + pair_gap(acc, i, j)
 }
 
 // Writes the k by k scores at 9 * v, row after row. At the loop's head p of them are written, and (i, j) is the next pair.
-fn write_scores(pri: &[i64], post: &mut [i64], acc: &[i64; 12], v: usize, k: usize)
-    requires { ⌜ ScoresRoom (now pri) (now post) v k ⌝ }
+fn write_scores(pri: &[i64], post: &mut [i64], acc: &[i64; 12], base: i64, v: usize, k: usize)
+    requires { ⌜ ScoresRoom (now pri) (now post) v k × (natAbs base ≤ 2 ^ 53) ⌝ }
     requires { ⌜ Within (2 ^ 50) (now acc) ⌝ }
-    ensures { λ _. ⌜ now (post .exit) ≡ sets (now (post .entry)) (9 * v) (scoresOf (now (pri .entry)) (now (acc .entry)) v k) ⌝ }
+    ensures { λ _. ⌜ now (post .exit) ≡ sets (now (post .entry)) (9 * v) (scoresOf (now (pri .entry)) (now (acc .entry)) base v k) ⌝ }
 {
     let kk = k * k;
     let mut p = 0;
     let mut i = 0;
     let mut j = 0;
     while p < kk {
-        post[9 * v + p] = pair_score(pri, acc, 9 * v + p, i, j);
+        post[9 * v + p] = pair_score(pri, acc, base, 9 * v + p, i, j);
         p += 1;
         j += 1;
         if j == k {
@@ -283,7 +302,10 @@ pub fn scores(
     let e = ends[v];
     let g0 = hap[2 * v] as usize;
     let g1 = hap[2 * v + 1] as usize;
+    let mut alpha = [0i64; 4];
+    make_turns(&mut alpha, phased, g0, g1);
     let mut acc = [0i64; 12];
-    score_calls(t, who, quals, omqs, lik, &mut acc, a, e, phased, g0, g1);
-    write_scores(pri, post, &acc, v, k);
+    score_calls(t, who, quals, omqs, lik, &alpha, &mut acc, a, e);
+    let base = neither_sum(quals, &acc, a, e, phased, g1);
+    write_scores(pri, post, &acc, base, v, k);
 }

@@ -1,18 +1,32 @@
--- `call_genotypes::score::pair_score` meets its contract: a prior and three sums do not wrap. Assumes nothing.
-use mathlib.Core.Path.{_∙_}
-use Prim.Native.Nat.{_^_, _≤_}
+-- `call_genotypes::score::pair_score` meets its contract: a prior and two sums do not wrap. Assumes nothing.
+use mathlib.Core.Path.{_≡_, _∙_}
+use Prim.Native.Nat.{_+_, _^_, _≤_, _<_}
 use native.Mathlib.Omega.{arith}
 use borrow.Author.Needs.{needs}
 use lib.ListN.{getD}
-use lib.IntN.{pos, natAbs}
+use lib.IntN.{ℤ, pos, natAbs, _+ℤ_}
 use mir.Syntax.{w64}
-use Rattle.steps.proofs.Signed.{plus-fits, plus-read}
+use mir.Val.{toZ, ofZ}
+use Rattle.steps.proofs.Signed.{plus-fits, plus-read, read-small, sfits, add-abs}
 use Rattle.call_genotypes.proofs.Sizes.{pair-size}
 use Rattle.call_genotypes.proofs.score.pair_score.Statement.{statement}
 use Rattle.call_genotypes.proofs.score.pair_score.Tie as tie
 
-small : (c : tie.After-pair-sum) → natAbs (c .pair-sum .result) ≤ 2 ^ 52
-small c = rw (c .pair-sum .ensures) (pair-size (c .before .before .args .acc .now) (c .before .before .args .i) (c .before .before .args .j) (c .before .before .pre .1 .1))
+abbrev prior-of : tie.Start → ℤ
+prior-of s = getD (s .args .pri .now) (s .args .at) (pos 0)
+
+two-small : (s : tie.Start) → natAbs (prior-of s) + natAbs (s .args .base) ≤ 2 ^ 54
+two-small s = omega (arith, s .pre .0 .1, s .pre .0 .2)
+
+gap-small : (c : tie.After-pair-gap) → natAbs (c .pair-gap .result) ≤ 2 ^ 51
+gap-small c = let s = c .before .before in rw (c .pair-gap .ensures) (pair-size (s .args .acc .now) (s .args .i) (s .args .j) (s .pre .1))
+
+first-read : (s : tie.Start) → toZ w64 (ofZ w64 (toZ w64 (ofZ w64 (prior-of s)) +ℤ toZ w64 (ofZ w64 (s .args .base)))) ≡ prior-of s +ℤ s .args .base
+first-read s = plus-read w64 (prior-of s) (s .args .base) (omega (arith, two-small s))
+
+small : (c : tie.After-pair-gap) → let s = c .before .before in natAbs ((prior-of s +ℤ s .args .base) +ℤ c .pair-gap .result) < 2 ^ 63
+small c = let s = c .before .before in
+    omega (arith, add-abs (prior-of s +ℤ s .args .base) (c .pair-gap .result), add-abs (prior-of s) (s .args .base), two-small s, gap-small c)
 
 mul-result : tie.Need-mul-result
 mul-result c = search needs
@@ -20,16 +34,27 @@ mul-result c = search needs
 shared-slice-copy-out-result : tie.Need-shared-slice-copy-out-result
 shared-slice-copy-out-result c = search needs
 
-pair-sum-requires : tie.Need-pair-sum-requires
-pair-sum-requires c κs = search needs
-
 add-result : tie.Need-add-result
-add-result c = let s = c .before .before in plus-fits w64 (getD (s .args .pri .now) (s .args .at) (pos 0)) (c .pair-sum .result) (omega (arith, small c, s .pre .0 .1))
+add-result c = let s = c .before in plus-fits w64 (prior-of s) (s .args .base) (omega (arith, two-small s))
+
+pair-gap-requires : tie.Need-pair-gap-requires
+pair-gap-requires c κs = search needs
+
+add-result-2 : tie.Need-add-result-2
+add-result-2 c = let s = c .before .before in
+    rw (first-read s, read-small w64 (c .pair-gap .result) (omega (arith, gap-small c))) (sfits w64 ((prior-of s +ℤ s .args .base) +ℤ c .pair-gap .result) (small c))
 
 returns : tie.Need-returns
-returns c = let s = c .before .before in plus-read w64 (getD (s .args .pri .now) (s .args .at) (pos 0)) (c .pair-sum .result) (omega (arith, small c, s .pre .0 .1)) ∙ cc
+returns c = let s = c .before .before in
+    rw (first-read s, read-small w64 (c .pair-gap .result) (omega (arith, gap-small c))) (read-small w64 ((prior-of s +ℤ s .args .base) +ℤ c .pair-gap .result) (small c) ∙ cc)
 
 pub pair-score-spec : {M : Type 1} → statement M
 pair-score-spec =
     tie.close
-    (tie.spec mul-result shared-slice-copy-out-result pair-sum-requires add-result returns)
+    (tie.spec
+    mul-result
+    shared-slice-copy-out-result
+    add-result
+    pair-gap-requires
+    add-result-2
+    returns)

@@ -3,18 +3,18 @@ use Prim.Native.Nat.{ℕ, _-_, _^_, _<_, _≤_}
 use native.Mathlib.Omega.{arith}
 use lib.ListN.{length}
 use lib.IntN.{natAbs}
-use Rattle.call_genotypes.specs.Scores.{rowAt, rowFour, valueOf, RowIn}
+use Rattle.call_genotypes.specs.Scores.{rowAt, rowGaps, valueOf, RowIn}
 use Rattle.call_genotypes.proofs.Sizes.{row-size}
 use Rattle.call_genotypes.proofs.Fours.{Summing, summing-start, summing-step, summing-end}
 use Rattle.call_genotypes.proofs.score.score_calls.Statement.{statement}
 use Rattle.call_genotypes.proofs.score.score_calls.Tie as tie
 
 abbrev Inv-loop : tie.InvT-loop
-Inv-loop t who quals one-minus-quals lik acc₀ a e phased g0 g1 p₀ acc p =
-    (v : ℕ) → Summing (rowFour phased g0 g1 lik) (rowAt v who quals one-minus-quals) a e p acc
+Inv-loop t who quals one-minus-quals lik alpha acc₀ a e p₀ acc p =
+    (v : ℕ) → Summing (rowGaps alpha lik) (rowAt v who quals one-minus-quals) a e p acc
 
 abbrev μ-loop : tie.MeasureT-loop
-μ-loop t who quals one-minus-quals lik acc₀ a e phased g0 g1 p₀ acc p = e - p
+μ-loop t who quals one-minus-quals lik alpha acc₀ a e p₀ acc p = e - p
 
 abbrev st : tie.In-loop Inv-loop μ-loop → tie.Start Inv-loop μ-loop
 st c = c .before .before .before
@@ -22,18 +22,18 @@ st c = c .before .before .before
 row-in : (c : tie.In-loop Inv-loop μ-loop) → RowIn (length (st c .args .lik .now)) (st c .args .who .now) (st c .args .quals .now) (st c .args .omqs .now) (c .before .loop .p)
 row-in c = st c .pre .1 .0 .rows-in (c .before .loop .p) (c .before .loop .inv 0 .from) (c .loop-test .taken)
 
-value-small : (c : tie.After-call-four Inv-loop μ-loop) (w : ℕ) → natAbs (valueOf (c .call-four .result) w) ≤ 2 ^ 34
+value-small : (c : tie.After-call-gaps Inv-loop μ-loop) (w : ℕ) → natAbs (valueOf (c .call-gaps .result) w) ≤ 2 ^ 35
 value-small c w = let s = st (c .before) in
-    rw (c .call-four .ensures 0 w) (row-size (s .args .who .now) (s .args .quals .now) (s .args .omqs .now) (s .args .lik .now) 0 (c .before .before .loop .p) (s .args .phased) (s .args .g0) (s .args .g1) (row-in (c .before)) (s .pre .1 .1 .0) w)
+    rw (c .call-gaps .ensures 0 w) (row-size (s .args .who .now) (s .args .quals .now) (s .args .omqs .now) (s .args .lik .now) (s .args .alpha .now) 0 (c .before .before .loop .p) (row-in (c .before)) (s .pre .1 .1 .0) (s .pre .1 .1 .1 .0) w)
 
 allele-low : (c : tie.After-allele-at Inv-loop μ-loop) → c .allele-at .result < 3
 allele-low c = rw (c .allele-at .ensures) (row-in (c .before .before) .allele-in)
 
 loop-holds : tie.Need-loop-holds Inv-loop μ-loop
-loop-holds c v = summing-start _ _ _ _ _ (c .before .pre .1 .1 .1)
+loop-holds c v = summing-start _ _ _ _ _ (c .before .pre .1 .1 .1 .1)
 
-call-four-requires : tie.Need-call-four-requires Inv-loop μ-loop
-call-four-requires c κs = (st c .pre .0, (row-in c, st c .pre .1 .1 .0))
+call-gaps-requires : tie.Need-call-gaps-requires Inv-loop μ-loop
+call-gaps-requires c κs = (st c .pre .0, (row-in c, (st c .pre .1 .1 .0, st c .pre .1 .1 .1 .0)))
 
 allele-at-requires : tie.Need-allele-at-requires Inv-loop μ-loop
 allele-at-requires c κs = row-in (c .before) .who-long
@@ -53,7 +53,7 @@ loop-again : tie.Need-loop-again Inv-loop μ-loop
 unfolding rowAt
 loop-again c v =
     let l = c .before .before .before .before in
-    summing-step _ _ _ _ _ _ _ (valueOf (c .before .before .before .call-four .result)) _ (l .before .loop .inv v) (l .loop-test .taken) (st l .pre .1 .0 .few) (c .before .before .allele-at .ensures) (allele-low (c .before .before)) (c .before .before .before .call-four .ensures v) (value-small (c .before .before .before)) (c .add-four .ensures)
+    summing-step _ _ _ _ _ _ _ (valueOf (c .before .before .before .call-gaps .result)) _ (l .before .loop .inv v) (l .loop-test .taken) (st l .pre .1 .0 .few) (c .before .before .allele-at .ensures) (allele-low (c .before .before)) (c .before .before .before .call-gaps .ensures v) (value-small (c .before .before .before)) (c .add-four .ensures)
 
 returns : tie.Need-returns Inv-loop μ-loop
 returns c v = summing-end _ _ _ _ _ _ (c .before .loop .inv v) (c .loop-test .left)
@@ -65,7 +65,7 @@ score-calls-spec =
     Inv-loop
     μ-loop
     loop-holds
-    call-four-requires
+    call-gaps-requires
     allele-at-requires
     add-four-requires
     add-p

@@ -1,76 +1,85 @@
 -- `call_genotypes::score::write_scores` meets its contract. The loop's invariant: p scores are written, and (i, j) is the next pair. Assumes nothing.
-use mathlib.Core.Path.{_≡_, ap}
+use mathlib.Core.Path.{_≡_, ap, _∙_}
 use Prim.Native.Nat.{_<_, _-_, _+_, _*_, _/_, _%_}
 use native.Mathlib.Omega.{arith}
 use lib.ListN.{getD, set}
+use lib.Seq.{sets}
 use lib.IntN.{ℤ, pos, _+ℤ_}
 use mir.Syntax.{w64}
 use mir.Val.{toZ, ofZ}
+use mir.Facts.{toZ-ofZ}
 use Rattle.steps.proofs.Signed.{read-back}
-use Rattle.call_genotypes.specs.Scores.{pairSum}
-use Rattle.call_genotypes.proofs.Written.{nine, Writing, writing-start, row-on, place-on, writing-end, pair-div, pair-mod, row-low}
+use Rattle.genotype_probs.proofs.TableSums.{pair-in}
+use Rattle.call_genotypes.specs.Scores.{pairGap, scoresOf}
+use Rattle.call_genotypes.proofs.Written.{nine, Writing, writing-start, row-on, place-on, writing-end, pair-div, pair-mod}
 use Rattle.call_genotypes.proofs.score.write_scores.Statement.{statement}
 use Rattle.call_genotypes.proofs.score.write_scores.Tie as tie
 
 abbrev Inv-loop : tie.InvT-loop
-Inv-loop pri post₀ acc v k kk p₀ i₀ j₀ post p i j =
-    Writing (λ p. getD pri (9 * v + p) (pos 0) +ℤ pairSum acc (p / k) (p % k)) (9 * v) k post₀ post p i j
+Inv-loop pri post₀ acc base v k kk p₀ i₀ j₀ post p i j =
+    Writing (λ p. (getD pri (9 * v + p) (pos 0) +ℤ toZ w64 base) +ℤ pairGap acc (p / k) (p % k)) (9 * v) k post₀ post p i j
 
 abbrev μ-loop : tie.MeasureT-loop
-μ-loop pri post₀ acc v k kk p₀ i₀ j₀ post p i j = kk - p
+μ-loop pri post₀ acc base v k kk p₀ i₀ j₀ post p i j = kk - p
 
 abbrev st : tie.In-loop Inv-loop μ-loop → tie.Start Inv-loop μ-loop
 st c = c .before .before
 
 few : (c : tie.In-loop Inv-loop μ-loop) → c .before .loop .p < 9
-few c = omega (arith, c .loop-test .taken, nine (st c .args .k) (st c .pre .0 .k-top))
+few c = omega (arith, c .loop-test .taken, nine (st c .args .k) (st c .pre .0 .0 .k-top))
 
 -- the score that is written
 written : (c : tie.After-pair-score Inv-loop μ-loop) → let s = st (c .before) in let p = c .before .before .loop .p in
-    toZ w64 (ofZ w64 (c .pair-score .result)) ≡ getD (s .args .pri .now) (9 * s .args .v + p) (pos 0) +ℤ pairSum (s .args .acc .now) (p / s .args .k) (p % s .args .k)
+    toZ w64 (ofZ w64 (c .pair-score .result)) ≡ (getD (s .args .pri .now) (9 * s .args .v + p) (pos 0) +ℤ toZ w64 (ofZ w64 (s .args .base))) +ℤ pairGap (s .args .acc .now) (p / s .args .k) (p % s .args .k)
 written c =
     let s = st (c .before) in
     let l = c .before .before .loop in
     cc (read-back w64 _ (c .pair-score .ok), pair-div (s .args .k) (l .p) (l .i) (l .j) (l .inv .pair) (l .inv .low), pair-mod (s .args .k) (l .p) (l .i) (l .j) (l .inv .pair) (l .inv .low))
 
 mul-kk : tie.Need-mul-kk Inv-loop μ-loop
-mul-kk c = omega (arith, nine (c .args .k) (c .pre .0 .k-top))
+mul-kk c = omega (arith, nine (c .args .k) (c .pre .0 .0 .k-top))
 
 loop-holds : tie.Need-loop-holds Inv-loop μ-loop
-loop-holds c = writing-start _ _ _ _ (c .pre .0 .k-least)
+loop-holds c = writing-start _ _ _ _ (c .pre .0 .0 .k-least)
 
 mul-pair-score : tie.Need-mul-pair-score Inv-loop μ-loop
-mul-pair-score c = omega (arith, st c .pre .0 .v-top)
+mul-pair-score c = omega (arith, st c .pre .0 .0 .v-top)
 
 add-pair-score : tie.Need-add-pair-score Inv-loop μ-loop
-add-pair-score c = omega (arith, st c .pre .0 .v-top, few c)
+add-pair-score c = omega (arith, st c .pre .0 .0 .v-top, few c)
 
 pair-score-requires : tie.Need-pair-score-requires Inv-loop μ-loop
 pair-score-requires c κs =
     let s = st c in
     let l = c .before .loop in
-    let low = row-low (s .args .k) (l .p) (l .i) (l .j) (l .inv .pair) (c .loop-test .taken) in (
-      (omega (arith, s .pre .0 .pri-long, few c), s .pre .0 .pri-small (l .p) (c .loop-test .taken)),
-      ((omega (arith, low, s .pre .0 .k-top), omega (arith, l .inv .low, s .pre .0 .k-top)), s .pre .1),
+    let n = pair-in (s .args .k) (l .p) (s .pre .0 .0 .k-least) (c .loop-test .taken) in (
+      (
+        omega (arith, s .pre .0 .0 .pri-long, few c),
+        s .pre .0 .0 .pri-small (l .p) (c .loop-test .taken),
+        rw (toZ-ofZ (s .fits .base)) (s .pre .0 .1),
+        omega (arith, pair-div (s .args .k) (l .p) (l .i) (l .j) (l .inv .pair) (l .inv .low), n .0, s .pre .0 .0 .k-top),
+        omega (arith, l .inv .low, s .pre .0 .0 .k-top),
+      ),
+      s .pre .1,
     )
 
-mul-t14 : tie.Need-mul-t14 Inv-loop μ-loop
-mul-t14 c = omega (arith, st (c .before) .pre .0 .v-top)
+mul-t15 : tie.Need-mul-t15 Inv-loop μ-loop
+mul-t15 c = omega (arith, st (c .before) .pre .0 .0 .v-top)
 
-add-t15 : tie.Need-add-t15 Inv-loop μ-loop
-add-t15 c = omega (arith, st (c .before) .pre .0 .v-top, few (c .before))
+add-t16 : tie.Need-add-t16 Inv-loop μ-loop
+add-t16 c = omega (arith, st (c .before) .pre .0 .0 .v-top, few (c .before))
 
-mul-t16 : tie.Need-mul-t16 Inv-loop μ-loop
-mul-t16 c = omega (arith, st (c .before) .pre .0 .v-top, few (c .before))
+mul-t17 : tie.Need-mul-t17 Inv-loop μ-loop
+mul-t17 c = omega (arith, st (c .before) .pre .0 .0 .v-top, few (c .before))
 
 slice-set-from-post : tie.Need-slice-set-from-post Inv-loop μ-loop
-slice-set-from-post c = omega (arith, st (c .before) .pre .0 .post-long, few (c .before), c .before .before .loop .inv .long)
+slice-set-from-post c = omega (arith, st (c .before) .pre .0 .0 .post-long, few (c .before), c .before .before .loop .inv .long)
 
 add-p : tie.Need-add-p Inv-loop μ-loop
 add-p c = omega (arith, few (c .before))
 
 add-j : tie.Need-add-j Inv-loop μ-loop
-add-j c = omega (arith, c .before .before .loop .inv .low, st (c .before) .pre .0 .k-top)
+add-j c = omega (arith, c .before .before .loop .inv .low, st (c .before) .pre .0 .0 .k-top)
 
 add-i : tie.Need-add-i Inv-loop μ-loop
 add-i c = omega (arith, few (c .before .before), c .before .before .before .loop .inv .few)
@@ -91,7 +100,10 @@ same-length : tie.Need-same-length Inv-loop μ-loop
 same-length c = c .before .loop .inv .long
 
 returns : tie.Need-returns Inv-loop μ-loop
-returns c = writing-end _ _ _ _ _ _ _ _ (c .before .loop .inv) (c .loop-test .left)
+returns c =
+    let s = c .before .before in
+    writing-end _ _ _ _ _ _ _ _ (c .before .loop .inv) (c .loop-test .left)
+    ∙ ap (λ (base : ℤ). sets (s .args .post .now) (9 * s .args .v) (scoresOf (s .args .pri .now) (s .args .acc .now) base (s .args .v) (s .args .k))) (toZ-ofZ (s .fits .base))
 
 pub write-scores-spec : {M : Type 1} → statement M
 write-scores-spec =
@@ -104,9 +116,9 @@ write-scores-spec =
     mul-pair-score
     add-pair-score
     pair-score-requires
-    mul-t14
-    add-t15
-    mul-t16
+    mul-t15
+    add-t16
+    mul-t17
     slice-set-from-post
     add-p
     add-j
