@@ -15,7 +15,7 @@ abbrev start : tie.After-standing-total-arg2 → tie.Start
 start c = c .before .before .before .before .before .before .before .before .before .before .before
 
 abbrev first : tie.After-run-sweeps → tie.After-standing-total
-first c = c .before .before .before .before
+first c = c .before .before .before .before .before .before
 
 abbrev ran : tie.After-ones → tie.After-run-sweeps
 ran c = c .before .before .before .before .before
@@ -27,8 +27,14 @@ standing-total-requires c κs =
     let a = standing-asks R (R .run-start .haps) (R .run-start .liks) in
     ((s .pre .0, a .0), a .1)
 
+lines-requires : tie.Need-lines-requires
+lines-requires c κs = search needs
+
 run-sweeps-requires : tie.Need-run-sweeps-requires
-run-sweeps-requires c κs = let s = start (c .before .before .before .before) in (s .pre .0, record { case = _; holds = s .pre .1 .holds .run-start })
+run-sweeps-requires c κs =
+    let l = c .before .before .before .before in
+    let s = start (l .before .before) in
+    (l .lines .ensures, record { case = _; holds = s .pre .1 .holds .run-start })
 
 ones-requires : tie.Need-ones-requires
 ones-requires c κs = search needs
@@ -79,6 +85,7 @@ run-with-totals-spec =
     tie.close
     (tie.spec
     standing-total-requires
+    lines-requires
     run-sweeps-requires
     ones-requires
     standing-total-requires-2
