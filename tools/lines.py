@@ -1,7 +1,7 @@
 #!/usr/bin/env python3
 """Write crates/steps/src/lines.rt: the straight lines of ln(1 + exp(d)), as crates/steps/specs/Lines.antt defines them.
 
-Run at the repository's root, where tools/knots.py is beside.
+Run as python3 tools/lines.py at the repository's root; tools/knots.py stands beside it.
 """
 
 from knots import table
