@@ -41,13 +41,19 @@ module _ (x y : ℕ) (g : Gentle x y) where
   line-falls r h =
       let p = product (suc r) h in let e = g .falls in let n = g .near in let s = mul-suc (x - y) r in omega arith
 
-  pub line-start : line x y 0 ≡ x
+  line-start : line x y 0 ≡ x
   unfolding line
   line-start = let z = product 0 (omega arith) in omega arith
 
   line-end : line x y 32 ≡ y
   unfolding line
   line-end = let e = g .falls in omega arith
+
+pub at-knot : (k : ℕ) → k < 1664 → addend (32 * k) ≡ T k
+at-knot k h =
+    let q : 32 * k / 32 ≡ k = omega arith in
+    let m : 32 * k % 32 ≡ 0 = omega arith in
+    on-line (32 * k) (omega arith) ∙ rw (q, m) (line-start (T k) (T (k + 1)) (slope k h))
 
 last : T 1664 ≡ 0
 unfolding T
@@ -64,11 +70,7 @@ next d h = cases (d % 32) 31 inner edge
         on-line (suc d) (omega arith) ∙ simp (q, r)
 
     over : d % 32 ≡ 31 → suc d < 53248 → addend (suc d) ≡ T (d / 32 + 1)
-    over p l =
-        let q : suc d / 32 ≡ d / 32 + 1 = omega arith in
-        let r : suc d % 32 ≡ 0 = omega arith in
-        on-line (suc d) l
-        ∙ simp (q, r) (line-start (T (d / 32 + 1)) (T (d / 32 + 1 + 1)) (slope (d / 32 + 1) (omega arith)))
+    over p l = let e : suc d ≡ 32 * (d / 32 + 1) = omega arith in ap addend e ∙ at-knot (d / 32 + 1) (omega arith)
 
     end : d % 32 ≡ 31 → 53248 ≤ suc d → addend (suc d) ≡ T (d / 32 + 1)
     end p l = let q : d / 32 + 1 ≡ 1664 = omega arith in past (suc d) l ∙ sym (ap T q ∙ last)

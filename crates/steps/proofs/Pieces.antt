@@ -12,7 +12,7 @@ use Rattle.steps.specs.Logs.{addExp, larger, difference}
 use Rattle.steps.specs.Lines.{fall, base, lines, Holds}
 use Rattle.steps.proofs.Signed.{cases, zlin, up-pos, dn-pos, up-negsuc, dn-negsuc, neg-up, neg-dn, natAbs-parts, by-sign, parts-add}
 use Rattle.steps.proofs.Slope.{slope}
-use Rattle.steps.proofs.Addends.{line, on-line, line-start, far}
+use Rattle.steps.proofs.Addends.{line, on-line, at-knot, far}
 use Rattle.steps.proofs.AddExp.{larger-first}
 use Rattle.steps.proofs.LineTable.{Line, line-below, line-above, line-high, line-low}
 
@@ -47,13 +47,6 @@ inside k r h l =
     let q : d / 32 ≡ k = omega arith in
     let m : d % 32 ≡ r = omega arith in on-line d (omega arith) ∙ rw (q, m)
 
-at-end : (k : ℕ) → k < 1604 → addend (32 * k + 32) ≡ T (k + 1)
-at-end k h =
-    let d = 32 * k + 32 in
-    let q : d / 32 ≡ k + 1 = omega arith in
-    let m : d % 32 ≡ 0 = omega arith in
-    on-line d (omega arith) ∙ rw (q, m) (line-start (T (k + 1)) (T (k + 1 + 1)) (slope (k + 1) (omega arith)))
-
 between-by : (k r : ℕ) → k < 1604 → r ≤ 32 → Between k (32 * k + r)
 unfolding base
 between-by k r h l =
@@ -64,7 +57,8 @@ between-by k r h l =
     cases r 32
     (λ i. let a = inside k r h i in record { room = omega arith; value = omega arith })
     (λ i. let e : r ≡ 32 = omega arith in
-    let a = ap (λ (n : ℕ). addend (32 * k + n)) e ∙ at-end k h in
+    let o : 32 * k + r ≡ 32 * (k + 1) = omega arith in
+    let a = ap addend o ∙ at-knot (k + 1) (omega arith) in
     let b = ap (λ (n : ℕ). fall k * n) e in record { room = omega arith; value = omega arith })
 
 between : (k d : ℕ) → k < 1604 → 32 * k ≤ d → d ≤ 32 * k + 32 → Between k d
@@ -101,7 +95,7 @@ holds k b s n d h l g t e v =
       value = v;
     }
 
-pub holds-above : (d : ℕ) → d < 51328 → Holds (1604 + d / 32) (pos d)
+holds-above : (d : ℕ) → d < 51328 → Holds (1604 + d / 32) (pos d)
 holds-above d h =
     let k = d / 32 in
     let l : k < 1604 = omega arith in
@@ -112,7 +106,7 @@ holds-above d h =
     (line-above (1604 + k) k l refl) refl
     (above-zero d ∙ ap pos (omega (arith, a .room, a .value)))
 
-pub holds-below : (n : ℕ) → n < 51328 → Holds ((51327 - n) / 32) (negsuc n)
+holds-below : (n : ℕ) → n < 51328 → Holds ((51327 - n) / 32) (negsuc n)
 holds-below n h =
     let i = (51327 - n) / 32 in
     let k = 1603 - i in
@@ -123,13 +117,13 @@ holds-below n h =
     holds i (base k) (fall k) m (negsuc n) (omega arith) (base-low k l) (fall-low k l) (line-below i k (omega arith)) s
     (below-zero n ∙ ap pos (a .value))
 
-pub holds-high : (d : ℕ) → 51328 ≤ d → Holds 3208 (pos d)
+holds-high : (d : ℕ) → 51328 ≤ d → Holds 3208 (pos d)
 holds-high d h =
     let z = far d h in
     holds 3208 0 32 (0 + 32 * d) (pos d) (omega arith) (omega arith) (omega arith) line-high refl
     (above-zero d ∙ ap pos (omega arith))
 
-pub holds-low : (n : ℕ) → 51328 ≤ n → Holds 3209 (negsuc n)
+holds-low : (n : ℕ) → 51328 ≤ n → Holds 3209 (negsuc n)
 holds-low n h =
     let z = zero-mul (suc n) in
     let a = far (suc n) (omega arith) in

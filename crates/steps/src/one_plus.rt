@@ -6,15 +6,15 @@ ghost use Rattle.steps.specs.Logs.{addExp};
 ghost use Rattle.steps.specs.Lines.{Holds};
 ghost use Rattle.steps.specs.Lines as spec;
 
-// The lines. An operation copies them once, at its top, and lends the copy.
+// The lines. The run copies them once, before its sweeps, and lends the copy: a const that is indexed is copied at each use.
 pub fn lines() -> [u32; 6420]
     ensures { λ r. ⌜ r ≡ spec.lines ⌝ }
 {
     crate::lines::LINES
 }
 
-// Which of the lines holds at d: 3,208 pieces of 32 steps from −51,328 on, then the far ones, above (3208) and below (3209). Both arms are
-// computed, so no jump is made of the test.
+// Which of the lines holds at d: 3,208 pieces of 32 steps from −51,328 on, then the far ones, above (3208) and below (3209). e is d + 51,328
+// modulo 2^64; 2^40 is added first, so that a number from 0 on is cast. Both arms are computed, so no jump is made of the test.
 fn piece(d: i64) -> usize
     requires { ⌜ natAbs d ≤ 2 ^ 36 ⌝ }
     ensures { λ k. ⌜ Holds k d ⌝ }

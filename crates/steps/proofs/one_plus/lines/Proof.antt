@@ -1,6 +1,5 @@
 -- `steps::one_plus::lines` meets its contract: the code's table is what the definition computes.
 -- Assumes nothing.
-use mathlib.Core.Path.{refl}
 use Rattle.steps.specs.Table.{knots}
 use Rattle.steps.specs.Knots.{T}
 use Rattle.steps.proofs.LineTable.{up-from, down-to, walked, lines-walked}
