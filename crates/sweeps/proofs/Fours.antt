@@ -1,4 +1,4 @@
--- A pair's score from the four values of each call summed per allele, which is how the code scores: one pass over the pile, whatever k.
+-- A pair's score from the four values of each call summed per allele: one pass over the pile, whatever k.
 -- Assumes nothing.
 use mathlib.Core.Path.{_≡_, refl, sym, ap, _∙_}
 use mathlib.Core.Bool.{Bool, true, false, cond}
