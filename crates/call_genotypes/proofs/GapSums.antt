@@ -21,7 +21,7 @@ use Rattle.sweeps.proofs.Basics.{sumOver-cong}
 use Rattle.sweeps.proofs.Fours.{allele-sums}
 use Rattle.call_genotypes.specs.Scores.{onePlus, gapValue, rowGaps, turn, rowAt, rowsAt, AlleleSums, qualSum, baseSum, neitherSum, pairGap}
 use Rattle.call_genotypes.proofs.RunningSums.{table-sum}
-use Rattle.call_genotypes.proofs.ScoreLaws.{sum-plus}
+use Rattle.call_genotypes.proofs.RunningSums.{sum-plus}
 use Rattle.call_genotypes.proofs.Tables.{table-length}
 use Rattle.call_genotypes.proofs.GapLaws.{rowFour, value-is, gaps-are, neither-is, base-phased, base-unphased}
 

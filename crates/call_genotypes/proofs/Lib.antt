@@ -1,6 +1,7 @@
 pub mod Tables
 pub mod Turns
 pub mod GapLaws
+pub mod RunningSums
 pub mod GapSums
 pub mod Sizes
 pub mod Fours
@@ -13,9 +14,11 @@ pub mod Sweeping
 pub mod Running
 pub mod SweepCases
 pub mod PriorSizes
+pub mod AcceptedPriors
+pub mod SameTables
+pub mod TableSizes
 pub mod HeldCases
 pub mod CallShares
-pub mod RunningSums
 pub mod TableParts
 pub mod CallsHeld
 pub mod LikelihoodsHeld
@@ -24,12 +27,3 @@ pub mod TotalsHeld
 pub mod NormalizedTables
 pub mod FinalLaws
 pub mod NormalizedLaws
-pub mod TallyLaws
-pub mod CountLaws
-pub mod ScoreLaws
-pub mod PosteriorLaws
-pub mod AnswerLaws
-pub mod CallLaws
-pub mod CallRuns
-pub mod Calling
-pub mod CallRefusals

@@ -1,6 +1,7 @@
--- Sums that a loop adds up one term at a time, each kept within a bound; and a sum over a table as such a sum.
+-- Sums that a loop adds up one term at a time, each kept within a bound; a sum over a table as such a sum; a sum of sums.
 -- Assumes nothing.
 use mathlib.Core.Path.{_≡_, refl, sym, ap, _∙_}
+use mathlib.Core.List.{List, [], _∷_}
 use Prim.Native.Nat.{ℕ, zero, suc, _+_, _^_, _≤_, _<_}
 use native.Mathlib.Omega.{arith}
 use native.Mathlib.Nat.{add-zero, add-suc, suc-add}
@@ -13,6 +14,14 @@ use Rattle.variants_and_fragments.specs.Sums.{sumOver}
 use Rattle.variants_and_fragments.specs.Decode.{tabulateFrom}
 use Rattle.sweeps.specs.Sweeps.{sumTo}
 use Rattle.sweeps.proofs.Basics.{sumTo-cong}
+
+-- ---- a sum of sums
+pub sum-plus : {X : Type 0} (xs : List X) (f g : X → ℤ) → sumOver xs (λ x. f x +ℤ g x) ≡ sumOver xs f +ℤ sumOver xs g
+unfolding sumOver
+sum-plus [] f g = refl
+sum-plus (x ∷ xs) f g =
+    let e = sum-plus xs f g in
+    omega (zlin, e, parts-add (f x +ℤ g x) (sumOver xs (λ x. f x +ℤ g x)), parts-add (f x) (g x), parts-add (sumOver xs f) (sumOver xs g), parts-add (f x) (sumOver xs f), parts-add (g x) (sumOver xs g), parts-add (f x +ℤ sumOver xs f) (g x +ℤ sumOver xs g))
 
 -- ---- a sum over a table
 sum-front : (n : ℕ) (f : ℕ → ℤ) → sumTo (suc n) f ≡ f 0 +ℤ sumTo n (λ j. f (suc j))

@@ -8,5 +8,3 @@ pub mod Totals
 pub mod NormalizedPosteriors
 pub mod Finals
 pub mod Normalized
-pub mod NoHaplotypes
-pub mod Tally

@@ -1,7 +1,6 @@
-// Calling genotypes: document 01, sections 4, 6 and 7.
+// Calling genotypes: document 01, sections 6 and 7.
 pub mod finals;
 pub mod likelihoods;
-pub mod no_haplotypes;
 pub mod normalized;
 pub mod priors;
 pub mod run;

@@ -24,8 +24,8 @@ use Rattle.haplotype_assembly.specs.FlistBuffer as flist
 use Rattle.shuffle.specs.declared.Ordered.{Ordered}
 use Rattle.shuffle.specs.declared.Ordered.the-variants.{Done, Refused}
 use Rattle.shuffle.specs.Answers as orders
-use Rattle.call_genotypes.specs.declared.no_haplotypes.Called.{Called}
-use Rattle.call_genotypes.specs.NoHaplotypes as no-haplotypes
+use Rattle.no_haplotypes.specs.declared.Called.{Called}
+use Rattle.no_haplotypes.specs.NoHaplotypes as no-haplotypes
 use Rattle.with_haplotypes.specs.declared.Round.{Round}
 use Rattle.with_haplotypes.specs.Round.{RoundInput, roundInput}
 use Rattle.with_haplotypes.specs.Promise as with-haplotypes

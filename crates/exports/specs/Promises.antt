@@ -22,7 +22,7 @@ use Rattle.haplotype_assembly.specs.Lines.{flistBuffer}
 use Rattle.haplotype_assembly.specs.GivenPhase.{phaseOutcome}
 use Rattle.haplotype_assembly.specs.FlistBuffer.{flistOutcome, startingWith}
 use Rattle.shuffle.specs.Answers.{sweepOrders, lentAfter}
-use Rattle.call_genotypes.specs.NoHaplotypes.{calledOf, answerAt, qualAt, gqAt}
+use Rattle.no_haplotypes.specs.NoHaplotypes.{calledOf, answerAt, qualAt, gqAt}
 use Rattle.sweeps.specs.Demand3.{Demand3}
 use Rattle.with_haplotypes.specs.declared.RoundAnswer as operation-round
 use Rattle.with_haplotypes.specs.Round.{RoundInput, case, sweepCase, start, orderOfSweep, haplotypeAt, likelihoodAt, posteriorAt, final}

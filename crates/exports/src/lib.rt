@@ -7,7 +7,7 @@ pub mod check;
 pub mod filter;
 pub mod flist;
 pub mod inputs;
-pub mod no_haplotypes;
+pub mod nohap;
 pub mod orders;
 pub mod phase;
 pub mod priors;

@@ -36,10 +36,10 @@ use Rattle.call_genotypes.specs.Likelihoods.{alleleOn}
 use Rattle.call_genotypes.specs.Runs.{resultOf}
 use Rattle.call_genotypes.specs.Scores.{rawScores}
 use Rattle.call_genotypes.specs.NormalizedPosteriors.{normalizedAt, TablesAt}
-use Rattle.call_genotypes.proofs.CallLaws.{genotype-same}
+use Rattle.call_genotypes.proofs.SameTables.{genotype-same}
 use Rattle.call_genotypes.proofs.HeldCases.{alleles-are}
 use Rattle.call_genotypes.proofs.NormalizedTables.{normalized-here, normalized-same}
-use Rattle.call_genotypes.proofs.ScoreLaws.{normal-size}
+use Rattle.call_genotypes.proofs.TableSizes.{normal-size}
 use Rattle.call_genotypes.proofs.SweepCases as cases
 use Rattle.with_haplotypes.specs.declared.RoundAnswer.{RoundAnswer}
 use Rattle.with_haplotypes.specs.Round.{RoundInput, case, sweepCase, start, orderOfSweep, result, returned, haplotypeAt, likelihoodAt, latestScore, posteriors, posteriorAt, final}

@@ -8,8 +8,7 @@ use lib.IntN.{ℤ}
 use Rattle.variants_and_fragments.specs.Decode.{decode}
 use Rattle.variants_and_fragments.specs.Written.{written}
 use Rattle.genotype_probs.specs.Priors.{priorAt}
-use Rattle.call_genotypes.proofs.Calling.{alleles-in}
-use Rattle.call_genotypes.proofs.ScoreLaws.{table-in}
+use Rattle.call_genotypes.proofs.AcceptedPriors.{table-in, alleles-in}
 use borrow.Author.Needs.{needs}
 use Rattle.call_genotypes.proofs.priors.make_priors.Statement.{statement}
 use Rattle.call_genotypes.proofs.priors.make_priors.Tie as tie

@@ -1,0 +1,9 @@
+pub mod TallyLaws
+pub mod CountLaws
+pub mod ScoreLaws
+pub mod PosteriorLaws
+pub mod AnswerLaws
+pub mod CallLaws
+pub mod CallRuns
+pub mod Calling
+pub mod CallRefusals

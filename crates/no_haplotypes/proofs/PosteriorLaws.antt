@@ -1,0 +1,107 @@
+-- The posteriors of a variant from its priors and the sums over its pile: what the nine places hold after scoring, and after normalising.
+-- Assumes nothing.
+use mathlib.Core.Path.{_≡_, refl, sym, ap, _∙_}
+use mathlib.Core.Bool.{Bool, true, false, cond}
+use mathlib.Core.List.{List}
+use Prim.Native.Nat.{ℕ, _+_, _*_, _-_, _/_, _%_, _^_, _≤_, _<_}
+use native.Mathlib.Omega.{arith}
+use borrow.Author.Tests.{ltb-true, lt-ltb}
+use lib.Dec.{eqb, ltb}
+use lib.IntN.{ℤ, pos, natAbs, _+ℤ_, _-ℤ_}
+use lib.ListN.{length, getD, drop}
+use lib.Seq.{getD-drop}
+use Rattle.steps.proofs.Signed.{by-test, add-abs}
+use Rattle.variants_and_fragments.specs.Case.{Case}
+use Rattle.variants_and_fragments.specs.Decode.{tabulate}
+use Rattle.variants_and_fragments.specs.Pileup.{pileOf}
+use Rattle.variants_and_fragments.proofs.Decoded.{tabulate-at}
+use Rattle.genotype_probs.specs.Places.{writtenFrom}
+use Rattle.genotype_probs.specs.Posteriors.{sumOf, entryAt, rowSum, tableSum, normalized, TableAt}
+use Rattle.genotype_probs.proofs.AlleleLaws.{nine}
+use Rattle.genotype_probs.proofs.Places.{from-length, from-past, from-at}
+use Rattle.genotype_probs.proofs.TableSums.{tabulate-cong, place-in, pair-in}
+use Rattle.call_genotypes.proofs.TableSizes.{normal-size}
+use Rattle.no_haplotypes.specs.Tally.{Tallied, GainsIn, pairGain, gained, PriorsAt, scoredFrom, PosteriorsMade}
+use Rattle.no_haplotypes.proofs.ScoreLaws.{pair-is}
+
+-- ---- a normalised table goes by its k × k entries
+module _ (tab other : List ℤ) (k : ℕ) (same : (p : ℕ) → p < k * k → getD tab p (pos 0) ≡ getD other p (pos 0)) where
+  sum-same : tableSum tab k ≡ tableSum other k
+  unfolding tableSum rowSum entryAt
+  sum-same =
+      ap sumOf (tabulate-cong k (rowSum tab k) (rowSum other k) (λ i h. ap sumOf (tabulate-cong k (entryAt tab k i) (entryAt other k i) (λ j l. same (i * k + j) (place-in i j k h l)))))
+
+  pub normal-same : (p : ℕ) → normalized tab k p ≡ normalized other k p
+  unfolding normalized
+  normal-same p =
+      by-test (ltb p (k * k))
+      (λ t. rw (t, same p (ltb-true p (k * k) t), sum-same))
+      (λ t. rw t)
+
+-- ---- the places after scoring
+pair-small : (t : Bool) (a b c d : ℤ) → natAbs a ≤ 2 ^ 34 → natAbs b ≤ 2 ^ 34 → natAbs c ≤ 2 ^ 34 → natAbs d ≤ 2 ^ 34 → natAbs (cond t (a +ℤ b) (a +ℤ c +ℤ d)) ≤ 3 * 2 ^ 34
+pair-small true a b c d h i j k = omega (arith, add-abs a b)
+pair-small false a b c d h i j k = omega (arith, add-abs (a +ℤ c) d, add-abs a c)
+
+module _ {before mid : List ℤ} {at k : ℕ} {total : ℤ} {both one : List ℤ} (low : 1 ≤ k) (top : k ≤ 3) (priors : PriorsAt before at) (gains : GainsIn total both one) (e : mid ≡ writtenFrom (gained (drop at before) k total both one) at 9 before) where
+  mid-at : (p : ℕ) → p < 9 → getD mid (at + p) (pos 0) ≡ gained (drop at before) k total both one p
+  mid-at p h = ap (λ (l : List ℤ). getD l (at + p) (pos 0)) e ∙ from-at (gained (drop at before) k total both one) at 9 before p (pos 0) (priors .room) h
+
+  score-small : (p : ℕ) → p < k * k → natAbs (gained (drop at before) k total both one p) ≤ 2 ^ 36
+  unfolding gained pairGain
+  score-small p h =
+      let q = pair-in k p low h in
+      let i : p / k < 3 = omega (arith, q .0) in
+      let j : p % k < 3 = omega (arith, q .1) in
+      let d = getD-drop at before p (pos 0) in
+      let m = priors .small p (omega (arith, nine k top)) in
+      let g = pair-small (eqb (p / k) (p % k)) total (getD both (p / k) (pos 0)) (getD one (p / k) (pos 0)) (getD one (p % k) (pos 0)) (gains .total-small) (gains .both-small (p / k) i) (gains .one-small (p / k) i) (gains .one-small (p % k) j) in
+      rw (lt-ltb p (k * k) h) (omega (arith, add-abs (getD (drop at before) p (pos 0)) (pairGain total both one (p / k) (p % k)), ap natAbs d))
+
+  pub scored-table : TableAt mid at k
+  scored-table = record {
+    k-low = low;
+    k-high = top;
+    inside = omega (arith, ap length e, from-length (gained (drop at before) k total both one) at 9 before, priors .room);
+    small = λ p h. omega (arith, ap natAbs (mid-at p (omega (arith, nine k top))), score-small p h);
+  }
+
+  -- ---- and after normalising
+  module _ {after : List ℤ} (f : after ≡ writtenFrom (normalized (drop at mid) k) at 9 mid) where
+    after-at : (p : ℕ) → p < 9 → getD after (at + p) (pos 0) ≡ normalized (drop at mid) k p
+    after-at p h = ap (λ (l : List ℤ). getD l (at + p) (pos 0)) f ∙ from-at (normalized (drop at mid) k) at 9 mid p (pos 0) (scored-table .inside) h
+
+    entry-small : (p : ℕ) → p < k * k → natAbs (getD (drop at mid) p (pos 0)) ≤ 2 ^ 36
+    entry-small p h = omega (arith, ap natAbs (getD-drop at mid p (pos 0)), ap natAbs (mid-at p (omega (arith, nine k top))), score-small p h)
+
+    after-small : (p : ℕ) → p < 9 → natAbs (getD after (at + p) (pos 0)) ≤ 2 ^ 40
+    after-small p h = omega (arith, ap natAbs (after-at p h), normal-size (2 ^ 36) (drop at mid) k top entry-small p)
+
+    after-past : (x : ℕ) → at + 9 ≤ x → getD after x (pos 0) ≡ getD before x (pos 0)
+    after-past x h =
+        let z : at + (x - at) ≡ x = omega arith in
+        let g = ap (λ (l : List ℤ). getD l (at + (x - at)) (pos 0)) f ∙ from-past (normalized (drop at mid) k) at 9 mid (x - at) (pos 0) (omega arith) in
+        let i = ap (λ (l : List ℤ). getD l (at + (x - at)) (pos 0)) e ∙ from-past (gained (drop at before) k total both one) at 9 before (x - at) (pos 0) (omega arith) in
+        rw z at (g ∙ i)
+
+    module _ {case : Case} {v : ℕ} {counts : List ℕ} (t : Tallied case v total both one counts) where
+      scored-is : (p : ℕ) → gained (drop at before) k total both one p ≡ scoredFrom (drop at before) k (pileOf case v) p
+      unfolding gained scoredFrom
+      scored-is p =
+          by-test (ltb p (k * k))
+          (λ u. let q = pair-in k p low (ltb-true p (k * k) u) in rw u (ap (λ (z : ℤ). getD (drop at before) p (pos 0) +ℤ z) (pair-is t (p / k) (p % k) (omega (arith, q .0)) (omega (arith, q .1)))))
+          (λ u. rw u)
+
+      after-is : (p : ℕ) → p < 9 → getD after (at + p) (pos 0) ≡ normalized (tabulate 9 (scoredFrom (drop at before) k (pileOf case v))) k p
+      after-is p h =
+          after-at p h
+          ∙ normal-same (drop at mid) (tabulate 9 (scoredFrom (drop at before) k (pileOf case v))) k
+          (λ q l. let m : q < 9 = omega (arith, nine k top) in getD-drop at mid q (pos 0) ∙ mid-at q m ∙ scored-is q ∙ sym (tabulate-at 9 (scoredFrom (drop at before) k (pileOf case v)) q (pos 0) m)) p
+
+      pub posteriors-made : at ≡ 9 * v → PosteriorsMade case v k before after counts
+      posteriors-made z = record {
+        here = rw z at after-is;
+        small = rw z at after-small;
+        past = rw z at after-past;
+        counts-are = t .counts-are;
+      }

@@ -1,0 +1,2 @@
+pub mod NoHaplotypes
+pub mod Tally
