@@ -1,4 +1,5 @@
--- A call's four values are "neither" plus its gaps; and "neither" is its last number less 4,096, and less its gap or plus its qual. Assumes nothing.
+-- A call's four values are "neither" plus its gaps; and "neither" is its last number less 4,096, then at a phased variant less its gap if the
+-- second haplotype has its allele, at an unphased one plus its qual. Assumes nothing.
 use mathlib.Core.Path.{_≡_, refl, sym, ap, _∙_}
 use mathlib.Core.Bool.{Bool, true, false, cond}
 use mathlib.Core.List.{List}
@@ -97,30 +98,30 @@ base-unphased l q m =
     let z = ((l -ℤ pos 0) +ℤ q) -ℤ pos 4096 in
     omega (zlin, parts-add l m, parts-add (l +ℤ m) q, parts-minus l (pos 0), parts-add (l -ℤ pos 0) q, parts-minus ((l -ℤ pos 0) +ℤ q) (pos 4096), parts-add z m, parts-add (z +ℤ m) (pos 4096), up-pos 0, dn-pos 0)
 
-module _ (phased : Bool) (g0 g1 : ℕ) (alpha lik : List ℤ) (turns : (x : ℕ) → getD alpha x (pos 0) ≡ turn phased g0 g1 x) where
+module _ (phased : Bool) (g0 g1 : ℕ) (turns lik : List ℤ) (turns-are : (x : ℕ) → getD turns x (pos 0) ≡ turn phased g0 g1 x) where
   abbrev first-lik : Row → ℤ
   first-lik row = getD lik (2 * row .fragment) (pos 0)
 
   abbrev second-lik : Row → ℤ
   second-lik row = getD lik (2 * row .fragment + 1) (pos 0)
 
-  abbrev with0 : Row → ℤ
-  with0 row = without phased (first-lik row) (row .call) g0
+  abbrev without0 : Row → ℤ
+  without0 row = without phased (first-lik row) (row .call) g0
 
-  abbrev with1 : Row → ℤ
-  with1 row = without phased (second-lik row) (row .call) g1
+  abbrev without1 : Row → ℤ
+  without1 row = without phased (second-lik row) (row .call) g1
 
-  distance-is : (row : Row) → (first-lik row -ℤ second-lik row) +ℤ (getD alpha (row .call .allele) (pos 0) *ℤ rowGap row) ≡ with0 row -ℤ with1 row
+  distance-is : (row : Row) → (first-lik row -ℤ second-lik row) +ℤ (getD turns (row .call .allele) (pos 0) *ℤ rowGap row) ≡ without0 row -ℤ without1 row
   unfolding callTerm turn
   distance-is row =
-      ap (λ (z : ℤ). (first-lik row -ℤ second-lik row) +ℤ (z *ℤ rowGap row)) (turns (row .call .allele))
+      ap (λ (z : ℤ). (first-lik row -ℤ second-lik row) +ℤ (z *ℤ rowGap row)) (turns-are (row .call .allele))
       ∙ sym (far-is phased (eqb (row .call .allele) g0) (eqb (row .call .allele) g1) (first-lik row) (second-lik row) (row .call .qual) (row .call .one-minus-qual))
 
-  pub gaps-are : (row : Row) (w : ℕ) → rowGaps alpha lik row w ≡ gapValue (second-lik row) (with0 row -ℤ with1 row) (rowGap row) w
+  pub gaps-are : (row : Row) (w : ℕ) → rowGaps turns lik row w ≡ gapValue (second-lik row) (without0 row -ℤ without1 row) (rowGap row) w
   unfolding rowGaps
   gaps-are row w = ap (λ (d : ℤ). gapValue (second-lik row) d (rowGap row) w) (distance-is row)
 
   -- a row's value of the four
-  pub value-is : (row : Row) (w : ℕ) → w < 3 → rowFour phased g0 g1 lik row (suc w) ≡ rowFour phased g0 g1 lik row 0 +ℤ rowGaps alpha lik row w
+  pub value-is : (row : Row) (w : ℕ) → w < 3 → rowFour phased g0 g1 lik row (suc w) ≡ rowFour phased g0 g1 lik row 0 +ℤ rowGaps turns lik row w
   unfolding rowFour
-  value-is row w l = gap-is (with0 row) (with1 row) (second-lik row) (row .call) w l ∙ ap (λ (z : ℤ). fourValue mixOf (with0 row) (with1 row) (row .call) 0 +ℤ z) (sym (gaps-are row w))
+  value-is row w l = gap-is (without0 row) (without1 row) (second-lik row) (row .call) w l ∙ ap (λ (z : ℤ). fourValue mixOf (without0 row) (without1 row) (row .call) 0 +ℤ z) (sym (gaps-are row w))

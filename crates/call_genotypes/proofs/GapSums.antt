@@ -20,27 +20,26 @@ use Rattle.sweeps.specs.Incremental.{fourValue, whichValue, alleleSum}
 use Rattle.sweeps.proofs.Basics.{sumOver-cong}
 use Rattle.sweeps.proofs.Fours.{allele-sums}
 use Rattle.call_genotypes.specs.Scores.{onePlus, gapValue, rowGaps, turn, rowAt, rowsAt, AlleleSums, qualSum, baseSum, neitherSum, pairGap}
-use Rattle.call_genotypes.proofs.RunningSums.{table-sum}
-use Rattle.call_genotypes.proofs.RunningSums.{sum-plus}
+use Rattle.call_genotypes.proofs.RunningSums.{table-sum, sum-plus}
 use Rattle.call_genotypes.proofs.Tables.{table-length}
 use Rattle.call_genotypes.proofs.GapLaws.{rowFour, value-is, gaps-are, neither-is, base-phased, base-unphased}
 
-module _ (phased : Bool) (g0 g1 : ℕ) (alpha lik : List ℤ) (turns : (x : ℕ) → getD alpha x (pos 0) ≡ turn phased g0 g1 x) where
-  -- what (i, j) takes of a row: "neither", and a gap of its allele's
+module _ (phased : Bool) (g0 g1 : ℕ) (turns lik : List ℤ) (turns-are : (x : ℕ) → getD turns x (pos 0) ≡ turn phased g0 g1 x) where
+  -- what (i, j) takes of a row over "neither": the gaps of its allele
   rowPair : ℕ → ℕ → Row → ℤ
   rowPair i j row =
-      cond (eqb i j) (cond (eqb (row .call .allele) i) (rowGaps alpha lik row 2) (pos 0))
-      (cond (eqb (row .call .allele) i) (rowGaps alpha lik row 0) (pos 0) +ℤ cond (eqb (row .call .allele) j) (rowGaps alpha lik row 1) (pos 0))
+      cond (eqb i j) (cond (eqb (row .call .allele) i) (rowGaps turns lik row 2) (pos 0))
+      (cond (eqb (row .call .allele) i) (rowGaps turns lik row 0) (pos 0) +ℤ cond (eqb (row .call .allele) j) (rowGaps turns lik row 1) (pos 0))
 
-  taken-same : (row : Row) (t : Bool) → rowFour phased g0 g1 lik row (cond t 1 0 + cond t 2 0) ≡ rowFour phased g0 g1 lik row 0 +ℤ cond t (rowGaps alpha lik row 2) (pos 0)
-  taken-same row true = value-is phased g0 g1 alpha lik turns row 2 (omega arith)
+  taken-same : (row : Row) (t : Bool) → rowFour phased g0 g1 lik row (cond t 1 0 + cond t 2 0) ≡ rowFour phased g0 g1 lik row 0 +ℤ cond t (rowGaps turns lik row 2) (pos 0)
+  taken-same row true = value-is phased g0 g1 turns lik turns-are row 2 (omega arith)
   taken-same row false = sym (+ℤ-idr _)
 
   taken-other : (row : Row) (s t : Bool) → (s ≡ true → t ≡ true → ⊥)
-      → rowFour phased g0 g1 lik row (cond s 1 0 + cond t 2 0) ≡ rowFour phased g0 g1 lik row 0 +ℤ (cond s (rowGaps alpha lik row 0) (pos 0) +ℤ cond t (rowGaps alpha lik row 1) (pos 0))
+      → rowFour phased g0 g1 lik row (cond s 1 0 + cond t 2 0) ≡ rowFour phased g0 g1 lik row 0 +ℤ (cond s (rowGaps turns lik row 0) (pos 0) +ℤ cond t (rowGaps turns lik row 1) (pos 0))
   taken-other row true true f = absurd (f refl refl)
-  taken-other row true false f = value-is phased g0 g1 alpha lik turns row 0 (omega arith) ∙ ap (λ (z : ℤ). rowFour phased g0 g1 lik row 0 +ℤ z) (sym (+ℤ-idr _))
-  taken-other row false true f = value-is phased g0 g1 alpha lik turns row 1 (omega arith) ∙ ap (λ (z : ℤ). rowFour phased g0 g1 lik row 0 +ℤ z) (sym (+ℤ-idl _))
+  taken-other row true false f = value-is phased g0 g1 turns lik turns-are row 0 (omega arith) ∙ ap (λ (z : ℤ). rowFour phased g0 g1 lik row 0 +ℤ z) (sym (+ℤ-idr _))
+  taken-other row false true f = value-is phased g0 g1 turns lik turns-are row 1 (omega arith) ∙ ap (λ (z : ℤ). rowFour phased g0 g1 lik row 0 +ℤ z) (sym (+ℤ-idl _))
   taken-other row false false f = sym (+ℤ-idr _)
 
   taken-is : (i j : ℕ) (row : Row) → rowFour phased g0 g1 lik row (whichValue i j (row .call .allele)) ≡ rowFour phased g0 g1 lik row 0 +ℤ rowPair i j row
@@ -51,8 +50,8 @@ module _ (phased : Bool) (g0 g1 : ℕ) (alpha lik : List ℤ) (turns : (x : ℕ)
   ]
 
   -- all rows
-  module _ (rows : List Row) (acc : List ℤ) (A : AlleleSums (rowGaps alpha lik) rows acc) where
-    sum-at : (x w : ℕ) → x < 3 → w < 4 → sumOver rows (λ row. cond (eqb (row .call .allele) x) (rowGaps alpha lik row w) (pos 0)) ≡ getD acc (4 * x + w) (pos 0)
+  module _ (rows : List Row) (acc : List ℤ) (A : AlleleSums (rowGaps turns lik) rows acc) where
+    sum-at : (x w : ℕ) → x < 3 → w < 4 → sumOver rows (λ row. cond (eqb (row .call .allele) x) (rowGaps turns lik row w) (pos 0)) ≡ getD acc (4 * x + w) (pos 0)
     unfolding alleleSum
     sum-at x w a b = sym (A .sums x w a b)
 
@@ -60,10 +59,10 @@ module _ (phased : Bool) (g0 g1 : ℕ) (alpha lik : List ℤ) (turns : (x : ℕ)
     unfolding rowPair
     gaps-sum i j h l = go (eqb i j)
       where
-        go : (t : Bool) → sumOver rows (λ row. cond t (cond (eqb (row .call .allele) i) (rowGaps alpha lik row 2) (pos 0)) (cond (eqb (row .call .allele) i) (rowGaps alpha lik row 0) (pos 0) +ℤ cond (eqb (row .call .allele) j) (rowGaps alpha lik row 1) (pos 0)))
+        go : (t : Bool) → sumOver rows (λ row. cond t (cond (eqb (row .call .allele) i) (rowGaps turns lik row 2) (pos 0)) (cond (eqb (row .call .allele) i) (rowGaps turns lik row 0) (pos 0) +ℤ cond (eqb (row .call .allele) j) (rowGaps turns lik row 1) (pos 0)))
             ≡ cond t (getD acc (4 * i + 2) (pos 0)) (getD acc (4 * i) (pos 0) +ℤ getD acc (4 * j + 1) (pos 0))
         go true = sum-at i 2 h (omega arith)
-        go false = sum-plus rows (λ row. cond (eqb (row .call .allele) i) (rowGaps alpha lik row 0) (pos 0)) (λ row. cond (eqb (row .call .allele) j) (rowGaps alpha lik row 1) (pos 0))
+        go false = sum-plus rows (λ row. cond (eqb (row .call .allele) i) (rowGaps turns lik row 0) (pos 0)) (λ row. cond (eqb (row .call .allele) j) (rowGaps turns lik row 1) (pos 0))
             ∙ cc (sum-at i 0 h (omega arith), sum-at j 1 l (omega arith), add-zero (4 * i))
 
     -- what the pair takes of all rows
@@ -74,8 +73,8 @@ module _ (phased : Bool) (g0 g1 : ℕ) (alpha lik : List ℤ) (turns : (x : ℕ)
         ∙ ap (λ (z : ℤ). sumOver rows (λ row. rowFour phased g0 g1 lik row 0) +ℤ z) (gaps-sum i j h l)
 
     -- the last numbers of all rows
-    bases-are : All (λ row. row .call .allele < 3) rows → (getD acc 3 (pos 0) +ℤ getD acc 7 (pos 0)) +ℤ getD acc 11 (pos 0) ≡ sumOver rows (λ row. rowGaps alpha lik row 3)
-    bases-are low = cc (A .sums 0 3 (omega arith) (omega arith), A .sums 1 3 (omega arith) (omega arith), A .sums 2 3 (omega arith) (omega arith), allele-sums (rowGaps alpha lik) (λ x. 3) rows low)
+    bases-are : All (λ row. row .call .allele < 3) rows → (getD acc 3 (pos 0) +ℤ getD acc 7 (pos 0)) +ℤ getD acc 11 (pos 0) ≡ sumOver rows (λ row. rowGaps turns lik row 3)
+    bases-are low = cc (A .sums 0 3 (omega arith) (omega arith), A .sums 1 3 (omega arith) (omega arith), A .sums 2 3 (omega arith) (omega arith), allele-sums (rowGaps turns lik) (λ x. 3) rows low)
 
 sum-const : (rows : List Row) (n : ℕ) → sumOver rows (λ row. pos n) ≡ pos (n * length rows)
 unfolding sumOver
@@ -89,65 +88,65 @@ all-and : (f c y s : ℤ) → s +ℤ y ≡ f +ℤ c → (s -ℤ c) +ℤ y ≡ f
 all-and f c y s e = omega (zlin, parts-add f c, parts-add s y, parts-minus s c, parts-add (s -ℤ c) y)
 
 -- ---- "neither" of all rows, from their sums
-module _ (g0 g1 : ℕ) (alpha lik : List ℤ) where
-  row-phased : ((x : ℕ) → getD alpha x (pos 0) ≡ turn true g0 g1 x) → (row : Row)
-      → rowGaps alpha lik row 3 ≡ (rowFour true g0 g1 lik row 0 +ℤ pos 4096) +ℤ cond (eqb (row .call .allele) g1) (rowGaps alpha lik row 2) (pos 0)
+module _ (g0 g1 : ℕ) (turns lik : List ℤ) where
+  row-phased : ((x : ℕ) → getD turns x (pos 0) ≡ turn true g0 g1 x) → (row : Row)
+      → rowGaps turns lik row 3 ≡ (rowFour true g0 g1 lik row 0 +ℤ pos 4096) +ℤ cond (eqb (row .call .allele) g1) (rowGaps turns lik row 2) (pos 0)
   unfolding rowFour fourValue gapValue callTerm
-  row-phased turns row =
+  row-phased turns-are row =
       let l0 = getD lik (2 * row .fragment) (pos 0) in
       let l1 = getD lik (2 * row .fragment + 1) (pos 0) in
       let q = row .call .qual in
       let o = row .call .one-minus-qual in
       let b0 = l0 -ℤ cond (eqb (row .call .allele) g0) o q in
       let b1 = l1 -ℤ cond (eqb (row .call .allele) g1) o q in
-      cc (gaps-are true g0 g1 alpha lik turns row 3, gaps-are true g0 g1 alpha lik turns row 2, neither-is b0 b1 q o, base-phased (eqb (row .call .allele) g1) l1 q o (onePlus (b0 -ℤ b1)))
+      cc (gaps-are true g0 g1 turns lik turns-are row 3, gaps-are true g0 g1 turns lik turns-are row 2, neither-is b0 b1 q o, base-phased (eqb (row .call .allele) g1) l1 q o (onePlus (b0 -ℤ b1)))
 
-  row-unphased : ((x : ℕ) → getD alpha x (pos 0) ≡ turn false g0 g1 x) → (row : Row)
-      → rowGaps alpha lik row 3 +ℤ rowQual row ≡ rowFour false g0 g1 lik row 0 +ℤ pos 4096
+  row-unphased : ((x : ℕ) → getD turns x (pos 0) ≡ turn false g0 g1 x) → (row : Row)
+      → rowGaps turns lik row 3 +ℤ rowQual row ≡ rowFour false g0 g1 lik row 0 +ℤ pos 4096
   unfolding rowFour fourValue gapValue callTerm
-  row-unphased turns row =
+  row-unphased turns-are row =
       let l0 = getD lik (2 * row .fragment) (pos 0) in
       let l1 = getD lik (2 * row .fragment + 1) (pos 0) in
       let q = row .call .qual in
-      cc (gaps-are false g0 g1 alpha lik turns row 3, neither-is (l0 -ℤ pos 0) (l1 -ℤ pos 0) q (row .call .one-minus-qual), base-unphased l1 q (onePlus ((l0 -ℤ pos 0) -ℤ (l1 -ℤ pos 0))))
+      cc (gaps-are false g0 g1 turns lik turns-are row 3, neither-is (l0 -ℤ pos 0) (l1 -ℤ pos 0) q (row .call .one-minus-qual), base-unphased l1 q (onePlus ((l0 -ℤ pos 0) -ℤ (l1 -ℤ pos 0))))
 
-  module _ (rows : List Row) (acc : List ℤ) (A : AlleleSums (rowGaps alpha lik) rows acc) (low : All (λ row. row .call .allele < 3) rows) (n : ℕ) (long : length rows ≡ n) where
-    abbrev thirds : ℤ
-    thirds = sumOver rows (λ row. rowGaps alpha lik row 3)
+  module _ (rows : List Row) (acc : List ℤ) (A : AlleleSums (rowGaps turns lik) rows acc) (low : All (λ row. row .call .allele < 3) rows) (n : ℕ) (long : length rows ≡ n) where
+    abbrev bases : ℤ
+    bases = sumOver rows (λ row. rowGaps turns lik row 3)
 
     constants : sumOver rows (λ row. pos 4096) ≡ pos (4096 * n)
     constants = sum-const rows 4096 ∙ ap (λ (m : ℕ). pos (4096 * m)) long
 
-    phased-neither : ((x : ℕ) → getD alpha x (pos 0) ≡ turn true g0 g1 x) → g1 < 3 → baseSum acc n -ℤ getD acc (4 * g1 + 2) (pos 0) ≡ sumOver rows (λ row. rowFour true g0 g1 lik row 0)
+    phased-neither : ((x : ℕ) → getD turns x (pos 0) ≡ turn true g0 g1 x) → g1 < 3 → baseSum acc n -ℤ getD acc (4 * g1 + 2) (pos 0) ≡ sumOver rows (λ row. rowFour true g0 g1 lik row 0)
     unfolding alleleSum
-    phased-neither turns h =
+    phased-neither turns-are h =
         let four : Row → ℤ = λ row. rowFour true g0 g1 lik row 0 in
-        let own : Row → ℤ = λ row. cond (eqb (row .call .allele) g1) (rowGaps alpha lik row 2) (pos 0) in
-        let s : thirds ≡ (sumOver rows four +ℤ pos (4096 * n)) +ℤ getD acc (4 * g1 + 2) (pos 0) =
-        sumOver-cong rows (λ row. rowGaps alpha lik row 3) (λ row. (four row +ℤ pos 4096) +ℤ own row) (row-phased turns)
+        let own : Row → ℤ = λ row. cond (eqb (row .call .allele) g1) (rowGaps turns lik row 2) (pos 0) in
+        let s : bases ≡ (sumOver rows four +ℤ pos (4096 * n)) +ℤ getD acc (4 * g1 + 2) (pos 0) =
+        sumOver-cong rows (λ row. rowGaps turns lik row 3) (λ row. (four row +ℤ pos 4096) +ℤ own row) (row-phased turns-are)
         ∙ sum-plus rows (λ row. four row +ℤ pos 4096) own
         ∙ cc (sum-plus rows four (λ row. pos 4096), constants, A .sums g1 2 h (omega arith)) in
-        let t = bases-are true g0 g1 alpha lik turns rows acc A low in
+        let t = bases-are true g0 g1 turns lik turns-are rows acc A low in
         all-but (sumOver rows four) (pos (4096 * n)) (getD acc (4 * g1 + 2) (pos 0)) ((getD acc 3 (pos 0) +ℤ getD acc 7 (pos 0)) +ℤ getD acc 11 (pos 0)) (t ∙ s)
 
-    unphased-neither : ((x : ℕ) → getD alpha x (pos 0) ≡ turn false g0 g1 x) → (z : ℤ) → sumOver rows rowQual ≡ z → baseSum acc n +ℤ z ≡ sumOver rows (λ row. rowFour false g0 g1 lik row 0)
-    unphased-neither turns z e =
+    unphased-neither : ((x : ℕ) → getD turns x (pos 0) ≡ turn false g0 g1 x) → (z : ℤ) → sumOver rows rowQual ≡ z → baseSum acc n +ℤ z ≡ sumOver rows (λ row. rowFour false g0 g1 lik row 0)
+    unphased-neither turns-are z e =
         let four : Row → ℤ = λ row. rowFour false g0 g1 lik row 0 in
-        let s : thirds +ℤ z ≡ sumOver rows four +ℤ pos (4096 * n) =
-        ap (λ (y : ℤ). thirds +ℤ y) (sym e) ∙ sym (sum-plus rows (λ row. rowGaps alpha lik row 3) rowQual)
-        ∙ sumOver-cong rows (λ row. rowGaps alpha lik row 3 +ℤ rowQual row) (λ row. four row +ℤ pos 4096) (row-unphased turns)
+        let s : bases +ℤ z ≡ sumOver rows four +ℤ pos (4096 * n) =
+        ap (λ (y : ℤ). bases +ℤ y) (sym e) ∙ sym (sum-plus rows (λ row. rowGaps turns lik row 3) rowQual)
+        ∙ sumOver-cong rows (λ row. rowGaps turns lik row 3 +ℤ rowQual row) (λ row. four row +ℤ pos 4096) (row-unphased turns-are)
         ∙ sum-plus rows four (λ row. pos 4096) ∙ cc (constants) in
-        let t = bases-are false g0 g1 alpha lik turns rows acc A low in
+        let t = bases-are false g0 g1 turns lik turns-are rows acc A low in
         all-and (sumOver rows four) (pos (4096 * n)) z ((getD acc 3 (pos 0) +ℤ getD acc 7 (pos 0)) +ℤ getD acc 11 (pos 0)) (ap (λ (y : ℤ). y +ℤ z) t ∙ s)
 
 -- the same of the rows that the slices hold
-pub neither-are : (phased : Bool) (g0 g1 : ℕ) (alpha lik : List ℤ) → ((x : ℕ) → getD alpha x (pos 0) ≡ turn phased g0 g1 x) → g1 < 3
-    → (v : ℕ) (who : List ℕ) (quals one-minus-quals : List ℤ) (a e : ℕ) (acc : List ℤ) → AlleleSums (rowGaps alpha lik) (rowsAt v who quals one-minus-quals a e) acc
+pub neither-are : (phased : Bool) (g0 g1 : ℕ) (turns lik : List ℤ) → ((x : ℕ) → getD turns x (pos 0) ≡ turn phased g0 g1 x) → g1 < 3
+    → (v : ℕ) (who : List ℕ) (quals one-minus-quals : List ℤ) (a e : ℕ) (acc : List ℤ) → AlleleSums (rowGaps turns lik) (rowsAt v who quals one-minus-quals a e) acc
     → All (λ row. row .call .allele < 3) (rowsAt v who quals one-minus-quals a e)
     → neitherSum phased g1 quals acc a e ≡ sumOver (rowsAt v who quals one-minus-quals a e) (λ row. rowFour phased g0 g1 lik row 0)
 unfolding rowAt qualSum
-neither-are true g0 g1 alpha lik turns h v who quals one-minus-quals a e acc A low =
-    phased-neither g0 g1 alpha lik (rowsAt v who quals one-minus-quals a e) acc A low (e - a) (table-length noRow (rowAt v who quals one-minus-quals) a (e - a)) turns h
-neither-are false g0 g1 alpha lik turns h v who quals one-minus-quals a e acc A low =
-    unphased-neither g0 g1 alpha lik (rowsAt v who quals one-minus-quals a e) acc A low (e - a) (table-length noRow (rowAt v who quals one-minus-quals) a (e - a)) turns (qualSum quals a (e - a))
+neither-are true g0 g1 turns lik turns-are h v who quals one-minus-quals a e acc A low =
+    phased-neither g0 g1 turns lik (rowsAt v who quals one-minus-quals a e) acc A low (e - a) (table-length noRow (rowAt v who quals one-minus-quals) a (e - a)) turns-are h
+neither-are false g0 g1 turns lik turns-are h v who quals one-minus-quals a e acc A low =
+    unphased-neither g0 g1 turns lik (rowsAt v who quals one-minus-quals a e) acc A low (e - a) (table-length noRow (rowAt v who quals one-minus-quals) a (e - a)) turns-are (qualSum quals a (e - a))
     (table-sum (rowAt v who quals one-minus-quals) rowQual a (e - a) ∙ sym (table-sum (λ p. getD quals p (pos 0)) (λ q. q) a (e - a)))

@@ -172,7 +172,7 @@ module _ {C : SweepCase} {ks ph : List ℕ} {pri : List ℤ} {ends who : List �
   abbrev pile-of : List Row
   pile-of = pileupFrom v 0 (C .frags)
 
-  module _ (alpha acc : List ℤ) (base : ℤ) (turns : (x : ℕ) → getD alpha x (pos 0) ≡ turn (C .phased v) (allele0 h v) (allele1 h v) x) (A : AlleleSums (rowGaps alpha lik) pile-of acc)
+  module _ (turns acc : List ℤ) (base : ℤ) (turns-are : (x : ℕ) → getD turns x (pos 0) ≡ turn (C .phased v) (allele0 h v) (allele1 h v) x) (A : AlleleSums (rowGaps turns lik) pile-of acc)
       (b : base ≡ sumOver pile-of (λ row. values row 0)) where
     pair-score-is : (i j : ℕ) → i < 3 → j < 3 → (C .prior v i j +ℤ base) +ℤ pairGap acc i j ≡ scoreWith C v h i j
     pair-score-is i j l m = sym
@@ -180,7 +180,7 @@ module _ {C : SweepCase} {ks ph : List ℕ} {pri : List ℤ} {ends who : List �
         ∙ ap (λ z. C .prior v i j +ℤ z)
         (sumOver-cong pile-of (share C v h L0 L1 i j) (λ row. values row (whichValue i j (row .call .allele)))
         (λ row. share-value C v h L0 L1 i j row ∙ value-is row (whichValue i j (row .call .allele)))
-        ∙ pairs-are (C .phased v) (allele0 h v) (allele1 h v) alpha lik turns pile-of acc A i j l m
+        ∙ pairs-are (C .phased v) (allele0 h v) (allele1 h v) turns lik turns-are pile-of acc A i j l m
         ∙ ap (λ z. z +ℤ pairGap acc i j) (sym b))
         ∙ sym (+ℤ-assoc (C .prior v i j) base (pairGap acc i j)))
 
@@ -200,16 +200,16 @@ module _ {C : SweepCase} {ks ph : List ℕ} {pri : List ℤ} {ends who : List �
   second-three = omega (arith, S .haps .high v (S .v-in), S .held .good .three-alleles v (S .v-in))
 
   -- the same from what the code has: the start of the pile, the flag of a phased variant, each allele's turn and the sums
-  pub scored : (a : ℕ) (alpha acc post' : List ℤ) (base : ℤ) → a ≡ pileStart ends v
-      → ((x : ℕ) → getD alpha x (pos 0) ≡ turn (not (eqb (getD ph v 0) 0)) (allele0 h v) (allele1 h v) x)
-      → AlleleSums (rowGaps alpha lik) (rowsAt v who quals one-minus-quals a (getD ends v 0)) acc
+  pub scored : (a : ℕ) (turns acc post' : List ℤ) (base : ℤ) → a ≡ pileStart ends v
+      → ((x : ℕ) → getD turns x (pos 0) ≡ turn (not (eqb (getD ph v 0) 0)) (allele0 h v) (allele1 h v) x)
+      → AlleleSums (rowGaps turns lik) (rowsAt v who quals one-minus-quals a (getD ends v 0)) acc
       → base ≡ neitherSum (not (eqb (getD ph v 0) 0)) (allele1 h v) quals acc a (getD ends v 0)
       → post' ≡ sets post (9 * v) (scoresOf pri acc base v (getD ks v 0)) → post' ≡ sets post (9 * v) (rawScores (C .k v) (score C v h))
-  scored a alpha acc post' base e turns A b q =
-      let w = rw (phased-is (S .held) v (S .v-in)) at turns in
+  scored a turns acc post' base e turns-are A b q =
+      let w = rw (phased-is (S .held) v (S .v-in)) at turns-are in
       let r = pile-rows (S .held) v (S .v-in) in
       let low = all-imp (λ row g. g .allele-in) (S .held .rows-in v (S .v-in)) in
       let B = rw (e, r) at A in
-      let n = neither-are (C .phased v) (allele0 h v) (allele1 h v) alpha lik w second-three v who quals one-minus-quals (pileStart ends v) (getD ends v 0) acc (rw r B) (rw r low) in
+      let n = neither-are (C .phased v) (allele0 h v) (allele1 h v) turns lik w second-three v who quals one-minus-quals (pileStart ends v) (getD ends v 0) acc (rw r B) (rw r low) in
       let c = rw (e, phased-is (S .held) v (S .v-in), n, r) at b in
-      q ∙ rw (S .held .ks-are v (S .v-in), scores-are alpha acc base w B c)
+      q ∙ rw (S .held .ks-are v (S .v-in), scores-are turns acc base w B c)

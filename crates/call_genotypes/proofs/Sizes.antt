@@ -60,22 +60,22 @@ pub distance-size : (l b y : ℤ) → natAbs l ≤ 2 ^ 32 → natAbs b ≤ 2 ^ 3
 distance-size l b y hl hb hy = omega (arith, add-abs (l -ℤ b) y, minus-abs l b)
 
 -- the numbers of a row
-module _ (who : List ℕ) (quals one-minus-quals lik alpha : List ℤ) (v p : ℕ) where
-  pub row-size : RowIn (length lik) who quals one-minus-quals p → Within (2 ^ 32) lik → Within 1 alpha → (w : ℕ) → natAbs (rowGaps alpha lik (rowAt v who quals one-minus-quals p) w) ≤ 2 ^ 35
+module _ (who : List ℕ) (quals one-minus-quals lik turns : List ℤ) (v p : ℕ) where
+  pub row-size : RowIn (length lik) who quals one-minus-quals p → Within (2 ^ 32) lik → Within 1 turns → (w : ℕ) → natAbs (rowGaps turns lik (rowAt v who quals one-minus-quals p) w) ≤ 2 ^ 35
   unfolding rowGaps rowAt
   row-size R W A w =
       let f = 2 * (getD who p 0 / 4) in
       let g = getD one-minus-quals p (pos 0) -ℤ getD quals p (pos 0) in
-      let y = getD alpha (getD who p 0 % 4) (pos 0) *ℤ g in
+      let y = getD turns (getD who p 0 % 4) (pos 0) *ℤ g in
       let hg = quality-gap-size (getD quals p (pos 0)) (getD one-minus-quals p (pos 0)) (R .qual-small) (R .one-minus-qual-small) in
       gap-size (getD lik (f + 1) (pos 0)) ((getD lik f (pos 0) -ℤ getD lik (f + 1) (pos 0)) +ℤ y) g (W (f + 1))
-      (distance-size (getD lik f (pos 0)) (getD lik (f + 1) (pos 0)) y (W f) (W (f + 1)) (times-size (getD alpha (getD who p 0 % 4) (pos 0)) g (2 ^ 19) (A (getD who p 0 % 4)) hg))
+      (distance-size (getD lik f (pos 0)) (getD lik (f + 1) (pos 0)) y (W f) (W (f + 1)) (times-size (getD turns (getD who p 0 % 4) (pos 0)) g (2 ^ 19) (A (getD who p 0 % 4)) hg))
       hg w
 
   -- from what the code has
   pub row-values : (r : Gaps) (b d g : ℤ) → g ≡ getD one-minus-quals p (pos 0) -ℤ getD quals p (pos 0) → b ≡ getD lik (2 * (getD who p 0 / 4) + 1) (pos 0)
-      → d ≡ (getD lik (2 * (getD who p 0 / 4)) (pos 0) -ℤ b) +ℤ (getD alpha (getD who p 0 % 4) (pos 0) *ℤ g)
-      → ((w : ℕ) → valueOf r w ≡ gapValue b d g w) → (w : ℕ) → valueOf r w ≡ rowGaps alpha lik (rowAt v who quals one-minus-quals p) w
+      → d ≡ (getD lik (2 * (getD who p 0 / 4)) (pos 0) -ℤ b) +ℤ (getD turns (getD who p 0 % 4) (pos 0) *ℤ g)
+      → ((w : ℕ) → valueOf r w ≡ gapValue b d g w) → (w : ℕ) → valueOf r w ≡ rowGaps turns lik (rowAt v who quals one-minus-quals p) w
   unfolding rowGaps rowAt
   row-values r b d g eg eb ed f w = f w ∙ cc
 

@@ -1,4 +1,5 @@
--- The total of the case that the slices hold is that of the sweeps' case of an accepted case; and what the slices hold is as `total` wants it.
+-- The total of the case that the slices hold is that of the sweeps' case of an accepted case; and what the slices hold is
+-- as `total` and `standing_total` want it.
 -- Assumes nothing.
 use mathlib.Core.Path.{_≡_, sym, ap, _∙_}
 use mathlib.Core.Bool.{Bool, true, cond}
@@ -138,10 +139,10 @@ module _
     unfolding totalOf
     total-held = sym (total-parts (s .n) (s .f) ks pri (callsOfRows slices) row-ends hap mask) ∙ cc (priors-sum, fragments-sum)
 
-  -- with the flags of the phased variants it is the phased total
   flags-held : (v : ℕ) → v < s .n → getD ph v 0 ≡ cond (C .phased v) 1 0
   flags-held v h = held .ph-are v (omega (arith, counted rates phased w b s accepted))
 
+  -- with the flags of the phased variants it is the phased total
   phased-total-held : totalOf (heldWith ph) (flagged ph) hap ≡ phasedTotal C hap
   phased-total-held = total-held (C .phased) ph flags-held
 

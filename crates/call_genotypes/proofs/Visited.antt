@@ -20,7 +20,7 @@ use Rattle.call_genotypes.specs.Held.{Liks}
 use Rattle.call_genotypes.specs.Scores.{Standing, rawScores}
 use Rattle.call_genotypes.specs.Visits.{Visited}
 use Rattle.call_genotypes.proofs.Tables.{table-length, table-at, sets-at}
-use Rattle.call_genotypes.proofs.Written.{nine}
+use Rattle.genotype_probs.proofs.AlleleLaws.{nine}
 
 -- two tests that follow from each other are one
 iff : (a b : Bool) → (T a → T b) → (T b → T a) → a ≡ b

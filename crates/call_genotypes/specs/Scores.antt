@@ -11,7 +11,7 @@ use Rattle.steps.specs.Logs.{addExp}
 use Rattle.variants_and_fragments.specs.Pileup.{Row, rowOf}
 use Rattle.variants_and_fragments.specs.Decode.{tabulateFrom, tabulate}
 use Rattle.variants_and_fragments.specs.Sums.{sumOver}
-use Rattle.sweeps.specs.Sweeps.{SweepCase, GoodHaps, score}
+use Rattle.sweeps.specs.Sweeps.{SweepCase, GoodHaps}
 use Rattle.sweeps.specs.Incremental.{alleleSum}
 use Rattle.call_genotypes.specs.declared.score.Gaps.{Gaps}
 use Rattle.call_genotypes.specs.Held.{Held, Liks}
@@ -53,11 +53,12 @@ valueOf r (suc (suc (suc w))) = r .base
 abbrev pub rowGap : Row → ℤ
 rowGap row = row .call .one-minus-qual -ℤ row .call .qual
 
--- a row's number w, where lik has the likelihoods that stand, and a call of allele x without its own term moves their distance by alpha[x] gaps
+-- a row's number w, where lik has the likelihoods that stand, and taking away the own terms of a call of allele x moves their distance by
+-- turns[x] gaps
 unfoldable pub rowGaps : List ℤ → List ℤ → Row → ℕ → ℤ
-rowGaps alpha lik row w =
+rowGaps turns lik row w =
     let b = getD lik (2 * row .fragment + 1) (pos 0) in
-    gapValue b ((getD lik (2 * row .fragment) (pos 0) -ℤ b) +ℤ (getD alpha (row .call .allele) (pos 0) *ℤ rowGap row)) (rowGap row) w
+    gapValue b ((getD lik (2 * row .fragment) (pos 0) -ℤ b) +ℤ (getD turns (row .call .allele) (pos 0) *ℤ rowGap row)) (rowGap row) w
 
 -- [x = g1] − [x = g0] at a phased variant that is at (g0, g1); 0 at an unphased one, whose calls are not in the likelihoods that stand
 unfoldable pub turn : Bool → ℕ → ℕ → ℕ → ℤ

@@ -13,7 +13,7 @@ use steps::one_plus::ln_one_plus_exp;
 use variants_and_fragments::pileup::pile_start;
 
 // Of a call: how far a score rises over the one where neither haplotype has its allele, if the first has, the second has, both have;
-// and its read's second likelihood plus ln(1 + exp(d)), the first without the call being d above the second.
+// and its read's second likelihood that stands plus ln(1 + exp(d)), the first being d above the second when both are without the call.
 pub struct Gaps {
     pub first: i64,
     pub second: i64,
@@ -77,12 +77,13 @@ fn likelihood_at(lik: &[i64], i: usize) -> i64
     lik[i]
 }
 
-// What a call of allele x, without its own term, moves the distance of its read's likelihoods by.
-fn turned(alpha: &[i64; 4], x: usize, g: i64) -> i64
-    requires { ⌜ (x < 4) × (natAbs (getD (now alpha) x (pos 0)) ≤ 1) × (natAbs g ≤ 2 ^ 19) ⌝ }
-    ensures { λ r. ⌜ (r ≡ getD (now (alpha .entry)) x (pos 0) *ℤ g) × (natAbs r ≤ 2 ^ 19) ⌝ }
+// How far the distance of a read's likelihoods moves when the own terms of a call of allele x are taken away: `turns` says how often, and
+// which way, by the call's gap.
+fn turned(turns: &[i64; 4], x: usize, g: i64) -> i64
+    requires { ⌜ (x < 4) × (natAbs (getD (now turns) x (pos 0)) ≤ 1) × (natAbs g ≤ 2 ^ 19) ⌝ }
+    ensures { λ r. ⌜ (r ≡ getD (now (turns .entry)) x (pos 0) *ℤ g) × (natAbs r ≤ 2 ^ 19) ⌝ }
 {
-    alpha[x] * g
+    turns[x] * g
 }
 
 // How far l is above b, and y more.
@@ -100,21 +101,21 @@ fn call_gaps(
     quals: &[i32],
     omqs: &[i32],
     lik: &[i64],
-    alpha: &[i64; 4],
+    turns: &[i64; 4],
     p: usize,
 ) -> Gaps
     requires { ⌜ now t ≡ lines ⌝ }
     requires { ⌜ RowIn (length (now lik)) (now who) (now quals) (now omqs) p ⌝ }
     requires { ⌜ Within (2 ^ 32) (now lik) ⌝ }
-    requires { ⌜ Within 1 (now alpha) ⌝ }
-    ensures { λ r. ⌜ ((v w : ℕ) → valueOf r w ≡ rowGaps (now (alpha .entry)) (now (lik .entry)) (rowAt v (now (who .entry)) (now (quals .entry)) (now (omqs .entry)) p) w) ⌝ }
+    requires { ⌜ Within 1 (now turns) ⌝ }
+    ensures { λ r. ⌜ ((v w : ℕ) → valueOf r w ≡ rowGaps (now (turns .entry)) (now (lik .entry)) (rowAt v (now (who .entry)) (now (quals .entry)) (now (omqs .entry)) p) w) ⌝ }
 {
     let f = 2 * fragment_at(who, p);
     let x = allele_at(who, p);
     let q = quality_at(quals, p);
     let g = gap(q, quality_at(omqs, p));
     let b = likelihood_at(lik, f + 1);
-    let d = distance(likelihood_at(lik, f), b, turned(alpha, x, g));
+    let d = distance(likelihood_at(lik, f), b, turned(turns, x, g));
     gaps_of(t, b, d, g)
 }
 
@@ -146,7 +147,7 @@ fn score_calls(
     quals: &[i32],
     omqs: &[i32],
     lik: &[i64],
-    alpha: &[i64; 4],
+    turns: &[i64; 4],
     acc: &mut [i64; 12],
     a: usize,
     e: usize,
@@ -154,13 +155,13 @@ fn score_calls(
     requires { ⌜ now t ≡ lines ⌝ }
     requires { ⌜ PileIn (length (now lik)) (now who) (now quals) (now omqs) a e ⌝ }
     requires { ⌜ Within (2 ^ 32) (now lik) ⌝ }
-    requires { ⌜ Within 1 (now alpha) ⌝ }
+    requires { ⌜ Within 1 (now turns) ⌝ }
     requires { ⌜ now acc ≡ replicate 12 (pos 0) ⌝ }
-    ensures { λ _. ⌜ ((v : ℕ) → AlleleSums (rowGaps (now (alpha .entry)) (now (lik .entry))) (rowsAt v (now (who .entry)) (now (quals .entry)) (now (omqs .entry)) a e) (now (acc .exit))) ⌝ }
+    ensures { λ _. ⌜ ((v : ℕ) → AlleleSums (rowGaps (now (turns .entry)) (now (lik .entry))) (rowsAt v (now (who .entry)) (now (quals .entry)) (now (omqs .entry)) a e) (now (acc .exit))) ⌝ }
 {
     let mut p = a;
     while p < e {
-        let r = call_gaps(t, who, quals, omqs, lik, alpha, p);
+        let r = call_gaps(t, who, quals, omqs, lik, turns, p);
         let x = allele_at(who, p);
         add_four(r, acc, x);
         p += 1;
@@ -168,13 +169,13 @@ fn score_calls(
 }
 
 // Each allele's turn, v being at (g0, g1): nothing at an unphased variant, whose calls are not in the likelihoods.
-fn make_turns(alpha: &mut [i64; 4], phased: bool, g0: usize, g1: usize)
-    requires { ⌜ (now alpha ≡ replicate 4 (pos 0)) × (g0 < 3) × (g1 < 3) ⌝ }
-    ensures { λ _. ⌜ ((x : ℕ) → getD (now (alpha .exit)) x (pos 0) ≡ turn phased g0 g1 x) ⌝ }
+fn make_turns(turns: &mut [i64; 4], phased: bool, g0: usize, g1: usize)
+    requires { ⌜ (now turns ≡ replicate 4 (pos 0)) × (g0 < 3) × (g1 < 3) ⌝ }
+    ensures { λ _. ⌜ ((x : ℕ) → getD (now (turns .exit)) x (pos 0) ≡ turn phased g0 g1 x) ⌝ }
 {
     if phased {
-        alpha[g0] = alpha[g0] - 1;
-        alpha[g1] = alpha[g1] + 1;
+        turns[g0] = turns[g0] - 1;
+        turns[g1] = turns[g1] + 1;
     }
 }
 
@@ -200,7 +201,7 @@ fn base_sum(acc: &[i64; 12], n: usize) -> i64
     acc[3] + acc[7] + acc[11] - (4096 * n) as i64
 }
 
-// What the calls a..e add to a score if neither haplotype has their alleles, the second having g1.
+// What the calls a..e add to a score if neither haplotype has their alleles; g1 is the allele that stands on the second.
 fn neither_sum(quals: &[i32], acc: &[i64; 12], a: usize, e: usize, phased: bool, g1: usize) -> i64
     requires { ⌜ QualsIn (now quals) a e × (a ≤ e) × (g1 < 3) ⌝ }
     requires { ⌜ Within (2 ^ 50) (now acc) ⌝ }
@@ -257,7 +258,7 @@ fn write_scores(pri: &[i64], post: &mut [i64], acc: &[i64; 12], base: i64, v: us
 }
 
 // The first of the greatest among the m numbers at `at`. At the loop's head b is the first of the greatest among the first g, and
-// `best` is its number.
+// `best` is number b.
 pub fn first_max(s: &[i64], at: usize, m: usize) -> usize
     requires { ⌜ at + m ≤ length (now s) ⌝ }
     ensures { λ r. ⌜ r ≡ firstMaximum (λ g. getD (now (s .entry)) (at + g) (pos 0)) m ⌝ }
@@ -302,10 +303,10 @@ pub fn scores(
     let e = ends[v];
     let g0 = hap[2 * v] as usize;
     let g1 = hap[2 * v + 1] as usize;
-    let mut alpha = [0i64; 4];
-    make_turns(&mut alpha, phased, g0, g1);
+    let mut turns = [0i64; 4];
+    make_turns(&mut turns, phased, g0, g1);
     let mut acc = [0i64; 12];
-    score_calls(t, who, quals, omqs, lik, &alpha, &mut acc, a, e);
+    score_calls(t, who, quals, omqs, lik, &turns, &mut acc, a, e);
     let base = neither_sum(quals, &acc, a, e, phased, g1);
     write_scores(pri, post, &acc, base, v, k);
 }

@@ -1,4 +1,4 @@
-// Scratch arrays of an operation, as long as the largest case needs.
+// Scratch arrays of an operation, as long as the largest case needs, or a small one.
 ghost use mathlib.Core.Path.{_≡_};
 ghost use lib.ListN.{length};
 
@@ -50,7 +50,7 @@ pub fn nine_each() -> [i64; 9216]
     [0i64; 9216]
 }
 
-// The three before this for at most 128 variants and 512 fragments.
+// The last three for at most 128 variants and 512 fragments.
 pub fn few_places() -> [usize; 128]
     ensures { λ r. ⌜ length r ≡ 128 ⌝ }
 {

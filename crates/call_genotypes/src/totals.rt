@@ -42,7 +42,7 @@ fn priors_total(ks: &[u8], pri: &[i64], hap: &[u8], mask: &[u8], n: usize) -> i6
 }
 
 // ln_add_exp of a read's two likelihoods less 4,096 each.
-pub fn mixed(t: &[u16; 1665], a: i64, b: i64) -> i64
+fn mixed(t: &[u16; 1665], a: i64, b: i64) -> i64
     requires { ⌜ (now t ≡ knots) × (natAbs a ≤ 2 ^ 40) × (natAbs b ≤ 2 ^ 40) ⌝ }
     ensures { λ r. ⌜ r ≡ mixOf a b ⌝ }
 {

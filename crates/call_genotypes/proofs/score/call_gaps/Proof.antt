@@ -110,7 +110,7 @@ returns c v w =
     let b = l .before in
     let g = b .before in
     let s = at g in
-    row-values (s .args .who .now) (s .args .quals .now) (s .args .omqs .now) (s .args .lik .now) (s .args .alpha .now) v (s .args .p)
+    row-values (s .args .who .now) (s .args .quals .now) (s .args .omqs .now) (s .args .lik .now) (s .args .turns .now) v (s .args .p)
     _ _ _ _ (gap-is g) (second-is b)
     (cc (distance-is (c .before), first-is l, read-back w64 _ (t .turned .ok), t .turned .ensures .0, allele (g .before)))
     (c .gaps-of .ensures) w

@@ -1,5 +1,5 @@
 -- `call_genotypes::score::first_max` meets its contract. The loop's invariant: b is the first of the greatest among the first g, and best
--- its number. Assumes nothing.
+-- is number b. Assumes nothing.
 use mathlib.Core.Path.{_≡_, ap}
 use mathlib.Core.Bool.{cond}
 use mathlib.Core.Logic.{⊎-elim}

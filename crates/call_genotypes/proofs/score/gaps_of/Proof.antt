@@ -1,4 +1,4 @@
--- `call_genotypes::score::gaps_of` meets its contract: each number is a sum of three values of `onePlus` that does not wrap. Assumes nothing.
+-- `call_genotypes::score::gaps_of` meets its contract: each number is a sum or a difference of values of `onePlus`, b and g, and none wraps. Assumes nothing.
 use mathlib.Core.Path.{_≡_}
 use Prim.Native.Nat.{_+_, _^_, _<_, _≤_}
 use native.Mathlib.Omega.{arith}

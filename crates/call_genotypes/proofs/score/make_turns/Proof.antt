@@ -29,70 +29,70 @@ module _ (z : ℤ) (h : natAbs z ≤ 1) where
   more-read = rw (read-small w64 z (omega arith)) (read-small w64 (z +ℤ pos 1) (omega (arith, add-abs z (pos 1))))
 
 -- nothing is there before, and at most −1 after the first store
-old-small : (s : tie.Start) → natAbs (getD (s .args .alpha .now) (s .args .g0) (pos 0)) ≤ 1
+old-small : (s : tie.Start) → natAbs (getD (s .args .turns .now) (s .args .g0) (pos 0)) ≤ 1
 old-small s = rw (s .pre .0, replicate-at (pos 0) 4 (s .args .g0)) (omega arith)
 
 abbrev once : tie.Start → List ℤ
-once s = set (s .args .alpha .now) (s .args .g0) (toZ w64 (ofZ w64 (toZ w64 (ofZ w64 (getD (s .args .alpha .now) (s .args .g0) (pos 0))) -ℤ pos 1)))
+once s = set (s .args .turns .now) (s .args .g0) (toZ w64 (ofZ w64 (toZ w64 (ofZ w64 (getD (s .args .turns .now) (s .args .g0) (pos 0))) -ℤ pos 1)))
 
-once-is : (s : tie.Start) → once s ≡ set (s .args .alpha .now) (s .args .g0) (getD (s .args .alpha .now) (s .args .g0) (pos 0) -ℤ pos 1)
-once-is s = ap (set (s .args .alpha .now) (s .args .g0)) (less-read (getD (s .args .alpha .now) (s .args .g0) (pos 0)) (old-small s))
+once-is : (s : tie.Start) → once s ≡ set (s .args .turns .now) (s .args .g0) (getD (s .args .turns .now) (s .args .g0) (pos 0) -ℤ pos 1)
+once-is s = ap (set (s .args .turns .now) (s .args .g0)) (less-read (getD (s .args .turns .now) (s .args .g0) (pos 0)) (old-small s))
 
 once-small : (s : tie.Start) → natAbs (getD (once s) (s .args .g1) (pos 0)) ≤ 1
-once-small s = rw (once-is s) (once-stored (s .args .alpha .now) (s .args .g0) (s .pre .0) (s .pre .1) (s .args .g1))
+once-small s = rw (once-is s) (once-stored (s .args .turns .now) (s .args .g0) (s .pre .0) (s .pre .1) (s .args .g1))
 
-mul-alpha : tie.Need-mul-alpha
-mul-alpha c = search needs
+mul-turns : tie.Need-mul-turns
+mul-turns c = search needs
 
-element-copy-out-alpha : tie.Need-element-copy-out-alpha
-element-copy-out-alpha c = search needs
+element-copy-out-turns : tie.Need-element-copy-out-turns
+element-copy-out-turns c = search needs
 
-sub-alpha : tie.Need-sub-alpha
-sub-alpha c = let s = c .before .before in less-fits (getD (s .args .alpha .now) (s .args .g0) (pos 0)) (old-small s)
+sub-turns : tie.Need-sub-turns
+sub-turns c = let s = c .before .before in less-fits (getD (s .args .turns .now) (s .args .g0) (pos 0)) (old-small s)
 
-mul-alpha-2 : tie.Need-mul-alpha-2
-mul-alpha-2 c = search needs
+mul-turns-2 : tie.Need-mul-turns-2
+mul-turns-2 c = search needs
 
-element-set-from-alpha : tie.Need-element-set-from-alpha
-element-set-from-alpha c = search needs
+element-set-from-turns : tie.Need-element-set-from-turns
+element-set-from-turns c = search needs
 
-mul-alpha-3 : tie.Need-mul-alpha-3
-mul-alpha-3 c = search needs
+mul-turns-3 : tie.Need-mul-turns-3
+mul-turns-3 c = search needs
 
-element-copy-out-alpha-2 : tie.Need-element-copy-out-alpha-2
-element-copy-out-alpha-2 c = search needs
+element-copy-out-turns-2 : tie.Need-element-copy-out-turns-2
+element-copy-out-turns-2 c = search needs
 
-add-alpha : tie.Need-add-alpha
-add-alpha c = let s = c .before .before .before in more-fits (getD (once s) (s .args .g1) (pos 0)) (once-small s)
+add-turns : tie.Need-add-turns
+add-turns c = let s = c .before .before .before in more-fits (getD (once s) (s .args .g1) (pos 0)) (once-small s)
 
 mul-t11 : tie.Need-mul-t11
 mul-t11 c = search needs
 
-element-set-from-alpha-2 : tie.Need-element-set-from-alpha-2
-element-set-from-alpha-2 c = search needs
+element-set-from-turns-2 : tie.Need-element-set-from-turns-2
+element-set-from-turns-2 c = search needs
 
 returns : tie.Need-returns
 returns c x =
     let s = c .before .before .before in
-    let e = turns-made (s .args .alpha .now) (once s) _ (s .args .g0) (s .args .g1) (s .pre .0) (s .pre .1) (s .pre .2) (once-is s) (ap (set (once s) (s .args .g1)) (more-read (getD (once s) (s .args .g1) (pos 0)) (once-small s))) x in
+    let e = turns-made (s .args .turns .now) (once s) _ (s .args .g0) (s .args .g1) (s .pre .0) (s .pre .1) (s .pre .2) (once-is s) (ap (set (once s) (s .args .g1)) (more-read (getD (once s) (s .args .g1) (pos 0)) (once-small s))) x in
     rw (c .before .before .if1 .taken) e
 
 returns-2 : tie.Need-returns-2
-returns-2 c x = rw (c .if1 .left) (no-turns (c .before .args .alpha .now) (c .before .args .g0) (c .before .args .g1) (c .before .pre .0) x)
+returns-2 c x = rw (c .if1 .left) (no-turns (c .before .args .turns .now) (c .before .args .g0) (c .before .args .g1) (c .before .pre .0) x)
 
 pub make-turns-spec : {M : Type 1} → statement M
 make-turns-spec =
     tie.close
     (tie.spec
-    mul-alpha
-    element-copy-out-alpha
-    sub-alpha
-    mul-alpha-2
-    element-set-from-alpha
-    mul-alpha-3
-    element-copy-out-alpha-2
-    add-alpha
+    mul-turns
+    element-copy-out-turns
+    sub-turns
+    mul-turns-2
+    element-set-from-turns
+    mul-turns-3
+    element-copy-out-turns-2
+    add-turns
     mul-t11
-    element-set-from-alpha-2
+    element-set-from-turns-2
     returns
     returns-2)

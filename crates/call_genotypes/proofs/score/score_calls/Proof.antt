@@ -10,11 +10,11 @@ use Rattle.call_genotypes.proofs.score.score_calls.Statement.{statement
 use Rattle.call_genotypes.proofs.score.score_calls.Tie as tie
 
 abbrev Inv-loop : tie.InvT-loop
-Inv-loop t who quals one-minus-quals lik alpha acc₀ a e p₀ acc p =
-    (v : ℕ) → Summing (rowGaps alpha lik) (rowAt v who quals one-minus-quals) a e p acc
+Inv-loop t who quals one-minus-quals lik turns acc₀ a e p₀ acc p =
+    (v : ℕ) → Summing (rowGaps turns lik) (rowAt v who quals one-minus-quals) a e p acc
 
 abbrev μ-loop : tie.MeasureT-loop
-μ-loop t who quals one-minus-quals lik alpha acc₀ a e p₀ acc p = e - p
+μ-loop t who quals one-minus-quals lik turns acc₀ a e p₀ acc p = e - p
 
 abbrev st : tie.In-loop Inv-loop μ-loop → tie.Start Inv-loop μ-loop
 st c = c .before .before .before
@@ -24,7 +24,7 @@ row-in c = st c .pre .1 .0 .rows-in (c .before .loop .p) (c .before .loop .inv 0
 
 value-small : (c : tie.After-call-gaps Inv-loop μ-loop) (w : ℕ) → natAbs (valueOf (c .call-gaps .result) w) ≤ 2 ^ 35
 value-small c w = let s = st (c .before) in
-    rw (c .call-gaps .ensures 0 w) (row-size (s .args .who .now) (s .args .quals .now) (s .args .omqs .now) (s .args .lik .now) (s .args .alpha .now) 0 (c .before .before .loop .p) (row-in (c .before)) (s .pre .1 .1 .0) (s .pre .1 .1 .1 .0) w)
+    rw (c .call-gaps .ensures 0 w) (row-size (s .args .who .now) (s .args .quals .now) (s .args .omqs .now) (s .args .lik .now) (s .args .turns .now) 0 (c .before .before .loop .p) (row-in (c .before)) (s .pre .1 .1 .0) (s .pre .1 .1 .1 .0) w)
 
 allele-low : (c : tie.After-allele-at Inv-loop μ-loop) → c .allele-at .result < 3
 allele-low c = rw (c .allele-at .ensures) (row-in (c .before .before) .allele-in)

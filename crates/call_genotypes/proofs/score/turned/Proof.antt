@@ -12,7 +12,7 @@ use Rattle.call_genotypes.proofs.score.turned.Tie as tie
 
 -- the turn, as it is read
 abbrev its : tie.Start → ℤ
-its s = getD (s .args .alpha .now) (s .args .x) (pos 0)
+its s = getD (s .args .turns .now) (s .args .x) (pos 0)
 
 small : (s : tie.Start) → natAbs (its s *ℤ s .args .g) ≤ 2 ^ 19
 small s = times-size (its s) (s .args .g) (2 ^ 19) (s .pre .1) (s .pre .2)

@@ -9,9 +9,10 @@ use mir.Syntax.{w64}
 use mir.Val.{toZ, ofZ}
 use mir.Facts.{toZ-ofZ}
 use Rattle.steps.proofs.Signed.{read-back}
-use Rattle.genotype_probs.proofs.TableSums.{pair-in}
+use Rattle.genotype_probs.proofs.AlleleLaws.{nine}
+use Rattle.genotype_probs.proofs.Pairs.{pair-div, pair-mod, first-in}
 use Rattle.call_genotypes.specs.Scores.{pairGap, scoresOf}
-use Rattle.call_genotypes.proofs.Written.{nine, Writing, writing-start, row-on, place-on, writing-end, pair-div, pair-mod}
+use Rattle.call_genotypes.proofs.Written.{Writing, writing-start, writing-row, writing-place, writing-end}
 use Rattle.call_genotypes.proofs.score.write_scores.Statement.{statement}
 use Rattle.call_genotypes.proofs.score.write_scores.Tie as tie
 
@@ -34,7 +35,7 @@ written : (c : tie.After-pair-score Inv-loop μ-loop) → let s = st (c .before)
 written c =
     let s = st (c .before) in
     let l = c .before .before .loop in
-    cc (read-back w64 _ (c .pair-score .ok), pair-div (s .args .k) (l .p) (l .i) (l .j) (l .inv .pair) (l .inv .low), pair-mod (s .args .k) (l .p) (l .i) (l .j) (l .inv .pair) (l .inv .low))
+    cc (read-back w64 _ (c .pair-score .ok), pair-div (l .inv .next), pair-mod (l .inv .next))
 
 mul-kk : tie.Need-mul-kk Inv-loop μ-loop
 mul-kk c = omega (arith, nine (c .args .k) (c .pre .0 .0 .k-top))
@@ -51,14 +52,13 @@ add-pair-score c = omega (arith, st c .pre .0 .0 .v-top, few c)
 pair-score-requires : tie.Need-pair-score-requires Inv-loop μ-loop
 pair-score-requires c κs =
     let s = st c in
-    let l = c .before .loop in
-    let n = pair-in (s .args .k) (l .p) (s .pre .0 .0 .k-least) (c .loop-test .taken) in (
+    let l = c .before .loop in (
       (
         omega (arith, s .pre .0 .0 .pri-long, few c),
         s .pre .0 .0 .pri-small (l .p) (c .loop-test .taken),
         rw (toZ-ofZ (s .fits .base)) (s .pre .0 .1),
-        omega (arith, pair-div (s .args .k) (l .p) (l .i) (l .j) (l .inv .pair) (l .inv .low), n .0, s .pre .0 .0 .k-top),
-        omega (arith, l .inv .low, s .pre .0 .0 .k-top),
+        omega (arith, first-in (l .inv .next) (c .loop-test .taken), s .pre .0 .0 .k-top),
+        omega (arith, l .inv .next .low, s .pre .0 .0 .k-top),
       ),
       s .pre .1,
     )
@@ -79,22 +79,22 @@ add-p : tie.Need-add-p Inv-loop μ-loop
 add-p c = omega (arith, few (c .before))
 
 add-j : tie.Need-add-j Inv-loop μ-loop
-add-j c = omega (arith, c .before .before .loop .inv .low, st (c .before) .pre .0 .0 .k-top)
+add-j c = omega (arith, c .before .before .loop .inv .next .low, st (c .before) .pre .0 .0 .k-top)
 
 add-i : tie.Need-add-i Inv-loop μ-loop
-add-i c = omega (arith, few (c .before .before), c .before .before .before .loop .inv .few)
+add-i c = omega (arith, few (c .before .before), c .before .before .before .loop .inv .next .few)
 
 loop-less : tie.Need-loop-less Inv-loop μ-loop
 loop-less c = omega (arith, c .before .before .loop-test .taken)
 
 loop-again : tie.Need-loop-again Inv-loop μ-loop
-loop-again c = let l = c .before .before .before .loop in row-on _ _ _ _ _ _ _ _ _ (l .inv) (c .before .before .loop-test .taken) (ap (set (l .post) _) (written (c .before))) (c .if1 .taken)
+loop-again c = let l = c .before .before .before .loop in writing-row _ _ _ _ _ _ _ _ _ (l .inv) (c .before .before .loop-test .taken) (ap (set (l .post) _) (written (c .before))) (c .if1 .taken)
 
 loop-less-2 : tie.Need-loop-less-2 Inv-loop μ-loop
 loop-less-2 c = omega (arith, c .before .before .loop-test .taken)
 
 loop-again-2 : tie.Need-loop-again-2 Inv-loop μ-loop
-loop-again-2 c = let l = c .before .before .before .loop in place-on _ _ _ _ _ _ _ _ _ (l .inv) (c .before .before .loop-test .taken) (ap (set (l .post) _) (written (c .before))) (c .if1 .left)
+loop-again-2 c = let l = c .before .before .before .loop in writing-place _ _ _ _ _ _ _ _ _ (l .inv) (c .before .before .loop-test .taken) (ap (set (l .post) _) (written (c .before))) (c .if1 .left)
 
 same-length : tie.Need-same-length Inv-loop μ-loop
 same-length c = c .before .loop .inv .long

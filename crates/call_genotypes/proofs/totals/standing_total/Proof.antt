@@ -1,6 +1,6 @@
 -- `call_genotypes::totals::standing_total` meets its contract: the sum of its two parts does not wrap.
 -- Assumes nothing.
-use mathlib.Core.Path.{_≡_, _∙_}
+use mathlib.Core.Path.{_∙_}
 use Prim.Native.Nat.{_+_, _≤_, _^_}
 use native.Mathlib.Omega.{arith}
 use borrow.Author.Needs.{needs}

@@ -1,6 +1,6 @@
 -- `call_genotypes::totals::total` meets its contract: the two parts make up the total, and their sum is at most 2^40 steps from 0.
 -- Assumes nothing.
-use mathlib.Core.Path.{_≡_, _∙_}
+use mathlib.Core.Path.{_∙_}
 use Prim.Native.Nat.{_+_, _≤_, _^_}
 use native.Mathlib.Omega.{arith}
 use borrow.Author.Needs.{needs}

@@ -2,7 +2,7 @@
 use native.Mathlib.Omega.{arith}
 use borrow.Author.Needs.{needs}
 use lib.ListN.{getD}
-use Rattle.call_genotypes.proofs.Written.{nine}
+use Rattle.genotype_probs.proofs.AlleleLaws.{nine}
 use Rattle.call_genotypes.proofs.visit.best_pair.Statement.{statement}
 use Rattle.call_genotypes.proofs.visit.best_pair.Tie as tie
 

@@ -4,12 +4,12 @@ use mathlib.Core.Logic.{⊎-elim}
 use Prim.Native.Nat.{ℕ, _+_, _-_, _*_, _/_, _<_, _≤_}
 use native.Mathlib.Omega.{arith}
 use borrow.Author.Needs.{needs}
-use Rattle.call_genotypes.proofs.Written.{pair-div}
+use lib.Arith.{digits-div}
 use Rattle.call_genotypes.proofs.visit.row_of.Statement.{statement}
 use Rattle.call_genotypes.proofs.visit.row_of.Tie as tie
 
 row-is : (b k n i j : ℕ) → n ≡ i → b ≡ i * k + j → j < k → n ≡ b / k
-row-is b k n i j e p h = e ∙ sym (pair-div k b i j p h)
+row-is b k n i j e p h = e ∙ sym (rw p (digits-div i h))
 
 low : (c : tie.Joined2) → c .before .if1 .one + c .if2 .two ≤ 2
 low c = ⊎-elim (λ w. ⊎-elim (λ u. omega (arith, w .1, u .1)) (λ u. omega (arith, w .1, u .1)) (c .if2 .came)) (λ w. ⊎-elim (λ u. omega (arith, w .1, u .1)) (λ u. omega (arith, w .1, u .1)) (c .if2 .came)) (c .before .if1 .came)
