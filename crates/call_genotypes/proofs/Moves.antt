@@ -20,7 +20,7 @@ use Rattle.sweeps.proofs.Basics.{which, lik-cong, at0-same, at1-same, at0-other
 use Rattle.sweeps.proofs.Link.{lik-own}
 use Rattle.sweeps.proofs.Scored.{lik-stays}
 use Rattle.sweeps.proofs.Run.{is-true, is-false}
-use Rattle.sweeps.proofs.Pileup.{sumOver-append}
+use Rattle.variants_and_fragments.proofs.Sums.{sum-append}
 use Rattle.variants_and_fragments.specs.Pile.{pileStart}
 use Rattle.call_genotypes.specs.Held.{Held, Liks}
 use Rattle.call_genotypes.specs.Scores.{rowsAt}
@@ -58,7 +58,7 @@ module _ (v old new : ℕ) (t : ℕ → Bool) where
   unfolding pileupFrom sumOver
   pile-off f [] e = refl
   pile-off f (cs ∷ fs) e =
-      sumOver-append (rowsIn v f cs) (pileupFrom v (suc f) fs) term ∙ rw (rows-off f cs (e f (omega arith)), pile-off (suc f) fs (λ j l. e j (omega arith)))
+      sum-append (rowsIn v f cs) (pileupFrom v (suc f) fs) term ∙ rw (rows-off f cs (e f (omega arith)), pile-off (suc f) fs (λ j l. e j (omega arith)))
 
   pub pile-on : (i : ℕ) (fs : List (List Call)) (f : ℕ) → f < length fs → t (i + f) ≡ true → ((j : ℕ) → (j ≡ i + f → ⊥) → t j ≡ false)
       → sumOver (pileupFrom v i fs) term ≡ termAt v (getD fs f []) new -ℤ termAt v (getD fs f []) old
@@ -66,11 +66,11 @@ module _ (v old new : ℕ) (t : ℕ → Bool) where
   pile-on i [] f l on off = absurd (omega arith)
   pile-on i (cs ∷ fs) zero l on off =
       let z : i + 0 ≡ i = omega arith in
-      sumOver-append (rowsIn v i cs) (pileupFrom v (suc i) fs) term
+      sum-append (rowsIn v i cs) (pileupFrom v (suc i) fs) term
       ∙ rw (rows-on i cs (rw z at on), pile-off (suc i) fs (λ j k. off j (omega arith)), +ℤ-idr)
   pile-on i (cs ∷ fs) (suc f) l on off =
       let z : i + suc f ≡ suc i + f = omega arith in
-      sumOver-append (rowsIn v i cs) (pileupFrom v (suc i) fs) term
+      sum-append (rowsIn v i cs) (pileupFrom v (suc i) fs) term
       ∙ rw (rows-off i cs (off i (omega arith)), +ℤ-idl) (pile-on (suc i) fs f (omega arith) (rw z at on) (λ j k. off j (λ r. k (r ∙ z))))
 
 -- ---- a likelihood with v at a' v, from the one with v at a v

@@ -6,7 +6,7 @@ use Prim.Native.Nat.{ℕ, zero, suc, _+_, _^_, _≤_, _<_}
 use native.Mathlib.Omega.{arith}
 use native.Mathlib.Nat.{add-zero, add-suc, suc-add}
 use native.Mathlib.Numerals.{add-one}
-use lib.IntN.{ℤ, pos, natAbs, _+ℤ_, +ℤ-idl, +ℤ-idr}
+use lib.IntN.{ℤ, pos, natAbs, _+ℤ_}
 use mir.Syntax.{w64}
 use mir.Val.{SFits, toZ, ofZ}
 use Rattle.steps.proofs.Signed.{zlin, parts-add, add-abs, sfits, read-small}
@@ -14,6 +14,7 @@ use Rattle.variants_and_fragments.specs.Sums.{sumOver}
 use Rattle.variants_and_fragments.specs.Decode.{tabulateFrom}
 use Rattle.sweeps.specs.Sweeps.{sumTo}
 use Rattle.sweeps.proofs.Basics.{sumTo-cong}
+use Rattle.sweeps.proofs.Link.{sumTo-shift}
 
 -- ---- a sum of sums
 pub sum-plus : {X : Type 0} (xs : List X) (f g : X → ℤ) → sumOver xs (λ x. f x +ℤ g x) ≡ sumOver xs f +ℤ sumOver xs g
@@ -24,12 +25,6 @@ sum-plus (x ∷ xs) f g =
     omega (zlin, e, parts-add (f x +ℤ g x) (sumOver xs (λ x. f x +ℤ g x)), parts-add (f x) (g x), parts-add (sumOver xs f) (sumOver xs g), parts-add (f x) (sumOver xs f), parts-add (g x) (sumOver xs g), parts-add (f x +ℤ sumOver xs f) (g x +ℤ sumOver xs g))
 
 -- ---- a sum over a table
-sum-front : (n : ℕ) (f : ℕ → ℤ) → sumTo (suc n) f ≡ f 0 +ℤ sumTo n (λ j. f (suc j))
-unfolding sumTo
-sum-front zero f = +ℤ-idl (f 0) ∙ sym (+ℤ-idr (f 0))
-sum-front (suc n) f =
-    omega (zlin, sum-front n f, parts-add (sumTo (suc n) f) (f (suc n)), parts-add (f 0) (sumTo n (λ j. f (suc j))), parts-add (sumTo n (λ j. f (suc j))) (f (suc n)), parts-add (f 0) (sumTo (suc n) (λ j. f (suc j))))
-
 pub table-sum : {X : Type 0} (g : ℕ → X) (t : X → ℤ) (a n : ℕ) → sumOver (tabulateFrom g a n) t ≡ sumTo n (λ j. t (g (a + j)))
 unfolding tabulateFrom sumOver sumTo
 table-sum g t a zero = refl
@@ -37,7 +32,7 @@ table-sum g t a (suc n) =
     let e = sumTo-cong n (λ j. t (g (suc a + j))) (λ j. t (g (a + suc j))) (λ j h. ap (λ (k : ℕ). t (g k)) (suc-add a j ∙ sym (add-suc a j))) in
     ap (λ (z : ℤ). t (g a) +ℤ z) (table-sum g t (suc a) n ∙ e)
     ∙ ap (λ (k : ℕ). t (g k) +ℤ sumTo n (λ j. t (g (a + suc j)))) (sym (add-zero a))
-    ∙ sym (sum-front n (λ j. t (g (a + j))))
+    ∙ sym (sumTo-shift n (λ j. t (g (a + j))))
 
 -- ---- a loop's sum of f 0, .., f (i − 1), of n terms in all; top i bounds it
 pub record Running (f : ℕ → ℤ) (top : ℕ → ℕ) (n : ℕ) (sum : ℤ) (i : ℕ) : Type 0 where

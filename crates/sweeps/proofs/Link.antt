@@ -75,7 +75,7 @@ module _ (m : ℕ → Bool) (v : ℕ) (a a' : ℕ → ℕ) (f : (w : ℕ) → w 
 assoc : (a b c s : ℤ) → s ≡ a +ℤ b → s +ℤ c ≡ a +ℤ (b +ℤ c)
 assoc a b c s e = omega (zlin, parts-add a b, parts-add s c, parts-add b c, parts-add a (b +ℤ c))
 
-sumTo-shift : (m : ℕ) (f : ℕ → ℤ) → sumTo (suc m) f ≡ f 0 +ℤ sumTo m (λ i. f (suc i))
+pub sumTo-shift : (m : ℕ) (f : ℕ → ℤ) → sumTo (suc m) f ≡ f 0 +ℤ sumTo m (λ i. f (suc i))
 unfolding sumTo
 sumTo-shift zero f = +ℤ-comm (pos 0) (f 0)
 sumTo-shift (suc m) f = assoc (f 0) (sumTo m (λ i. f (suc i))) (f (suc m)) (sumTo (suc m) f) (sumTo-shift m f)

@@ -1,26 +1,18 @@
 -- A sum along the pileup is the sum per usable call. Assumes nothing.
 use mathlib.Core.Path.{_≡_, refl, sym, ap, _∙_}
-use mathlib.Core.Logic.{_⊎_, inl, inr}
-use mathlib.Core.Bool.{Bool, true, false, not, cond}
+use mathlib.Core.Bool.{Bool, true, false, cond}
 use mathlib.Core.List.{List, [], _∷_, _++_}
-use Prim.Native.Nat.{ℕ, zero, suc, _+_, _<_, _≤_}
+use Prim.Native.Nat.{ℕ, suc, _+_, _<_, _≤_}
 use native.Mathlib.Omega.{arith}
-use native.Mathlib.Nat.{add-zero, add-suc, suc-add}
-use lib.Dec.{T, eqb}
-use lib.ListN.{length, getD, length-append}
+use native.Mathlib.Nat.{add-zero}
+use lib.Dec.{eqb}
+use lib.ListN.{length, getD}
 use lib.IntN.{ℤ, pos, _+ℤ_, +ℤ-idl}
 use Rattle.variants_and_fragments.specs.Case.{Call}
-use Rattle.variants_and_fragments.specs.Pileup.{Row}
 use Rattle.variants_and_fragments.specs.Sums.{sumOver}
+use Rattle.variants_and_fragments.proofs.Sums.{sum-append}
 use Rattle.sweeps.specs.Sweeps.{perCall}
-use Rattle.steps.proofs.Signed.{parts-add, zlin}
 use Rattle.sweeps.specs.Incremental.{rowsIn, pileupFrom}
-
-pub sumOver-append : {A : Type 0} (xs ys : List A) (f : A → ℤ) → sumOver (xs ++ ys) f ≡ sumOver xs f +ℤ sumOver ys f
-unfolding sumOver
-sumOver-append [] ys f = sym (+ℤ-idl (sumOver ys f))
-sumOver-append (x ∷ xs) ys f =
-    omega (zlin, sumOver-append xs ys f, parts-add (f x) (sumOver (xs ++ ys) f), parts-add (sumOver xs f) (sumOver ys f), parts-add (f x) (sumOver xs f), parts-add (f x +ℤ sumOver xs f) (sumOver ys f))
 
 calls-sum : (v i : ℕ) (cs : List Call) (X : ℕ → ℤ) → sumOver (rowsIn v i cs) (λ p. X (p .fragment)) ≡ perCall v cs (X i)
 unfolding sumOver rowsIn perCall
@@ -37,5 +29,5 @@ pub pileup-sum : (v i : ℕ) (fs : List (List Call)) (X : ℕ → ℤ) (F : List
 unfolding sumOver pileupFrom
 pileup-sum v i [] X F e = refl
 pileup-sum v i (cs ∷ fs) X F e =
-    sumOver-append (rowsIn v i cs) (pileupFrom v (suc i) fs) (λ p. X (p .fragment))
+    sum-append (rowsIn v i cs) (pileupFrom v (suc i) fs) (λ p. X (p .fragment))
     ∙ cc (calls-sum v i cs X, ap (perCall v cs) (rw add-zero at (e 0 (omega arith))), pileup-sum v (suc i) fs X F (λ j l. ap X (omega arith) ∙ e (suc j) (omega arith)))

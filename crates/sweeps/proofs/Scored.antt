@@ -18,7 +18,7 @@ use Rattle.sweeps.proofs.Basics.{which, lik-cong, and-l, and-r, eqb-no,
 use Rattle.steps.proofs.Signed.{parts-add, neg-up, neg-dn, zlin}
 use Rattle.sweeps.proofs.Link.{lik-own}
 use Rattle.sweeps.specs.Incremental.{rowsIn, pileupFrom, step, share}
-use Rattle.sweeps.proofs.Pileup.{sumOver-append}
+use Rattle.variants_and_fragments.proofs.Sums.{sum-append}
 
 is-true : (b : Bool) → T b → b ≡ true
 is-true true t = refl
@@ -75,7 +75,7 @@ pub pile-sum : (v i : ℕ) (fs : List (List Call)) (Y : Row → ℤ) (F : List C
 unfolding sumOver pileupFrom allOf
 pile-sum v i [] Y F t e = refl
 pile-sum v i (cs ∷ fs) Y F t e =
-    sumOver-append (rowsIn v i cs) (pileupFrom v (suc i) fs) Y
+    sum-append (rowsIn v i cs) (pileupFrom v (suc i) fs) Y
     ∙ cc (
       first (at-of v i 0 cs (and-l (rising cs) (allOf rising fs) t)),
       pile-sum v (suc i) fs Y F (and-r (rising cs) (allOf rising fs) t) (λ j c l q. let n : suc i + j ≡ i + suc j = omega arith in rw n (e (suc j) c (omega arith) q)),
