@@ -10,7 +10,7 @@ use borrow.Author.Tests.{eq-eqb, ne-eqb}
 use lib.Dec.{eqb}
 use lib.IntN.{ℤ, pos, natAbs}
 use lib.ListN.{getD}
-use Rattle.variants_and_fragments.specs.Pile.{pileStart}
+use Rattle.pileup.specs.Piles.{pileStart}
 use Rattle.sweeps.specs.Sweeps.{sumTo, callTerm, likelihood}
 use Rattle.call_genotypes.specs.Likelihoods.{CallSlices, callHeld, callsBetween, callsOf, likelihoodAt, flagged, alleleOn, callShare, CallsIn}
 use Rattle.call_genotypes.proofs.RunningSums.{table-sum}

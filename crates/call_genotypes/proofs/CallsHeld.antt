@@ -13,13 +13,13 @@ use Rattle.variants_and_fragments.specs.Case.{Case, Call, fragmentOf}
 use Rattle.variants_and_fragments.specs.Accepted.{CaseIn}
 use Rattle.variants_and_fragments.specs.Decode.{decode}
 use Rattle.variants_and_fragments.specs.Pileup.{Row, rowOf, noRow, usableCalls, rowsOf}
-use Rattle.variants_and_fragments.specs.Pile.{pileStart, rowAt}
-use Rattle.variants_and_fragments.specs.Rows.{RowSlices, RowsHeld, RowsMade, rowQual, rowOneMinusQual}
+use Rattle.pileup.specs.Piles.{pileStart, rowAt}
+use Rattle.pileup.specs.Rows.{RowSlices, RowsHeld, RowsMade, rowQual, rowOneMinusQual}
 use Rattle.variants_and_fragments.proofs.Decoded.{fragments-are}
-use Rattle.variants_and_fragments.proofs.HeldRows.{rows-are, ends-start, ends-in}
-use Rattle.variants_and_fragments.proofs.RowFacts.{RowIn, rows-in, each-at}
-use Rattle.variants_and_fragments.proofs.RowParts.{rows-of-fragment, before-on}
-use Rattle.variants_and_fragments.proofs.RowRuns.{held-at}
+use Rattle.pileup.proofs.HeldRows.{rows-are, ends-start, ends-in}
+use Rattle.pileup.proofs.RowFacts.{RowIn, rows-in, each-at}
+use Rattle.pileup.proofs.RowParts.{rows-of-fragment, before-on}
+use Rattle.pileup.proofs.RowRuns.{held-at}
 use Rattle.call_genotypes.specs.Likelihoods.{CallSlices, callSlices, callHeld, callsBetween, callsOf, CallsIn, EndsIn}
 use Rattle.call_genotypes.proofs.TableParts.{slice-table, map-from}
 

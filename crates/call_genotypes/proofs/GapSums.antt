@@ -13,7 +13,7 @@ use lib.IntN.{ℤ, pos, _+ℤ_, _-ℤ_, +ℤ-idl, +ℤ-idr}
 use Rattle.steps.proofs.Signed.{zlin, parts-add, parts-minus}
 use Rattle.variants_and_fragments.specs.Case.{All}
 use Rattle.variants_and_fragments.specs.Pileup.{Row, noRow}
-use Rattle.variants_and_fragments.specs.Rows.{rowQual}
+use Rattle.pileup.specs.Rows.{rowQual}
 use Rattle.variants_and_fragments.specs.Sums.{sumOver}
 use Rattle.sweeps.specs.Sweeps.{callTerm}
 use Rattle.sweeps.specs.Incremental.{fourValue, whichValue, alleleSum}

@@ -17,13 +17,13 @@ use Rattle.variants_and_fragments.specs.Refusals.{done}
 use Rattle.variants_and_fragments.specs.Accepted.{CaseIn}
 use Rattle.variants_and_fragments.specs.Decode.{decode}
 use Rattle.variants_and_fragments.specs.Pileup.{Row}
-use Rattle.variants_and_fragments.specs.Rows.{RowSlices, rowQual, rowOneMinusQual}
-use Rattle.variants_and_fragments.specs.Pile.{PilesRoom, PilesHeld, CallsPiled, whoOf}
+use Rattle.pileup.specs.Rows.{RowSlices, rowQual, rowOneMinusQual}
+use Rattle.pileup.specs.Piles.{PilesRoom, PilesHeld, CallsPiled, whoOf}
 use Rattle.variants_and_fragments.specs.Written.{written}
 use Rattle.variants_and_fragments.proofs.Accepted.{case-in}
 use Rattle.variants_and_fragments.proofs.Decoded.{debt-down, variants-are, allele-count-is}
 use Rattle.variants_and_fragments.proofs.GoodCases.{good-case}
-use Rattle.variants_and_fragments.proofs.RowFacts.{Each, none-of, one-of, RowIn, pile-in}
+use Rattle.pileup.proofs.RowFacts.{Each, none-of, one-of, RowIn, pile-in}
 use Rattle.variants_and_fragments.proofs.Written.{written-at, written-length}
 use Rattle.genotype_probs.specs.declared.Rates.{Rates}
 use Rattle.genotype_probs.specs.Rates.{ratesFault}

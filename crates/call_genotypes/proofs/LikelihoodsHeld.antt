@@ -15,7 +15,7 @@ use Rattle.variants_and_fragments.specs.Check.{caseOf}
 use Rattle.variants_and_fragments.specs.Refusals.{done}
 use Rattle.variants_and_fragments.specs.Decode.{decode}
 use Rattle.variants_and_fragments.specs.Pileup.{usableCalls}
-use Rattle.variants_and_fragments.specs.Rows.{RowSlices, RowsMade}
+use Rattle.pileup.specs.Rows.{RowSlices, RowsMade}
 use Rattle.variants_and_fragments.specs.Written.{written}
 use Rattle.variants_and_fragments.proofs.Accepted.{case-in}
 use Rattle.variants_and_fragments.proofs.Alls.{all-imp}

@@ -13,8 +13,8 @@ use lib.IntN.{ℤ, pos, _+ℤ_, +ℤ-assoc}
 use Rattle.steps.proofs.Signed.{cases}
 use Rattle.variants_and_fragments.specs.Case.{Call, All, end, also}
 use Rattle.variants_and_fragments.specs.Pileup.{Row, noRow, rowOf}
-use Rattle.variants_and_fragments.specs.Pile.{whoOf, pileStart}
-use Rattle.variants_and_fragments.specs.Rows.{rowQual, rowOneMinusQual}
+use Rattle.pileup.specs.Piles.{whoOf, pileStart}
+use Rattle.pileup.specs.Rows.{rowQual, rowOneMinusQual}
 use Rattle.variants_and_fragments.specs.Decode.{tabulateFrom}
 use Rattle.variants_and_fragments.proofs.Alls.{all-at, all-imp}
 use Rattle.sweeps.specs.Sweeps.{SweepCase, allele0, allele1, score, scoreWith, mixOf}

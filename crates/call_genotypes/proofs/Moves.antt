@@ -21,7 +21,7 @@ use Rattle.sweeps.proofs.Link.{lik-own}
 use Rattle.sweeps.proofs.Scored.{lik-stays}
 use Rattle.sweeps.proofs.Run.{is-true, is-false}
 use Rattle.variants_and_fragments.proofs.Sums.{sum-append}
-use Rattle.variants_and_fragments.specs.Pile.{pileStart}
+use Rattle.pileup.specs.Piles.{pileStart}
 use Rattle.call_genotypes.specs.Held.{Held, Liks}
 use Rattle.call_genotypes.specs.Scores.{rowsAt}
 use Rattle.call_genotypes.proofs.Linked.{pile-rows, phased-yes, phased-no}

@@ -16,7 +16,7 @@ use Rattle.variants_and_fragments.specs.Check.{caseOf}
 use Rattle.variants_and_fragments.specs.Refusals.{done}
 use Rattle.variants_and_fragments.specs.Sums.{sumOver}
 use Rattle.variants_and_fragments.specs.Decode.{tabulate, decode}
-use Rattle.variants_and_fragments.specs.Rows.{RowSlices, RowsMade}
+use Rattle.pileup.specs.Rows.{RowSlices, RowsMade}
 use Rattle.variants_and_fragments.proofs.Decoded.{tabulate-length, tabulate-at}
 use Rattle.genotype_probs.specs.declared.Rates.{Rates}
 use Rattle.genotype_probs.proofs.AlleleLaws.{nine}

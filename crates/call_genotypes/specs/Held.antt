@@ -10,8 +10,8 @@ use lib.IntN.{ℤ, pos, natAbs}
 use mathlib.Core.Bool.{Bool}
 use Rattle.variants_and_fragments.specs.Case.{All}
 use Rattle.variants_and_fragments.specs.Pileup.{Row}
-use Rattle.variants_and_fragments.specs.Pile.{whoOf, pileStart}
-use Rattle.variants_and_fragments.specs.Rows.{rowQual, rowOneMinusQual}
+use Rattle.pileup.specs.Piles.{whoOf, pileStart}
+use Rattle.pileup.specs.Rows.{rowQual, rowOneMinusQual}
 use Rattle.variants_and_fragments.specs.Sums.{DownTo}
 use Rattle.sweeps.specs.Sweeps.{SweepCase, GoodSweepCase, allele0, allele1, likelihood, mixOf}
 use Rattle.sweeps.specs.Incremental.{pileupFrom}

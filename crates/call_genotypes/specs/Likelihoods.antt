@@ -9,7 +9,7 @@ use lib.IntN.{ℤ, pos, natAbs}
 use lib.ListN.{length, getD}
 use Rattle.variants_and_fragments.specs.Case.{Call}
 use Rattle.variants_and_fragments.specs.Decode.{tabulateFrom}
-use Rattle.variants_and_fragments.specs.Pile.{pileStart}
+use Rattle.pileup.specs.Piles.{pileStart}
 use Rattle.sweeps.specs.Sweeps.{callTerm, likelihood}
 use Rattle.call_genotypes.specs.declared.likelihoods.ReadLikelihoods.{ReadLikelihoods}
 

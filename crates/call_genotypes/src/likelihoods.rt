@@ -5,7 +5,7 @@ ghost use Prim.Native.Nat.{_+_, _*_, _<_, _≤_};
 ghost use lib.Dec.{eqb};
 ghost use lib.IntN.{natAbs};
 ghost use lib.ListN.{length};
-ghost use Rattle.variants_and_fragments.specs.Pile.{pileStart};
+ghost use Rattle.pileup.specs.Piles.{pileStart};
 ghost use Rattle.variants_and_fragments.specs.Written.{written};
 ghost use Rattle.call_genotypes.specs.Likelihoods.{CallsIn, EndsIn, LikelihoodsAre, callSlices, callHeld, flagged, alleleOn, callShare, likelihoodAt};
 

@@ -4,7 +4,7 @@ ghost use Prim.Native.Nat.{_+_, _*_, _^_, _≤_};
 ghost use lib.IntN.{natAbs};
 ghost use lib.ListN.{length};
 ghost use Rattle.steps.specs.Table.{knots};
-ghost use Rattle.variants_and_fragments.specs.Pile.{pileStart};
+ghost use Rattle.pileup.specs.Piles.{pileStart};
 ghost use Rattle.sweeps.specs.Sweeps.{sumTo, totalOf, mixOf};
 ghost use Rattle.call_genotypes.specs.Likelihoods.{CallsIn, EndsIn, callSlices, flagged};
 ghost use Rattle.call_genotypes.specs.Scores.{Within};

@@ -17,7 +17,7 @@ use crate::score::first_max;
 use crate::score::fragment_at;
 use crate::score::quality_at;
 use crate::score::scores;
-use variants_and_fragments::pileup::pile_start;
+use pileup::piles::pile_start;
 
 // What a call of allele x adds to a likelihood when its variant's allele goes from old to new.
 fn change(x: usize, old: usize, new: usize, q: i64, o: i64) -> i64

@@ -11,7 +11,7 @@ use lib.ListN.{length, getD}
 use Rattle.variants_and_fragments.specs.declared.Sizes.{Sizes}
 use Rattle.variants_and_fragments.specs.Decode.{decode}
 use Rattle.variants_and_fragments.specs.Layout.{depthAt}
-use Rattle.variants_and_fragments.specs.Pile.{pileStart}
+use Rattle.pileup.specs.Piles.{pileStart}
 use Rattle.variants_and_fragments.proofs.Decoded.{dp-is}
 use Rattle.genotype_probs.specs.declared.posteriors.Genotype.{Genotype}
 use Rattle.no_haplotypes.specs.NoHaplotypes.{callsAt, depthAfter}

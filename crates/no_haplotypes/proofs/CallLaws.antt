@@ -23,7 +23,7 @@ use Rattle.variants_and_fragments.specs.Accepted.{CaseIn}
 use Rattle.variants_and_fragments.specs.Case.{Case, alleleCount, variantOf}
 use Rattle.variants_and_fragments.specs.Decode.{tabulate, decode}
 use Rattle.variants_and_fragments.specs.Layout.{alleleCountAt}
-use Rattle.variants_and_fragments.specs.Pile.{keep}
+use Rattle.pileup.specs.Piles.{keep}
 use Rattle.variants_and_fragments.specs.Pileup.{pileOf, ambiguousCount}
 use Rattle.variants_and_fragments.proofs.Decoded.{tabulate-at}
 use Rattle.genotype_probs.specs.declared.posteriors.Genotype.{Genotype}

@@ -18,10 +18,10 @@ use Rattle.variants_and_fragments.specs.Case.{Case, Call, Fragment, alleleCount
 use Rattle.variants_and_fragments.specs.Check.{caseOf}
 use Rattle.variants_and_fragments.specs.Decode.{tabulate, decode}
 use Rattle.variants_and_fragments.specs.Layout.{alleleCountAt}
-use Rattle.variants_and_fragments.specs.Pile.{pileStart, CallsPiled}
+use Rattle.pileup.specs.Piles.{pileStart, CallsPiled}
 use Rattle.variants_and_fragments.specs.Pileup.{only, pileOf, ambiguousCount}
 use Rattle.variants_and_fragments.specs.Refusals.{done}
-use Rattle.variants_and_fragments.specs.Rows.{RowSlices}
+use Rattle.pileup.specs.Rows.{RowSlices}
 use Rattle.variants_and_fragments.specs.Sums.{sumOver, countOver}
 use Rattle.variants_and_fragments.specs.Written.{written}
 use Rattle.variants_and_fragments.proofs.Decoded.{variants-are, allele-count-is, tabulate-at}

@@ -15,12 +15,12 @@ use Rattle.variants_and_fragments.specs.declared.Sizes.{Sizes}
 use Rattle.variants_and_fragments.specs.Accepted.{CaseIn}
 use Rattle.variants_and_fragments.specs.Case.{Case, Call, Fragment, usable}
 use Rattle.variants_and_fragments.specs.Decode.{decode}
-use Rattle.variants_and_fragments.specs.Pile.{keep}
+use Rattle.pileup.specs.Piles.{keep}
 use Rattle.variants_and_fragments.specs.Pileup.{Row, rowOf, only, usableCalls, rowsFrom, rowsOf, atVariant, pileOf, ambiguousAt, ambiguousIn, ambiguousFrom, ambiguousCount}
 use Rattle.variants_and_fragments.specs.Sums.{countOver}
 use Rattle.variants_and_fragments.proofs.Decoded.{fragments-are, strand-is}
-use Rattle.variants_and_fragments.proofs.Piles.{keep-in, keep-out, keep-nil}
-use Rattle.variants_and_fragments.proofs.RowFacts.{Each, none-of, one-of, RowIn, pile-in}
+use Rattle.pileup.proofs.Piles.{keep-in, keep-out, keep-nil}
+use Rattle.pileup.proofs.RowFacts.{Each, none-of, one-of, RowIn, pile-in}
 use Rattle.no_haplotypes.specs.NoHaplotypes.{rowStrand, alleleCalls, strandCalls, callsAt}
 use Rattle.no_haplotypes.specs.Tally.{countPlace}
 

@@ -14,7 +14,7 @@ use Rattle.steps.specs.Logs.{sumExp}
 use Rattle.steps.proofs.Signed.{by-test, zlin, up-pos, dn-pos, parts-add, parts-minus, add-abs}
 use Rattle.variants_and_fragments.specs.Case.{alleleOf, Case, Variant, alleleCount, variantOf}
 use Rattle.variants_and_fragments.specs.Pileup.{Row, pileOf}
-use Rattle.variants_and_fragments.specs.Rows.{rowQual}
+use Rattle.pileup.specs.Rows.{rowQual}
 use Rattle.variants_and_fragments.specs.Sums.{sumOver}
 use Rattle.genotype_probs.specs.Letters.{letterOf, compared}
 use Rattle.genotype_probs.specs.Places.{TableIn}

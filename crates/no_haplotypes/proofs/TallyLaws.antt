@@ -21,14 +21,14 @@ use Rattle.variants_and_fragments.specs.Words.{debtOf}
 use Rattle.variants_and_fragments.specs.Case.{Case, fragmentOf}
 use Rattle.variants_and_fragments.specs.Decode.{decode}
 use Rattle.variants_and_fragments.specs.Layout.{strandAt}
-use Rattle.variants_and_fragments.specs.Pile.{keep, pileStart, whoOf}
+use Rattle.pileup.specs.Piles.{keep, pileStart, whoOf}
 use Rattle.variants_and_fragments.specs.Pileup.{Row, noRow, rowsOf, pileOf}
-use Rattle.variants_and_fragments.specs.Rows.{rowQual, rowOneMinusQual}
+use Rattle.pileup.specs.Rows.{rowQual, rowOneMinusQual}
 use Rattle.variants_and_fragments.specs.Sums.{sumOver}
-use Rattle.variants_and_fragments.proofs.Counts.{Counting, counting-start, counting-on, counting-end}
-use Rattle.variants_and_fragments.proofs.Piles.{keep-in, keep-out, keep-nil}
+use Rattle.pileup.proofs.Counts.{Counting, counting-start, counting-on, counting-end}
+use Rattle.pileup.proofs.Piles.{keep-in, keep-out, keep-nil}
 use Rattle.variants_and_fragments.proofs.Decoded.{variants-are, fragments-are, strand-is}
-use Rattle.variants_and_fragments.proofs.RowFacts.{Each, none-of, one-of, each-at, RowIn, pile-in}
+use Rattle.pileup.proofs.RowFacts.{Each, none-of, one-of, each-at, RowIn, pile-in}
 use Rattle.genotype_probs.specs.Priors.{lnHalf}
 use Rattle.no_haplotypes.specs.NoHaplotypes.{mixed, rowStrand}
 use Rattle.no_haplotypes.specs.Tally.{Piled, CallHeld, bothGain, oneGain, gainAt, countPlace, TallyRoom, CallAdded, Untouched, Tallied, GainsIn}

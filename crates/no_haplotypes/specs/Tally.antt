@@ -14,9 +14,9 @@ use Rattle.variants_and_fragments.specs.Accepted.{CaseIn}
 use Rattle.variants_and_fragments.specs.Case.{Case}
 use Rattle.variants_and_fragments.specs.Decode.{tabulate, decode}
 use Rattle.variants_and_fragments.specs.Layout.{strandAt, alleleCountAt}
-use Rattle.variants_and_fragments.specs.Pile.{keep, pileStart, PilesRoom, PilesHeld}
+use Rattle.pileup.specs.Piles.{keep, pileStart, PilesRoom, PilesHeld}
 use Rattle.variants_and_fragments.specs.Pileup.{Row, rowsOf, pileOf, ambiguousCount}
-use Rattle.variants_and_fragments.specs.Rows.{rowQual}
+use Rattle.pileup.specs.Rows.{rowQual}
 use Rattle.variants_and_fragments.specs.Sums.{sumOver}
 use Rattle.variants_and_fragments.specs.Written.{written}
 use Rattle.genotype_probs.specs.declared.posteriors.Genotype.{Genotype}

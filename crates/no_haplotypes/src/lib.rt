@@ -38,8 +38,8 @@ use variants_and_fragments::Refusal;
 use variants_and_fragments::Sizes;
 use variants_and_fragments::check_case;
 use variants_and_fragments::layout;
-use variants_and_fragments::pileup::pile_calls;
-use variants_and_fragments::pileup::pile_start;
+use pileup::piles::pile_calls;
+use pileup::piles::pile_start;
 
 // The answer of the operation.
 pub enum Called {

@@ -22,7 +22,7 @@ use Rattle.variants_and_fragments.proofs.Bools.{both}
 use Rattle.variants_and_fragments.proofs.Records.{call-facts}
 use Rattle.variants_and_fragments.proofs.Accepted.{case-in, bases-in}
 use Rattle.variants_and_fragments.specs.Check.{caseOf}
-use Rattle.variants_and_fragments.specs.Pile.{callId, callsFrom}
+use Rattle.variants_and_fragments.specs.ChainCalls.{callId, callsFrom}
 use Rattle.variants_and_fragments.specs.Decode.{tabulateFrom, tabulate, alleleStart, callFrom, fragmentFrom, decode}
 use Rattle.variants_and_fragments.proofs.Pigeon.{calls-top}
 use Rattle.variants_and_fragments.proofs.Readings.{nat-top}

@@ -15,7 +15,7 @@ use Rattle.variants_and_fragments.specs.declared.Sizes.{Sizes}
 use Rattle.variants_and_fragments.specs.Chain.{nextCallAt, firstCallAt, isRecord, linkOk, chainFrom, chainOf, memb, pushAll, reached, goodChain}
 use Rattle.variants_and_fragments.specs.Accepted.{CaseIn}
 use Rattle.variants_and_fragments.proofs.Bools.{both, or-off, or-right, not-on}
-use Rattle.variants_and_fragments.specs.Pile.{callsFrom}
+use Rattle.variants_and_fragments.specs.ChainCalls.{callsFrom}
 
 distinct : List ℕ → Bool
 distinct [] = true

@@ -8,14 +8,12 @@ pub mod Chain
 pub mod Check
 pub mod Accepted
 pub mod Fold
+pub mod ChainCalls
 pub mod Alleles
 pub mod Written
 pub mod Decode
 pub mod Encode
 pub mod Filter
 pub mod Pileup
-pub mod Reader
-pub mod Rows
-pub mod Pile
 pub mod FilterWindow
 pub mod Filtered

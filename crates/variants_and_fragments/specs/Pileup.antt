@@ -6,7 +6,7 @@ use Prim.Native.Nat.{ℕ, suc, _+_}
 use lib.Dec.{eqb}
 use lib.IntN.{ℤ, pos}
 use lib.ListN.{length, take}
-use Rattle.variants_and_fragments.specs.Case.{Case, Fragment, Call, usable}
+use Rattle.variants_and_fragments.specs.Case.{Case, Fragment, Call, usable, fragmentOf}
 
 -- those of a list of which p holds
 unfoldable pub only : {X : Type 0} → (X → Bool) → List X → List X
@@ -37,6 +37,10 @@ rowsFrom cutoff f (x ∷ xs) = map (rowOf f) (usableCalls cutoff x) ++ rowsFrom 
 
 unfoldable pub rowsOf : Case → List Row
 rowsOf case = rowsFrom (case .cutoff) 0 (case .fragments)
+
+-- the usable calls of fragment f
+unfoldable pub fragmentRows : Case → ℕ → List Row
+fragmentRows case f = map (rowOf f) (usableCalls (case .cutoff) (fragmentOf case f))
 
 -- how many rows the first f fragments have: where the rows of fragment f start
 unfoldable pub rowsBefore : Case → ℕ → ℕ

@@ -4,7 +4,7 @@ ghost use lib.ListN.{length};
 ghost use lib.IntN.{pos};
 ghost use lib.Signed.{leZ};
 ghost use Rattle.variants_and_fragments.specs.Words.{natOf, debtOf, word, within, natAt, debtAt};
-ghost use Rattle.variants_and_fragments.specs.Layout.{Sized, sizesOf, lowestQuality, maxVariants, maxFragments, maxCalls, callAt, pos0At, depthAt, genotypeAt, alleleCountAt, lengthAt, callVariantAt, calledAlleleAt, firstCallAt, strandAt, nextCallAt};
+ghost use Rattle.variants_and_fragments.specs.Layout.{Sized, sizesOf, lowestQuality, maxVariants, maxFragments, maxCalls, callAt, cutoffAt, qualAt, oneMinusQualAt, pos0At, depthAt, genotypeAt, alleleCountAt, lengthAt, callVariantAt, calledAlleleAt, firstCallAt, strandAt, nextCallAt};
 ghost use Rattle.variants_and_fragments.specs.Alleles.{VariantsIn};
 ghost use mathlib.Core.Bool.{true};
 use crate::Sizes;
@@ -20,6 +20,42 @@ pub const VARIANT_WORDS: usize = 8;
 pub const FRAGMENT_WORDS: usize = 2;
 
 pub const CALL_WORDS: usize = 5;
+
+// The words of the head.
+pub const VARIANTS: usize = 0;
+
+pub const FRAGMENTS: usize = 1;
+
+pub const CALLS: usize = 2;
+
+pub const CUTOFF: usize = 3;
+
+// The fields of a variant record; the genotype has 2 words, the lengths 3.
+pub const POS0: usize = 0;
+
+pub const DEPTH: usize = 1;
+
+pub const GENOTYPE: usize = 2;
+
+pub const ALLELE_COUNT: usize = 4;
+
+pub const LENGTHS: usize = 5;
+
+// The fields of a fragment record.
+pub const FIRST: usize = 0;
+
+pub const STRAND: usize = 1;
+
+// The fields of a call record.
+pub const VARIANT: usize = 0;
+
+pub const ALLELE: usize = 1;
+
+pub const QUAL: usize = 2;
+
+pub const ONE_MINUS_QUAL: usize = 3;
+
+pub const NEXT: usize = 4;
 
 pub const MAX_VARIANTS: usize = 1024;
 
@@ -102,10 +138,10 @@ pub fn read_sizes(words: &[i32]) -> Sizes
     ensures { λ r. ⌜ r ≡ sizesOf (now (words .entry)) ⌝ }
 {
     Sizes {
-        n: nat_at(words, 0),
-        f: nat_at(words, 1),
-        c: nat_at(words, 2),
-        cut: debt_at(words, 3),
+        n: nat_at(words, VARIANTS),
+        f: nat_at(words, FRAGMENTS),
+        c: nat_at(words, CALLS),
+        cut: debt_at(words, CUTOFF),
     }
 }
 
@@ -228,4 +264,38 @@ pub fn qual_debt(words: &[i32], s: Sizes, r: usize) -> usize
         words,
         HEAD_WORDS + VARIANT_WORDS * s.n + FRAGMENT_WORDS * s.f + CALL_WORDS * (r - 1) + 2,
     )
+}
+
+// Word i as it stands.
+pub fn word_at(words: &[i32], i: usize) -> i32
+    requires { ⌜ i < length (now words) ⌝ }
+    ensures { λ r. ⌜ r ≡ word (now (words .entry)) i ⌝ }
+{
+    words[i]
+}
+
+// The cutoff.
+pub fn cutoff_of(words: &[i32], s: Sizes) -> i32
+    requires { ⌜ Sized (now words) s ⌝ }
+    ensures { λ r. ⌜ r ≡ cutoffAt (now (words .entry)) ⌝ }
+{
+    word_at(words, CUTOFF)
+}
+
+// The quality of record r.
+pub fn qual_of(words: &[i32], s: Sizes, r: usize) -> i32
+    requires { ⌜ Sized (now words) s ⌝ }
+    requires { ⌜ (1 ≤ r) × (r ≤ s .c) ⌝ }
+    ensures { λ q. ⌜ q ≡ qualAt (now (words .entry)) s r ⌝ }
+{
+    word_at(words, call_at(s, r) + QUAL)
+}
+
+// The other quality of record r, one_minus_qual.
+pub fn one_minus_qual_of(words: &[i32], s: Sizes, r: usize) -> i32
+    requires { ⌜ Sized (now words) s ⌝ }
+    requires { ⌜ (1 ≤ r) × (r ≤ s .c) ⌝ }
+    ensures { λ q. ⌜ q ≡ oneMinusQualAt (now (words .entry)) s r ⌝ }
+{
+    word_at(words, call_at(s, r) + ONE_MINUS_QUAL)
 }

@@ -16,10 +16,7 @@ pub mod chains;
 pub mod filter;
 pub mod head;
 pub mod layout;
-pub mod pileup;
-pub mod reader;
 pub mod refusals;
-pub mod rows;
 pub mod variants;
 
 // What the head says: N, F, C, and how far the cutoff lies below 0.

@@ -12,7 +12,7 @@ use lib.ListN.{length, getD}
 use Rattle.variants_and_fragments.specs.declared.Sizes.{Sizes}
 use Rattle.variants_and_fragments.specs.Accepted.{CaseIn, allb}
 use Rattle.variants_and_fragments.specs.Decode.{decode}
-use Rattle.variants_and_fragments.specs.Pile.{pileStart}
+use Rattle.pileup.specs.Piles.{pileStart}
 use Rattle.variants_and_fragments.proofs.Accepted.{case-in}
 use Rattle.variants_and_fragments.proofs.Bools.{both}
 use Rattle.variants_and_fragments.proofs.Decoded.{variants-are}

@@ -8,8 +8,8 @@ use Rattle.variants_and_fragments.specs.declared.Sizes.{Sizes}
 use Rattle.variants_and_fragments.specs.Refusals.{Outcome, refused, done, number, place}
 use Rattle.variants_and_fragments.specs.Check.{caseOf}
 use Rattle.variants_and_fragments.specs.Layout.{alleleCountAt}
-use Rattle.variants_and_fragments.specs.Rows.{RowSlices, rowSlices, RowsRoom}
-use Rattle.variants_and_fragments.specs.Pile.{CallsPiled, PilesRoom}
+use Rattle.pileup.specs.Rows.{RowSlices, rowSlices, RowsRoom}
+use Rattle.pileup.specs.Piles.{CallsPiled, PilesRoom}
 use Rattle.variants_and_fragments.specs.Written.{written}
 use Rattle.genotype_probs.specs.Rates.{ratesFault}
 use Rattle.shuffle.specs.Orders.{orderCount, GoodOrders}

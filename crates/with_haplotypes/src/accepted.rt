@@ -6,7 +6,7 @@ ghost use lib.Dec.{eqb};
 ghost use lib.ListN.{length};
 ghost use Rattle.steps.specs.Table.{knots};
 ghost use Rattle.variants_and_fragments.specs.Accepted.{allb};
-ghost use Rattle.variants_and_fragments.specs.Rows.{rowSlices};
+ghost use Rattle.pileup.specs.Rows.{rowSlices};
 ghost use Rattle.with_haplotypes.specs.Round.{RoundInput, roundInput};
 ghost use Rattle.with_haplotypes.specs.Steps.{Admitted, AlleleCounts, PilesMade, ScratchRoom, RunRoom, RoundStart, SomeInput, RoundRan, RoundRoom, RoundMade};
 ghost use Rattle.with_haplotypes.specs.Promise.{roundSlices};
@@ -33,7 +33,7 @@ use genotype_probs::Rates;
 use haplotype_assembly::phase::write_phase;
 use steps::one_plus;
 use variants_and_fragments::Sizes;
-use variants_and_fragments::pileup::pile_calls;
+use pileup::piles::pile_calls;
 
 // A byte of each variant.
 pub fn zeros() -> [u8; 1024]

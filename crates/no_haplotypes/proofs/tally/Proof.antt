@@ -11,7 +11,7 @@ use mir.Syntax.{w64}
 use mir.Val.{toZ, ofZ}
 use mir.Facts.{toZ-ofZ}
 use Rattle.steps.proofs.Signed.{plus-fits, plus-read, read-back, read-small, sfits, add-abs}
-use Rattle.variants_and_fragments.specs.Pile.{pileStart}
+use Rattle.pileup.specs.Piles.{pileStart}
 use Rattle.no_haplotypes.proofs.TallyLaws.{starts-low, ends-few, call-held, TallyAt, at-start, at-room, at-long, at-total, at-on, at-end}
 use Rattle.no_haplotypes.proofs.tally.Statement.{statement}
 use Rattle.no_haplotypes.proofs.tally.Tie as tie

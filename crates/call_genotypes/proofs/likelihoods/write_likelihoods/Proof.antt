@@ -9,7 +9,7 @@ use lib.ListN.{length, getD, length-set}
 use mir.Syntax.{w64}
 use mir.Val.{toZ, ofZ}
 use Rattle.steps.proofs.Signed.{read-small}
-use Rattle.variants_and_fragments.specs.Pile.{pileStart}
+use Rattle.pileup.specs.Piles.{pileStart}
 use Rattle.variants_and_fragments.specs.Written.{written}
 use Rattle.variants_and_fragments.proofs.Written.{written-on, written-length}
 use Rattle.call_genotypes.specs.Likelihoods.{CallSlices, callSlices, likelihoodAt}

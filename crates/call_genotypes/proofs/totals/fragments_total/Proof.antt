@@ -10,7 +10,7 @@ use lib.ListN.{getD}
 use mir.Syntax.{w64}
 use mir.Val.{toZ, ofZ}
 use Rattle.steps.proofs.Signed.{read-back, read-small}
-use Rattle.variants_and_fragments.specs.Pile.{pileStart}
+use Rattle.pileup.specs.Piles.{pileStart}
 use Rattle.sweeps.specs.Sweeps.{likelihood}
 use Rattle.call_genotypes.specs.Likelihoods.{CallSlices, callSlices, callsOf, flagged, alleleOn}
 use Rattle.call_genotypes.specs.Totals.{fragmentShare}

@@ -1,0 +1,47 @@
+// A usable call: as a struct by value, and as the one word that rows and piles hold of it.
+ghost use mathlib.Core.Path.{_≡_};
+ghost use Prim.Native.Nat.{_<_, _≤_};
+ghost use lib.ListN.{length};
+ghost use Rattle.pileup.specs.Packed.{Packable, heldRow, rowFrom, packed, unpacked, UsableIs};
+
+// A call that is usable, with the number of its fragment.
+pub struct Row {
+    pub fragment: usize,
+    pub variant: usize,
+    pub allele: usize,
+    pub qual: i64,
+    pub one_minus_qual: i64,
+}
+
+// The row as one word: from the lowest bits on, 10 for the variant, 2 for the allele, 12 for the fragment, and 19 for how far each quality
+// lies below 0.
+pub fn pack(row: Row) -> u64
+    requires { ⌜ Packable (rowFrom row) ⌝ }
+    ensures { λ w. ⌜ w ≡ packed (rowFrom row) ⌝ }
+{
+    let qual = (0 - row.qual) as u64;
+    let one_minus_qual = (0 - row.one_minus_qual) as u64;
+    let qualities = qual + 524288 * one_minus_qual;
+    let who = row.allele as u64 + 4 * (row.fragment as u64 + 4096 * qualities);
+    row.variant as u64 + 1024 * who
+}
+
+// The row of a word.
+pub fn unpack(word: u64) -> Row
+    ensures { λ r. ⌜ r ≡ heldRow (unpacked word) ⌝ }
+{
+    Row {
+        fragment: (word / 4096 % 4096) as usize,
+        variant: (word % 1024) as usize,
+        allele: (word / 1024 % 4) as usize,
+        qual: 0 - (word / 16777216 % 524288) as i64,
+        one_minus_qual: 0 - (word / 8796093022208) as i64,
+    }
+}
+
+// Whether a call is usable: its quality is below the cutoff; equality is ambiguous. `strand` is its fragment's: a fragment may come to have a say.
+pub fn usable(cutoff: i32, strand: usize, qual: i32) -> bool
+    ensures { λ r. ⌜ UsableIs cutoff strand qual r ⌝ }
+{
+    qual < cutoff
+}
