@@ -1,7 +1,6 @@
 pub mod Tables
 pub mod Turns
 pub mod GapLaws
-pub mod RunningSums
 pub mod GapSums
 pub mod Sizes
 pub mod Fours
@@ -12,18 +11,3 @@ pub mod Moves
 pub mod Visited
 pub mod Sweeping
 pub mod Running
-pub mod SweepCases
-pub mod PriorSizes
-pub mod AcceptedPriors
-pub mod SameTables
-pub mod TableSizes
-pub mod HeldCases
-pub mod CallShares
-pub mod TableParts
-pub mod CallsHeld
-pub mod LikelihoodsHeld
-pub mod TotalParts
-pub mod TotalsHeld
-pub mod NormalizedTables
-pub mod FinalLaws
-pub mod NormalizedLaws

@@ -24,7 +24,7 @@ use Rattle.genotype_probs.proofs.TableSums.{pair-in}
 use Rattle.sweeps.proofs.Basics.{sumOver-cong}
 use Rattle.sweeps.proofs.Scored.{score-pileup}
 use Rattle.sweeps.proofs.Fours.{share-value}
-use Rattle.call_genotypes.specs.Held.{GoodRow, Held, Liks}
+use Rattle.likelihoods.specs.Held.{GoodRow, Held, Liks}
 use Rattle.call_genotypes.specs.Scores.{rowAt, rowsAt, rowGaps, turn, PileIn, Within, AlleleSums, QualsIn, neitherSum, pairGap, scoresOf, ScoresRoom, Standing, rawScores}
 use Rattle.call_genotypes.proofs.GapLaws.{rowFour}
 use Rattle.call_genotypes.proofs.GapSums.{pairs-are, neither-are}

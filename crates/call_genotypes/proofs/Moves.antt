@@ -22,7 +22,7 @@ use Rattle.sweeps.proofs.Scored.{lik-stays}
 use Rattle.sweeps.proofs.Run.{is-true, is-false}
 use Rattle.variants_and_fragments.proofs.Sums.{sum-append}
 use Rattle.pileup.specs.Piles.{pileStart}
-use Rattle.call_genotypes.specs.Held.{Held, Liks}
+use Rattle.likelihoods.specs.Held.{Held, Liks}
 use Rattle.call_genotypes.specs.Scores.{rowsAt}
 use Rattle.call_genotypes.proofs.Linked.{pile-rows, phased-yes, phased-no}
 use Rattle.call_genotypes.specs.Visits.{moveOf, Moved}

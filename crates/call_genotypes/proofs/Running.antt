@@ -19,7 +19,7 @@ use Rattle.sweeps.proofs.Perm.{permutation-below, permutation-distinct}
 use Rattle.sweeps.proofs.Posts.{length-recorded}
 use Rattle.sweeps.proofs.Run.{demand3}
 use Rattle.sweeps.proofs.Sweep.{sweep-swept}
-use Rattle.call_genotypes.specs.Held.{Liks}
+use Rattle.likelihoods.specs.Held.{Liks}
 use Rattle.call_genotypes.specs.Scores.{rawScores}
 use Rattle.call_genotypes.specs.Visits.{SweepStart, Swept}
 use Rattle.call_genotypes.specs.Runs.{orderOf, RunStart, resultOf, Ran}

@@ -15,7 +15,7 @@ use Rattle.sweeps.specs.Incremental.{changed}
 use Rattle.sweeps.specs.Posts.{recorded}
 use Rattle.sweeps.proofs.Basics.{and-l, and-r}
 use Rattle.sweeps.proofs.Visit.{visit-good}
-use Rattle.call_genotypes.specs.Held.{Liks}
+use Rattle.likelihoods.specs.Held.{Liks}
 use Rattle.call_genotypes.specs.Scores.{rawScores, Standing}
 use Rattle.call_genotypes.specs.Visits.{Visited, SweepStart, Swept}
 

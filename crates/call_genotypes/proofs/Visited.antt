@@ -16,7 +16,7 @@ use Rattle.genotype_probs.specs.Posteriors.{firstMaximum}
 use Rattle.genotype_probs.proofs.Maxima.{maximum-same}
 use Rattle.sweeps.proofs.Visit.{best-first}
 use Rattle.sweeps.proofs.Run.{is-true}
-use Rattle.call_genotypes.specs.Held.{Liks}
+use Rattle.likelihoods.specs.Held.{Liks}
 use Rattle.call_genotypes.specs.Scores.{Standing, rawScores}
 use Rattle.call_genotypes.specs.Visits.{Visited}
 use Rattle.call_genotypes.proofs.Tables.{table-length, table-at, sets-at}

@@ -1,10 +1,3 @@
-pub mod Held
 pub mod Scores
 pub mod Visits
 pub mod Runs
-pub mod SweepCaseOf
-pub mod Likelihoods
-pub mod Totals
-pub mod NormalizedPosteriors
-pub mod Finals
-pub mod Normalized

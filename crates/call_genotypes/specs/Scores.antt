@@ -8,26 +8,14 @@ use lib.ListN.{length, getD}
 use lib.Seq.{sets}
 use lib.IntN.{ℤ, pos, natAbs, _+ℤ_, _-ℤ_, _*ℤ_}
 use Rattle.steps.specs.Logs.{addExp}
-use Rattle.variants_and_fragments.specs.Pileup.{Row, rowOf}
-use Rattle.variants_and_fragments.specs.Decode.{tabulateFrom, tabulate}
+use Rattle.variants_and_fragments.specs.Pileup.{Row}
+use Rattle.variants_and_fragments.specs.Decode.{tabulate}
 use Rattle.variants_and_fragments.specs.Sums.{sumOver}
-use Rattle.sweeps.specs.Sweeps.{SweepCase, GoodHaps}
+use Rattle.sweeps.specs.Sweeps.{SweepCase, GoodHaps, score}
 use Rattle.sweeps.specs.Incremental.{alleleSum}
 use Rattle.call_genotypes.specs.declared.score.Gaps.{Gaps}
-use Rattle.call_genotypes.specs.Held.{Held, Liks}
-
--- the row of a pile of v that stands at p
-unfoldable pub rowAt : ℕ → List ℕ → List ℤ → List ℤ → ℕ → Row
-rowAt v who quals one-minus-quals p = rowOf (getD who p 0 / 4) (record {
-  variant = v;
-  allele = getD who p 0 % 4;
-  qual = getD quals p (pos 0);
-  one-minus-qual = getD one-minus-quals p (pos 0);
-})
-
--- the rows at a..e
-abbrev pub rowsAt : ℕ → List ℕ → List ℤ → List ℤ → ℕ → ℕ → List Row
-rowsAt v who quals one-minus-quals a e = tabulateFrom (rowAt v who quals one-minus-quals) a (e - a)
+use Rattle.pileup.specs.Packed.{rowAt, rowsAt}
+use Rattle.likelihoods.specs.Held.{SweepReads, Held, Liks, Within}
 
 -- ln(1 + exp(d)), in steps
 abbrev pub onePlus : ℤ → ℤ
@@ -65,47 +53,35 @@ unfoldable pub turn : Bool → ℕ → ℕ → ℕ → ℤ
 turn phased g0 g1 x = cond phased (cond (eqb x g1) (pos 1) (pos 0) -ℤ cond (eqb x g0) (pos 1) (pos 0)) (pos 0)
 
 -- the row at p: its ranges, there being room for n likelihoods
-pub record RowIn (n : ℕ) (who : List ℕ) (quals one-minus-quals : List ℤ) (p : ℕ) : Type 0 where
-  pub who-long : p < length who
-  pub quals-long : p < length quals
-  pub one-minus-quals-long : p < length one-minus-quals
-  pub fragment-in : 2 * (getD who p 0 / 4) + 1 < n
-  pub allele-in : getD who p 0 % 4 < 3
-  pub qual-small : natAbs (getD quals p (pos 0)) ≤ 2 ^ 18
-  pub one-minus-qual-small : natAbs (getD one-minus-quals p (pos 0)) ≤ 2 ^ 18
+pub record RowFits (n : ℕ) (piles : List ℕ) (p : ℕ) : Type 0 where
+  pub long : p < length piles
+  pub fragment-in : 2 * rowAt piles p .fragment + 1 < n
+  pub allele-in : rowAt piles p .call .allele < 3
+  pub qual-small : natAbs (rowAt piles p .call .qual) ≤ 2 ^ 18
+  pub one-minus-qual-small : natAbs (rowAt piles p .call .one-minus-qual) ≤ 2 ^ 18
 
 -- the rows at a..e
-pub record PileIn (n : ℕ) (who : List ℕ) (quals one-minus-quals : List ℤ) (a e : ℕ) : Type 0 where
+pub record PileFits (n : ℕ) (piles : List ℕ) (a e : ℕ) : Type 0 where
   pub few : e ≤ a + 16384
-  pub rows-in : (p : ℕ) → a ≤ p → p < e → RowIn n who quals one-minus-quals p
-
--- no element is further from 0 than n
-abbrev pub Within : ℕ → List ℤ → Type 0
-Within n l = (i : ℕ) → natAbs (getD l i (pos 0)) ≤ n
+  pub rows-fit : (p : ℕ) → a ≤ p → p < e → RowFits n piles p
 
 -- acc[4 × x + w] is the sum of value w over the rows of allele x
 pub record AlleleSums (value : Row → ℕ → ℤ) (rows : List Row) (acc : List ℤ) : Type 0 where
   pub sums : (x w : ℕ) → x < 3 → w < 4 → getD acc (4 * x + w) (pos 0) ≡ alleleSum value rows x w
   pub small : Within (2 ^ 50) acc
 
--- the quals at a..e: few, and small
-pub record QualsIn (quals : List ℤ) (a e : ℕ) : Type 0 where
-  pub few : e ≤ a + 16384
-  pub long : (p : ℕ) → a ≤ p → p < e → p < length quals
-  pub small : (p : ℕ) → a ≤ p → p < e → natAbs (getD quals p (pos 0)) ≤ 2 ^ 18
-
--- the sum of the n quals from a on
-unfoldable pub qualSum : List ℤ → ℕ → ℕ → ℤ
-qualSum quals a n = sumOver (tabulateFrom (λ p. getD quals p (pos 0)) a n) (λ q. q)
+-- the sum of the quals of some rows
+abbrev pub qualSum : List Row → ℤ
+qualSum rows = sumOver rows (λ row. row .call .qual)
 
 -- what n calls add to a score if neither haplotype has their alleles, but for the last term of `neitherSum`
 abbrev pub baseSum : List ℤ → ℕ → ℤ
 baseSum acc n = ((getD acc 3 (pos 0) +ℤ getD acc 7 (pos 0)) +ℤ getD acc 11 (pos 0)) -ℤ pos (4096 * n)
 
 -- what the calls at a..e add to a score if neither haplotype has their alleles
-abbrev pub neitherSum : Bool → ℕ → List ℤ → List ℤ → ℕ → ℕ → ℤ
-neitherSum phased g1 quals acc a e =
-    cond phased (baseSum acc (e - a) -ℤ getD acc (4 * g1 + 2) (pos 0)) (baseSum acc (e - a) +ℤ qualSum quals a (e - a))
+abbrev pub neitherSum : Bool → ℕ → List ℕ → List ℤ → ℕ → ℕ → ℤ
+neitherSum phased g1 piles acc a e =
+    cond phased (baseSum acc (e - a) -ℤ getD acc (4 * g1 + 2) (pos 0)) (baseSum acc (e - a) +ℤ qualSum (rowsAt piles a e))
 
 -- how far the score of (i, j) is above that
 abbrev pub pairGap : List ℤ → ℕ → ℕ → ℤ
@@ -137,10 +113,22 @@ pub record Some (P : SweepCase → Type 0) : Type 0 where
   pub case : SweepCase
   pub holds : P case
 
--- what stands before a visit of v: the slices hold C, and lik the likelihoods of the haplotypes h
-pub record Standing (C : SweepCase) (ks ph : List ℕ) (pri : List ℤ) (ends who : List ℕ) (quals one-minus-quals : List ℤ) (h : List ℕ) (lik post : List ℤ) (v : ℕ) : Type 0 where
-  pub held : Held C ks ph pri ends who quals one-minus-quals
-  pub haps : GoodHaps C h
-  pub liks : Liks C h lik
-  pub room : 9 * C .n ≤ length post
-  pub v-in : v < C .n
+-- what the sweeps change: the haplotypes, the likelihoods, and each variant's latest scores
+pub record SweepState : Type 0 where
+  pub hap : List ℕ
+  pub lik : List ℤ
+  pub post : List ℤ
+
+abbrev pub sweepState : List ℕ → List ℤ → List ℤ → SweepState
+sweepState hap lik post = record { hap = hap; lik = lik; post = post }
+
+-- what stands before sweeps and visits: the slices hold C, the likelihoods are those of the haplotypes, and there is room for the scores
+pub record Standing (C : SweepCase) (reads : SweepReads) (state : SweepState) : Type 0 where
+  pub held : Held C reads
+  pub haps : GoodHaps C (state .hap)
+  pub liks : Liks C (state .hap) (state .lik)
+  pub room : 9 * C .n ≤ length (state .post)
+
+-- the scores of v's pairs are written, whatever case stands
+pub record ScoresAre (C : SweepCase) (v : ℕ) (before : SweepState) (post' : List ℤ) : Type 0 where
+  pub are : post' ≡ sets (before .post) (9 * v) (rawScores (C .k v) (score C v (before .hap)))

@@ -1,11 +1,4 @@
-// Calling genotypes: document 01, sections 6 and 7.
-pub mod finals;
-pub mod likelihoods;
-pub mod normalized;
-pub mod priors;
+// The sweeps in code: scores, visits, sweeps and the run over lent slices (document 01, section 6).
 pub mod run;
-pub mod score;
-pub mod scratch;
-pub mod sweep_case;
-pub mod totals;
-pub mod visit;
+mod score;
+mod visit;

@@ -2,7 +2,8 @@
 ghost use mathlib.Core.Path.{_≡_};
 ghost use Rattle.sweeps.specs.Sweeps.{SweepCase};
 ghost use Rattle.steps.specs.Lines.{lines};
-ghost use Rattle.call_genotypes.specs.Scores.{Some};
+ghost use Rattle.likelihoods.specs.Held.{sweepReads};
+ghost use Rattle.call_genotypes.specs.Scores.{Some, sweepState};
 ghost use Rattle.call_genotypes.specs.Runs.{RunStart, Ran};
 use crate::visit::sweep;
 
@@ -12,7 +13,14 @@ pub struct RunAnswer {
     pub settled: bool,
 }
 
-// Sweeps until one changes nothing, at most `limit` of them; sweep s goes by part s mod m of the orders, of n entries each.
+// How many variants an order has, how many orders are lent, and the most sweeps.
+pub struct Plan {
+    pub n: usize,
+    pub m: usize,
+    pub limit: usize,
+}
+
+// Sweeps until one changes nothing, at most `plan.limit` of them; sweep s goes by part s mod m of the orders, of n entries each.
 // At the loop's head s sweeps are made, and each changed something.
 pub fn run_sweeps(
     t: &[u32; 6420],
@@ -20,28 +28,27 @@ pub fn run_sweeps(
     ph: &[u8],
     pri: &[i64],
     ends: &[usize],
-    who: &[u32],
-    quals: &[i32],
-    omqs: &[i32],
+    piles: &[u64],
     orders: &[u32],
     hap: &mut [u8],
     lik: &mut [i64],
     post: &mut [i64],
-    n: usize,
-    m: usize,
-    limit: usize,
+    plan: Plan,
 ) -> RunAnswer
     requires { ⌜ now t ≡ lines ⌝ }
-    requires { ⌜ Some (λ C. RunStart C (now ks) (now ph) (now pri) (now ends) (now who) (now quals) (now omqs) (now orders) (now hap) (now lik) (now post) n m limit) ⌝ }
-    ensures { λ r. ⌜ ((C : SweepCase) → RunStart C (now (ks .entry)) (now (ph .entry)) (now (pri .entry)) (now (ends .entry)) (now (who .entry)) (now (quals .entry)) (now (omqs .entry)) (now (orders .entry)) (now (hap .entry)) (now (lik .entry)) (now (post .entry)) n m limit → Ran C (now (orders .entry)) (now (hap .entry)) (now (hap .exit)) (now (lik .exit)) (now (post .entry)) (now (post .exit)) n m limit (r .sweeps) (r .settled)) ⌝ }
+    requires { ⌜ Some (λ C. RunStart C (sweepReads (now ks) (now ph) (now pri) (now ends) (now piles)) (sweepState (now hap) (now lik) (now post)) (now orders) plan) ⌝ }
+    ensures { λ r. ⌜ ((C : SweepCase) → RunStart C (sweepReads (now (ks .entry)) (now (ph .entry)) (now (pri .entry)) (now (ends .entry)) (now (piles .entry))) (sweepState (now (hap .entry)) (now (lik .entry)) (now (post .entry))) (now (orders .entry)) plan → Ran C (now (orders .entry)) plan (sweepState (now (hap .entry)) (now (lik .entry)) (now (post .entry))) (sweepState (now (hap .exit)) (now (lik .exit)) (now (post .exit))) r) ⌝ }
 {
+    let n = plan.n;
+    let m = plan.m;
+    let limit = plan.limit;
     let mut s: usize = 0;
     while s < limit {
         let a = (s % m) * n;
         let e = a + n;
         let part = &orders[a..e];
         s += 1;
-        if !sweep(t, ks, ph, pri, ends, who, quals, omqs, part, hap, lik, post) {
+        if !sweep(t, ks, ph, pri, ends, piles, part, hap, lik, post) {
             return RunAnswer {
                 sweeps: s,
                 settled: true,

@@ -8,7 +8,7 @@ ghost use lib.ListN.{length, getD, set};
 ghost use lib.IntN.{ℤ, pos, natAbs, _+ℤ_, _-ℤ_};
 ghost use Rattle.genotype_probs.specs.Posteriors.{firstMaximum};
 ghost use Rattle.sweeps.specs.Sweeps.{SweepCase, GoodHaps, allele0, allele1, putPair};
-ghost use Rattle.call_genotypes.specs.Held.{Held, Liks};
+ghost use Rattle.likelihoods.specs.Held.{Held, Liks};
 ghost use Rattle.steps.specs.Lines.{lines};
 ghost use Rattle.call_genotypes.specs.Scores.{rowsAt, PileIn, Within, Some, Standing};
 ghost use Rattle.call_genotypes.specs.Visits.{Moved, Movable, Visited, SweepStart, Swept};

@@ -8,3 +8,9 @@ pub mod Maxima
 pub mod TableSums
 pub mod Outcomes
 pub mod Samples
+pub mod AcceptedPriors
+pub mod FinalLaws
+pub mod NormalizedLaws
+pub mod PriorSizes
+pub mod SameTables
+pub mod TableSizes

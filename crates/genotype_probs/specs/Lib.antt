@@ -4,3 +4,4 @@ pub mod Priors
 pub mod Places
 pub mod Answers
 pub mod Posteriors
+pub mod Normalized

@@ -33,7 +33,7 @@ use Rattle.genotype_probs.specs.Posteriors.{entryAt, postOf, postAt, firstMaxim
 use Rattle.genotype_probs.proofs.AlleleLaws.{nine}
 use Rattle.genotype_probs.proofs.Maxima.{genotype-maximum}
 use Rattle.genotype_probs.proofs.TableSums.{tabulate-cong, place-in, pair-in}
-use Rattle.call_genotypes.proofs.SameTables.{post-same, genotype-same}
+use Rattle.genotype_probs.proofs.SameTables.{post-same, genotype-same}
 use Rattle.no_haplotypes.specs.NoHaplotypes.{calledFrom, qualFrom, gqFrom, alleleCalls, strandCalls, depthAfter, answerFrom}
 use Rattle.no_haplotypes.specs.Tally.{countPlace, scoredFrom, PosteriorsMade, madeFrom, answerValues, VariantCalled}
 use Rattle.no_haplotypes.proofs.CountLaws.{pile-counted, place-count, forward-reverse}

@@ -31,11 +31,11 @@ use Rattle.genotype_probs.specs.Priors.{priorTable}
 use Rattle.genotype_probs.specs.Rates.{ratesFault}
 use Rattle.genotype_probs.proofs.AlleleLaws.{nine}
 use Rattle.no_haplotypes.specs.declared.Called.the-variants.{Done, Refused}
-use Rattle.call_genotypes.specs.Normalized.{firstNotNormal}
+use Rattle.genotype_probs.specs.Normalized.{firstNotNormal}
 use Rattle.no_haplotypes.specs.NoHaplotypes.{scoreAt, posteriors, calledOf, outcomeOf, CalledNoHaplotypes}
 use Rattle.no_haplotypes.specs.Tally.{FewCalls, AcceptedCalled}
 use Rattle.no_haplotypes.proofs.Calling.{few-calls}
-use Rattle.call_genotypes.proofs.NormalizedLaws.{none-not-normal}
+use Rattle.genotype_probs.proofs.NormalizedLaws.{none-not-normal}
 
 module _ (w : List ℤ) (b : List ℕ) (rates : Rates) (variants : List ℤ) (quals gqs : List Float) where
   -- what the operation is to answer

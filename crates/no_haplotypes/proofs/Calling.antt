@@ -35,7 +35,7 @@ use Rattle.genotype_probs.specs.Priors.{priorTable, getPrior, allPriors, priorA
 use Rattle.genotype_probs.specs.Rates.{ratesFault}
 use Rattle.genotype_probs.proofs.AlleleLaws.{nine}
 use Rattle.genotype_probs.proofs.TableSums.{tabulate-cong}
-use Rattle.call_genotypes.proofs.AcceptedPriors.{table-in}
+use Rattle.genotype_probs.proofs.AcceptedPriors.{table-in}
 use Rattle.no_haplotypes.specs.NoHaplotypes.{callScore, pairScore, scoreAt, posteriors, callsAt, answerFrom, qualFrom, gqFrom, variantAnswer, answerAt, qualAt, gqAt}
 use Rattle.no_haplotypes.specs.Tally.{Piled, scoredFrom, madeFrom, CallsCounted, PriorsIn, VariantsCalled, Scratch, FewCalls, AcceptedCalled}
 use Rattle.no_haplotypes.proofs.CountLaws.{only-few, all-calls}

@@ -20,7 +20,7 @@ use Rattle.genotype_probs.specs.Posteriors.{sumOf, entryAt, rowSum, tableSum, n
 use Rattle.genotype_probs.proofs.AlleleLaws.{nine}
 use Rattle.genotype_probs.proofs.Places.{from-length, from-past, from-at}
 use Rattle.genotype_probs.proofs.TableSums.{tabulate-cong, place-in, pair-in}
-use Rattle.call_genotypes.proofs.TableSizes.{normal-size}
+use Rattle.genotype_probs.proofs.TableSizes.{normal-size}
 use Rattle.no_haplotypes.specs.Tally.{Tallied, GainsIn, pairGain, gained, PriorsAt, scoredFrom, PosteriorsMade}
 use Rattle.no_haplotypes.proofs.ScoreLaws.{pair-is}
 

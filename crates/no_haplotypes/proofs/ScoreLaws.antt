@@ -21,8 +21,8 @@ use Rattle.genotype_probs.specs.Places.{TableIn}
 use Rattle.genotype_probs.specs.Priors.{lnHalf, tableIndex, tableValue, lookup, getPrior, allPriors}
 use Rattle.genotype_probs.proofs.Comparisons.{letter-base, lettered}
 use Rattle.genotype_probs.proofs.TableSums.{tabulate-cong, pair-in}
-use Rattle.call_genotypes.proofs.RunningSums.{sum-plus}
-use Rattle.call_genotypes.proofs.TableSizes.{by-cond}
+use Rattle.likelihoods.proofs.RunningSums.{sum-plus}
+use Rattle.genotype_probs.proofs.TableSizes.{by-cond}
 use Rattle.no_haplotypes.specs.NoHaplotypes.{mixed, callScore, pairScore, scoreAt}
 use Rattle.no_haplotypes.specs.Tally.{bothGain, oneGain, gainAt, Tallied, pairGain, gained}
 

@@ -23,7 +23,7 @@ use Rattle.genotype_probs.specs.declared.posteriors.GenotypePost.{GenotypePost}
 use Rattle.genotype_probs.specs.Rates.{ratesFault}
 use Rattle.genotype_probs.specs.Priors.{lnHalf, priorTable, getPrior}
 use Rattle.genotype_probs.specs.Posteriors.{normalized, maxGenotypePost}
-use Rattle.call_genotypes.specs.Normalized.{firstNotNormal}
+use Rattle.genotype_probs.specs.Normalized.{firstNotNormal}
 use Rattle.no_haplotypes.specs.declared.Called.{Called}
 use Rattle.no_haplotypes.specs.declared.Called.the-variants.{Done, Refused}
 

@@ -18,12 +18,12 @@ ghost use Rattle.no_haplotypes.specs.Tally.{Piled, CallHeld, TallyRoom, 
 ghost use Rattle.variants_and_fragments.specs.Decode.{decode};
 ghost use Rattle.variants_and_fragments.specs.Layout.{Sized, alleleCountAt};
 ghost use Rattle.genotype_probs.specs.Places.{writtenFrom};
-use call_genotypes::priors::make_priors;
-use call_genotypes::scratch::fragment_ends;
-use call_genotypes::scratch::nine_each;
-use call_genotypes::scratch::numbers;
-use call_genotypes::scratch::places;
-use call_genotypes::scratch::qualities;
+use genotype_probs::case_priors::make_priors;
+use pileup::scratch::fragment_ends;
+use pileup::scratch::nine_each;
+use pileup::scratch::numbers;
+use pileup::scratch::places;
+use pileup::scratch::qualities;
 use genotype_probs::Rates;
 use genotype_probs::posteriors::Genotype;
 use genotype_probs::posteriors::max_genotype_post;

@@ -9,7 +9,7 @@ use Rattle.variants_and_fragments.specs.Decode.{decode}
 use Rattle.haplotype_assembly.specs.Phase.{phasedFlags, startHaplotypes}
 use Rattle.shuffle.specs.Orders.{orderCount, orderAt}
 use Rattle.sweeps.specs.Sweeps.{SweepCase, RunResult, run, phasedTotal, sourceTotal}
-use Rattle.call_genotypes.specs.SweepCaseOf.{sweepCaseOf}
+use Rattle.likelihoods.specs.SweepCaseOf.{sweepCaseOf}
 use Rattle.with_haplotypes.specs.declared.RoundAnswer.{RoundAnswer}
 use Rattle.with_haplotypes.specs.Round.{RoundInput, case, sweepCase, start, orderOfSweep, result, returned}
 

@@ -28,7 +28,7 @@ use Rattle.shuffle.specs.Permutation.{times, allBelow, eachOnce, permutes}
 use Rattle.shuffle.specs.Orders.{orderCount, orderAt}
 use Rattle.shuffle.specs.Answers.{firstBadOrder, ordersOutcome}
 use Rattle.sweeps.specs.Sweeps.{putPair, sameHaps, sumTo, callTerm, likelihood, perCall, readShare, scoreWith, score, bestPair, visit, sweep, run, totalOf, mixOf}
-use Rattle.call_genotypes.specs.SweepCaseOf.{sweepCaseOf}
+use Rattle.likelihoods.specs.SweepCaseOf.{sweepCaseOf}
 use Rattle.with_haplotypes.specs.Promise.{limitChecks, roundChecks}
 
 -- section 1

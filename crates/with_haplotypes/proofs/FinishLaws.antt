@@ -31,16 +31,16 @@ use Rattle.sweeps.specs.Demand3.{Demand3}
 use Rattle.sweeps.specs.Posts.{posts}
 use Rattle.sweeps.proofs.Basics.{lik-cong}
 use Rattle.sweeps.proofs.Posts.{length-posts}
-use Rattle.call_genotypes.specs.Finals.{mirror, isOther, others, otherSum, finalOf, finalAt, TablesIn, FinalsWritten}
-use Rattle.call_genotypes.specs.Likelihoods.{alleleOn}
+use Rattle.with_haplotypes.specs.Finals.{mirror, isOther, others, otherSum, finalOf, finalAt, TablesIn, FinalsWritten}
+use Rattle.likelihoods.specs.Likelihoods.{alleleOn}
 use Rattle.call_genotypes.specs.Runs.{resultOf}
 use Rattle.call_genotypes.specs.Scores.{rawScores}
-use Rattle.call_genotypes.specs.NormalizedPosteriors.{normalizedAt, TablesAt}
-use Rattle.call_genotypes.proofs.SameTables.{genotype-same}
-use Rattle.call_genotypes.proofs.HeldCases.{alleles-are}
-use Rattle.call_genotypes.proofs.NormalizedTables.{normalized-here, normalized-same}
-use Rattle.call_genotypes.proofs.TableSizes.{normal-size}
-use Rattle.call_genotypes.proofs.SweepCases as cases
+use Rattle.with_haplotypes.specs.NormalizedPosteriors.{normalizedAt, TablesAt}
+use Rattle.genotype_probs.proofs.SameTables.{genotype-same}
+use Rattle.likelihoods.proofs.HeldCases.{alleles-are}
+use Rattle.with_haplotypes.proofs.NormalizedTables.{normalized-here, normalized-same}
+use Rattle.genotype_probs.proofs.TableSizes.{normal-size}
+use Rattle.likelihoods.proofs.SweepCases as cases
 use Rattle.with_haplotypes.specs.declared.RoundAnswer.{RoundAnswer}
 use Rattle.with_haplotypes.specs.Round.{RoundInput, case, sweepCase, start, orderOfSweep, result, returned, haplotypeAt, likelihoodAt, latestScore, posteriors, posteriorAt, final}
 use Rattle.with_haplotypes.specs.Steps.{Admitted, AlleleCounts, RoundRan}
@@ -107,7 +107,7 @@ module _ {input : RoundInput} {s : Sizes} {m : ℕ} (A : Admitted input s m) {ks
   k-held v h = ap (λ (l : List ℕ). getD l v 0) (K .written-is) ∙ written-at (alleleCountAt (input .words)) (s .n) (K .was) 0 (K .room) v h ∙ sym (k-is v h)
 
   k-here : (v : ℕ) → C .k v ≡ alleleCount (variantOf (case input) v)
-  unfolding sweepCase Rattle.call_genotypes.specs.SweepCaseOf.sweepCaseOf
+  unfolding sweepCase Rattle.likelihoods.specs.SweepCaseOf.sweepCaseOf
   k-here v = refl
 
   score-small : (v : ℕ) (h : List ℕ) (g : ℕ) → natAbs (score C v h g) ≤ 2 ^ 36

@@ -6,3 +6,4 @@ pub mod RoundLaws
 pub mod StartLaws
 pub mod FinishLaws
 pub mod RoundAnswers
+pub mod NormalizedTables

@@ -26,8 +26,8 @@ use Rattle.haplotype_assembly.proofs.PhaseAnswers.{faultless, none-earlier, sho
 use Rattle.shuffle.specs.Answers.{ordersOutcome, firstBadOrder}
 use Rattle.shuffle.specs.Orders.{orderCount}
 use Rattle.shuffle.proofs.GoodOrders.{unless-done, orders-good}
-use Rattle.call_genotypes.specs.Normalized.{firstNotNormal}
-use Rattle.call_genotypes.proofs.NormalizedLaws.{none-not-normal}
+use Rattle.genotype_probs.specs.Normalized.{firstNotNormal}
+use Rattle.genotype_probs.proofs.NormalizedLaws.{none-not-normal}
 use Rattle.with_haplotypes.specs.declared.RoundAnswer.{RoundAnswer}
 use Rattle.with_haplotypes.specs.declared.Round.the-variants.{Done, Refused}
 use Rattle.with_haplotypes.specs.Round.{RoundInput, case, returned, posteriors, latestScore}

@@ -21,16 +21,16 @@ use Rattle.shuffle.specs.Permutation.{Permutation}
 use Rattle.shuffle.specs.Orders.{orderCount}
 use Rattle.sweeps.specs.Sweeps.{SweepCase, GoodHaps, totalOf, phasedTotal, sourceTotal}
 use Rattle.sweeps.proofs.Run.{after-good}
-use Rattle.call_genotypes.specs.Held.{Liks}
+use Rattle.likelihoods.specs.Held.{Liks}
 use Rattle.call_genotypes.specs.Scores.{Within}
-use Rattle.call_genotypes.specs.Likelihoods.{CallSlices, callSlices, CallsIn, EndsIn, flagged}
-use Rattle.call_genotypes.specs.Totals.{heldCase, standingTotal, PriorsIn}
+use Rattle.likelihoods.specs.Likelihoods.{CallSlices, callSlices, CallsIn, EndsIn, flagged}
+use Rattle.likelihoods.specs.Totals.{heldCase, standingTotal, PriorsIn}
 use Rattle.call_genotypes.specs.Runs.{orderOf, Ran}
-use Rattle.call_genotypes.proofs.CallsHeld.{calls-in, ends-in-order}
-use Rattle.call_genotypes.proofs.HeldCases.{counted}
-use Rattle.call_genotypes.proofs.LikelihoodsHeld.{frags-counted}
+use Rattle.likelihoods.proofs.CallsHeld.{calls-in, ends-in-order}
+use Rattle.likelihoods.proofs.HeldCases.{counted}
+use Rattle.likelihoods.proofs.LikelihoodsHeld.{frags-counted}
 use Rattle.call_genotypes.proofs.Linked.{lik-within}
-use Rattle.call_genotypes.proofs.TotalsHeld.{priors-in, standing-total-held, source-total-held}
+use Rattle.likelihoods.proofs.TotalsHeld.{priors-in, standing-total-held, source-total-held}
 use Rattle.with_haplotypes.specs.declared.RoundAnswer.{RoundAnswer}
 use Rattle.with_haplotypes.specs.Round.{RoundInput, case, sweepCase, start, orderOfSweep, result}
 use Rattle.with_haplotypes.specs.Steps.{Admitted, RoundStart, RoundRan}

@@ -29,9 +29,9 @@ use Rattle.genotype_probs.proofs.PriorBounds.{Down, prior-down}
 use Rattle.genotype_probs.proofs.RateLaws.{rates-in}
 use Rattle.sweeps.specs.Sweeps.{SweepCase, allele0, allele1, putPair, sumTo, likelihood, hasCall, perCall, readShare, withOwn, scoreWith, score, totalOf, mixOf}
 use Rattle.sweeps.proofs.Basics.{one-call}
-use Rattle.call_genotypes.specs.Likelihoods.{callShare}
-use Rattle.call_genotypes.specs.SweepCaseOf.{sweepCaseOf}
-use Rattle.call_genotypes.proofs.SweepCases.{likelihood-sum, cond-down, share-down, variants-are, mix-is}
+use Rattle.likelihoods.specs.Likelihoods.{callShare}
+use Rattle.likelihoods.specs.SweepCaseOf.{sweepCaseOf}
+use Rattle.likelihoods.proofs.SweepCases.{likelihood-sum, cond-down, share-down, variants-are, mix-is}
 use Rattle.call_genotypes.proofs.Sizes.{down-abs}
 
 -- ---- numbers in −n..0

@@ -21,11 +21,11 @@ use Rattle.haplotype_assembly.specs.PhaseRead.{startAt, flagOf, flagsAt}
 use Rattle.haplotype_assembly.proofs.Decodes.{count-is, start-is, flag-is}
 use Rattle.haplotype_assembly.proofs.Start.{start-length, start-written, start-first-below, start-second-below}
 use Rattle.sweeps.specs.Sweeps.{SweepCase, GoodHaps}
-use Rattle.call_genotypes.specs.Held.{Held, Liks}
-use Rattle.call_genotypes.specs.Likelihoods.{callSlices, likelihoodAt}
-use Rattle.call_genotypes.specs.SweepCaseOf.{sweepCaseOf}
-use Rattle.call_genotypes.proofs.HeldCases.{held}
-use Rattle.call_genotypes.proofs.LikelihoodsHeld.{liks-held}
+use Rattle.likelihoods.specs.Held.{Held, Liks}
+use Rattle.likelihoods.specs.Likelihoods.{callSlices, likelihoodAt}
+use Rattle.likelihoods.specs.SweepCaseOf.{sweepCaseOf}
+use Rattle.likelihoods.proofs.HeldCases.{held}
+use Rattle.likelihoods.proofs.LikelihoodsHeld.{liks-held}
 use Rattle.with_haplotypes.specs.Round.{RoundInput, case, sweepCase, start}
 use Rattle.with_haplotypes.specs.Steps.{Admitted, AlleleCounts, PilesMade, RunRoom, RoundStart}
 use Rattle.with_haplotypes.proofs.OrdersHeld.{order-good}

@@ -1,3 +1,5 @@
 pub mod Round
 pub mod Promise
 pub mod Steps
+pub mod Finals
+pub mod NormalizedPosteriors

@@ -19,7 +19,7 @@ use Rattle.haplotype_assembly.specs.Phase.{earlier}
 use Rattle.haplotype_assembly.specs.GivenPhase.{phaseFault, shortOf}
 use Rattle.shuffle.specs.Answers.{ordersOutcome}
 use Rattle.sweeps.specs.Demand3.{Demand3}
-use Rattle.call_genotypes.specs.Normalized.{firstNotNormal}
+use Rattle.genotype_probs.specs.Normalized.{firstNotNormal}
 use Rattle.with_haplotypes.specs.declared.RoundAnswer.{RoundAnswer}
 use Rattle.with_haplotypes.specs.declared.Round.{Round}
 use Rattle.with_haplotypes.specs.declared.Round.the-variants.{Done, Refused}

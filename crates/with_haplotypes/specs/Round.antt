@@ -14,9 +14,9 @@ use Rattle.haplotype_assembly.specs.Phase.{phasedFlags, startHaplotypes}
 use Rattle.shuffle.specs.Orders.{orderCount, orderAt}
 use Rattle.sweeps.specs.Sweeps.{SweepCase, RunResult, likelihood, score, visit, run, phasedTotal, sourceTotal}
 use Rattle.sweeps.specs.Demand3.{after}
-use Rattle.call_genotypes.specs.declared.finals.FinalAnswer.{FinalAnswer}
-use Rattle.call_genotypes.specs.Finals.{finalOf}
-use Rattle.call_genotypes.specs.SweepCaseOf.{sweepCaseOf}
+use Rattle.with_haplotypes.specs.declared.finals.FinalAnswer.{FinalAnswer}
+use Rattle.with_haplotypes.specs.Finals.{finalOf}
+use Rattle.likelihoods.specs.SweepCaseOf.{sweepCaseOf}
 use Rattle.with_haplotypes.specs.declared.RoundAnswer.{RoundAnswer}
 
 -- what a round reads: the case, the rates, the phase bytes, the orders one after the other, and the limit of sweeps

@@ -16,7 +16,7 @@ use Rattle.shuffle.specs.Orders.{orderCount, GoodOrders}
 use Rattle.sweeps.specs.Sweeps.{phasedTotal, sourceTotal}
 use Rattle.sweeps.specs.Demand3.{Demand3}
 use Rattle.sweeps.specs.Posts.{posts}
-use Rattle.call_genotypes.specs.Held.{Liks}
+use Rattle.likelihoods.specs.Held.{Liks}
 use Rattle.call_genotypes.specs.Scores.{rawScores}
 use Rattle.call_genotypes.specs.Runs.{RunStart, resultOf}
 use Rattle.with_haplotypes.specs.declared.RoundAnswer.{RoundAnswer}

@@ -7,7 +7,7 @@ use denote.Ref.{now}
 use Rattle.variants_and_fragments.specs.declared.Checked.the-variants.{Accepted, Refused}
 use Rattle.variants_and_fragments.specs.Check.{outcomeOf, caseOf}
 use Rattle.genotype_probs.specs.Rates.{ratesFault}
-use Rattle.call_genotypes.proofs.AcceptedPriors.{rates-good}
+use Rattle.genotype_probs.proofs.AcceptedPriors.{rates-good}
 use Rattle.no_haplotypes.proofs.CallRefusals.{case-refused, accepted-case, accepted-bases, accepted-few, rates-refused, quals-short, gqs-short, variants-short, all-called}
 use borrow.Author.Needs.{needs}
 use Rattle.no_haplotypes.proofs.call_genotypes_no_haplotypes.Statement.{

@@ -8,7 +8,7 @@ use mir.Syntax.{w64}
 use mir.Val.{toZ, ofZ}
 use Rattle.steps.proofs.Signed.{read-back}
 use Rattle.call_genotypes.specs.Scores.{qualSum}
-use Rattle.call_genotypes.proofs.RunningSums.{table-sum, Running, running-start, running-more, running-end, added-fits, added-read}
+use Rattle.likelihoods.proofs.RunningSums.{table-sum, Running, running-start, running-more, running-end, added-fits, added-read}
 use Rattle.call_genotypes.proofs.score.sum_quals.Statement.{statement}
 use Rattle.call_genotypes.proofs.score.sum_quals.Tie as tie
 

@@ -6,7 +6,7 @@ use native.Mathlib.Omega.{arith}
 use borrow.Author.Needs.{needs}
 use denote.Ref.{now}
 use Rattle.variants_and_fragments.proofs.Accepted.{bases-in}
-use Rattle.call_genotypes.proofs.CallsHeld.{calls-in, ends-in-order}
+use Rattle.likelihoods.proofs.CallsHeld.{calls-in, ends-in-order}
 use Rattle.with_haplotypes.proofs.RoundLaws.{known}
 use Rattle.with_haplotypes.proofs.StartLaws.{as-long, begins}
 use Rattle.with_haplotypes.proofs.accepted.run_piled.Statement.{statement}

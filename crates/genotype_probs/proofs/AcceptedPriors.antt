@@ -1,0 +1,38 @@
+-- Accepted rates and an accepted case: what the priors are made from.
+-- Assumes nothing.
+use mathlib.Core.Path.{_≡_}
+use mathlib.Core.Bool.{true}
+use mathlib.Core.List.{List}
+use Prim.Native.Nat.{ℕ, _≤_}
+use native.Mathlib.Omega.{arith}
+use lib.IntN.{ℤ, pos}
+use lib.ListN.{getD}
+use Rattle.variants_and_fragments.specs.declared.Sizes.{Sizes}
+use Rattle.variants_and_fragments.specs.Accepted.{CaseIn, BasesIn}
+use Rattle.variants_and_fragments.proofs.Decoded.{tabulate-length, tabulate-at}
+use Rattle.variants_and_fragments.proofs.First.{first-le}
+use Rattle.genotype_probs.specs.declared.Rates.{Rates}
+use Rattle.genotype_probs.specs.Places.{AllelesIn, TableIn}
+use Rattle.genotype_probs.specs.Priors.{tableEntry, priorTable}
+use Rattle.genotype_probs.specs.Rates.{rateTests, ratesFault}
+use Rattle.genotype_probs.proofs.PriorBounds.{entry-down}
+use Rattle.genotype_probs.proofs.RateLaws.{rates-in}
+
+-- the place is at most 7
+pub rates-good : (rates : Rates) (p : ℕ) → p ≡ ratesFault rates → 7 ≤ p → ratesFault rates ≡ 7
+unfolding ratesFault
+rates-good rates p e h = omega (arith, first-le (λ i. getD (rateTests rates) i true) 7)
+
+pub table-in : (rates : Rates) → ratesFault rates ≡ 7 → TableIn (priorTable rates)
+unfolding priorTable
+table-in rates e = record {
+  size = tabulate-length 144 (tableEntry rates);
+  small = λ i h. rw (tabulate-at 144 (tableEntry rates) i (pos 0) h) (entry-down rates (rates-in rates e) i .most);
+}
+
+pub alleles-in : {w : List ℤ} {s : Sizes} {b : List ℕ} → CaseIn w s → BasesIn w s b → AllelesIn w b s
+alleles-in k i = record {
+  sized = k .sized;
+  variants = k .variants;
+  bases = i .size;
+}

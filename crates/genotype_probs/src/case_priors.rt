@@ -1,0 +1,38 @@
+// The priors of a case's genotypes at accepted rates.
+ghost use mathlib.Core.Path.{_≡_};
+ghost use Prim.Native.Nat.{_*_, _≤_};
+ghost use lib.ListN.{length};
+ghost use Rattle.steps.specs.Table.{knots};
+ghost use Rattle.variants_and_fragments.specs.Accepted.{CaseIn, BasesIn};
+ghost use Rattle.variants_and_fragments.specs.Decode.{decode};
+ghost use Rattle.variants_and_fragments.specs.Written.{written};
+ghost use Rattle.genotype_probs.specs.Rates.{ratesFault};
+ghost use Rattle.genotype_probs.specs.Priors.{priorTable, priorAt};
+use crate::Rates;
+use crate::priors::write_priors;
+use crate::table::prior_table;
+use variants_and_fragments::Sizes;
+
+// The table of priors.
+fn table_places() -> [i64; 144]
+    ensures { λ r. ⌜ length r ≡ 144 ⌝ }
+{
+    [0i64; 144]
+}
+
+// Writes the priors of all variants at accepted rates.
+pub fn make_priors(
+    t: &[u16; 1665],
+    words: &[i32],
+    s: Sizes,
+    bases: &[u8],
+    rates: Rates,
+    post: &mut [i64],
+)
+    requires { ⌜ (now t ≡ knots) × CaseIn (now words) s × BasesIn (now words) s (now bases) × (ratesFault rates ≡ 7) × (9 * (s .n) ≤ length (now post)) ⌝ }
+    ensures { λ _. ⌜ now (post .exit) ≡ written (priorAt (priorTable rates) (decode (now (words .entry)) (now (bases .entry)))) (9 * (s .n)) (now (post .entry)) ⌝ }
+{
+    let mut table = table_places();
+    prior_table(t, rates, &mut table);
+    write_priors(words, s, bases, &table, post);
+}

@@ -1,0 +1,73 @@
+-- The parts of a total: what a variant and a fragment add, how far from 0 each is, and that they make up the total of the case that the
+-- slices hold. Assumes nothing.
+use mathlib.Core.Path.{_≡_, refl, sym, ap, _∙_}
+use mathlib.Core.List.{List}
+use Prim.Native.Nat.{ℕ, _+_, _≤_}
+use native.Mathlib.Omega.{arith}
+use borrow.Author.Tests.{eq-eqb, ne-eqb}
+use lib.IntN.{ℤ, pos, natAbs, _+ℤ_, _-ℤ_}
+use lib.ListN.{getD}
+use Rattle.steps.proofs.Signed.{minus-abs}
+use Rattle.steps.proofs.AddExp.{add-size}
+use Rattle.variants_and_fragments.specs.Sums.{sumOver}
+use Rattle.variants_and_fragments.specs.Decode.{tabulate}
+use Rattle.sweeps.specs.Sweeps.{SweepCase, allele0, allele1, sumTo, likelihood, readShare, totalOf, mixOf}
+use Rattle.sweeps.proofs.Basics.{sumTo-cong, lik-cong}
+use Rattle.likelihoods.specs.Likelihoods.{CallSlices, callsOf, flagged, alleleOn}
+use Rattle.likelihoods.specs.Totals.{pairPrior, heldCase, priorShare, fragmentShare, PriorsIn}
+use Rattle.likelihoods.proofs.RunningSums.{table-sum}
+
+-- two sums of equal parts
+pub same-sum : {a b m n : ℤ} → a ≡ b → m ≡ n → a +ℤ m ≡ b +ℤ n
+same-sum p q = cc
+
+-- ---- a fragment
+-- mixed likelihoods are at most 8192 steps further from 0 than the likelihoods
+pub mix-small : (a b : ℤ) (n : ℕ) → natAbs a ≤ n → natAbs b ≤ n → natAbs (mixOf a b) ≤ n + 8192
+unfolding mixOf
+mix-small a b n h k =
+    let s = add-size (a -ℤ pos 4096) (b -ℤ pos 4096) (n + 4096) (omega (arith, minus-abs a (pos 4096))) (omega (arith, minus-abs b (pos 4096))) in
+    omega arith
+
+-- ---- a variant
+module _ (ks : List ℕ) (pri : List ℤ) (hap mask : List ℕ) (v : ℕ) where
+  pub share-flagged : getD mask v 0 ≡ 1 → pairPrior ks pri v (allele0 hap v) (allele1 hap v) ≡ priorShare ks pri hap mask v
+  unfolding priorShare flagged
+  share-flagged e = rw (eq-eqb (getD mask v 0) 1 e)
+
+  pub share-unflagged : (getD mask v 0 ≡ 1 → ⊥) → pos 0 ≡ priorShare ks pri hap mask v
+  unfolding priorShare flagged
+  share-unflagged e = rw (ne-eqb (getD mask v 0) 1 e)
+
+-- what holds of the priors holds of fewer
+pub priors-fewer : {n m : ℕ} {ks : List ℕ} {pri : List ℤ} {hap mask : List ℕ} → m ≤ n → PriorsIn n ks pri hap mask → PriorsIn m ks pri hap mask
+priors-fewer h p = record {
+  variants-top = omega (arith, p .variants-top);
+  ks-long = omega (arith, p .ks-long);
+  mask-long = omega (arith, p .mask-long);
+  hap-long = omega (arith, p .hap-long);
+  pri-long = omega (arith, p .pri-long);
+  pair-in = λ v l. p .pair-in v (omega arith);
+  small = λ v l. p .small v (omega arith);
+}
+
+-- ---- the total of the case that the slices hold
+module _ (n f : ℕ) (ks : List ℕ) (pri : List ℤ) (calls : CallSlices) (ends hap mask : List ℕ) where
+  abbrev H : SweepCase
+  H = heldCase n f ks pri calls ends mask
+
+  read-share : (g : ℕ) → readShare H (flagged mask) hap (callsOf calls ends g) ≡ fragmentShare calls ends hap mask g
+  unfolding heldCase readShare fragmentShare
+  read-share g =
+      ap (λ (z : ℤ). mixOf z (likelihood (flagged mask) (allele1 hap) (callsOf calls ends g)))
+      (lik-cong (flagged mask) (flagged mask) (allele0 hap) (alleleOn hap 0) (callsOf calls ends g) (λ w t. refl) (λ w t u. ap (λ (i : ℕ). getD hap i 0) (omega arith)))
+
+  fragments-sum : sumOver (tabulate f (callsOf calls ends)) (readShare H (flagged mask) hap) ≡ sumTo f (fragmentShare calls ends hap mask)
+  fragments-sum =
+      table-sum (callsOf calls ends) (readShare H (flagged mask) hap) 0 f
+      ∙ sumTo-cong f (λ j. readShare H (flagged mask) hap (callsOf calls ends (0 + j))) (fragmentShare calls ends hap mask)
+      (λ j h. let e : 0 + j ≡ j = omega arith in rw e (read-share j))
+
+  pub total-parts : sumTo n (priorShare ks pri hap mask) +ℤ sumTo f (fragmentShare calls ends hap mask) ≡ totalOf H (flagged mask) hap
+  unfolding totalOf heldCase priorShare
+  total-parts = ap (λ (z : ℤ). sumTo n (priorShare ks pri hap mask) +ℤ z) (sym fragments-sum)

@@ -1,0 +1,136 @@
+-- `call_genotypes::likelihoods::read_likelihoods` meets its contract. The loop's invariant: `first` and `second` are the sums over the first j rows.
+-- Assumes nothing.
+use mathlib.Core.Path.{_≡_, sym, ap, _∙_}
+use Prim.Native.Nat.{ℕ, _+_, _*_, _-_, _≤_, _<_}
+use native.Mathlib.Omega.{arith}
+use denote.Ref.{now}
+use lib.IntN.{ℤ, natAbs}
+use mir.Syntax.{w64}
+use mir.Val.{toZ, ofZ}
+use Rattle.steps.proofs.Signed.{read-back}
+use Rattle.likelihoods.specs.Likelihoods.{callSlices}
+use Rattle.likelihoods.proofs.RunningSums.{Running, running-start, running-more, running-end, added-fits, added-read}
+use Rattle.likelihoods.proofs.CallShares.{rowShare, between-sum, calls-fewer}
+use Rattle.likelihoods.proofs.likelihoods.read_likelihoods.Statement.{statement}
+use Rattle.likelihoods.proofs.likelihoods.read_likelihoods.Tie as tie
+
+-- j terms of at most 262144 steps each
+abbrev top : ℕ → ℕ
+top j = 262144 * j
+
+abbrev Inv-loop : tie.InvT-loop
+Inv-loop variants alleles quals one-minus-quals hap mask a e n first₀ second₀ j₀ first second j =
+    Running (rowShare (callSlices variants alleles quals one-minus-quals) hap mask 0 a) top (e - a) (toZ w64 first) j
+    × Running (rowShare (callSlices variants alleles quals one-minus-quals) hap mask 1 a) top (e - a) (toZ w64 second) j
+
+abbrev μ-loop : tie.MeasureT-loop
+μ-loop variants alleles quals one-minus-quals hap mask a e n first₀ second₀ j₀ first second j = e - a - j
+
+-- what each row adds on haplotype h
+abbrev shares : tie.Start Inv-loop μ-loop → ℕ → ℕ → ℤ
+shares s h = rowShare (callSlices (now (s .args .variants)) (now (s .args .alleles)) (now (s .args .quals)) (now (s .args .one-minus-quals))) (now (s .args .hap)) (now (s .args .mask)) h (s .args .a)
+
+sub-n : tie.Need-sub-n Inv-loop μ-loop
+sub-n c = c .before .before .before .before .pre .1
+
+loop-holds : tie.Need-loop-holds Inv-loop μ-loop
+loop-holds c =
+    let s = c .before .before .before .before in
+    (running-start (shares s 0) top (s .args .e - s .args .a), running-start (shares s 1) top (s .args .e - s .args .a))
+
+-- the place of the row in hand
+abbrev start : tie.In-loop Inv-loop μ-loop → tie.Start Inv-loop μ-loop
+start c = c .before .before .before .before .before .before
+
+inside : (c : tie.In-loop Inv-loop μ-loop) → start c .args .a + c .before .loop .j + 1 ≤ start c .args .e
+inside c = omega (arith, c .loop-test .taken, start c .pre .1)
+
+few : (c : tie.In-loop Inv-loop μ-loop) → c .before .loop .j < 16384
+few c = omega (arith, inside c, start c .pre .0 .count-top)
+
+add-i : tie.Need-add-i Inv-loop μ-loop
+add-i c = omega (arith, inside c, start c .pre .0 .count-top)
+
+call-share-requires : tie.Need-call-share-requires Inv-loop μ-loop
+call-share-requires c κs = (calls-fewer (inside c) (start c .pre .0), omega arith)
+
+-- what is added, read back, and how far from 0 it is
+added : (c : tie.After-call-share Inv-loop μ-loop) → toZ w64 (ofZ w64 (c .call-share .result)) ≡ shares (start (c .before)) 0 (c .before .before .loop .j)
+added c = read-back w64 (c .call-share .result) (c .call-share .ok) ∙ c .call-share .ensures .0
+
+small : (c : tie.After-call-share Inv-loop μ-loop) → natAbs (shares (start (c .before)) 0 (c .before .before .loop .j)) ≤ 262144
+small c = omega (arith, ap natAbs (c .call-share .ensures .0), c .call-share .ensures .1)
+
+add-first : tie.Need-add-first Inv-loop μ-loop
+add-first c =
+    let l = c .before .before in
+    added-fits (toZ w64 (l .loop .first)) (c .call-share .result) _ (added c) (omega (arith, l .loop .inv .0 .small, small c, few (c .before)))
+
+call-share-requires-2 : tie.Need-call-share-requires-2 Inv-loop μ-loop
+call-share-requires-2 c κs = (calls-fewer (inside (c .before)) (start (c .before) .pre .0), omega arith)
+
+added-2 : (c : tie.After-call-share2 Inv-loop μ-loop) → toZ w64 (ofZ w64 (c .call-share2 .result)) ≡ shares (start (c .before .before)) 1 (c .before .before .before .loop .j)
+added-2 c = read-back w64 (c .call-share2 .result) (c .call-share2 .ok) ∙ c .call-share2 .ensures .0
+
+small-2 : (c : tie.After-call-share2 Inv-loop μ-loop) → natAbs (shares (start (c .before .before)) 1 (c .before .before .before .loop .j)) ≤ 262144
+small-2 c = omega (arith, ap natAbs (c .call-share2 .ensures .0), c .call-share2 .ensures .1)
+
+add-second : tie.Need-add-second Inv-loop μ-loop
+add-second c =
+    let l = c .before .before .before in
+    added-fits (toZ w64 (l .loop .second)) (c .call-share2 .result) _ (added-2 c) (omega (arith, l .loop .inv .1 .small, small-2 c, few (c .before .before)))
+
+add-j : tie.Need-add-j Inv-loop μ-loop
+add-j c = omega (arith, few (c .before .before))
+
+loop-less : tie.Need-loop-less Inv-loop μ-loop
+loop-less c = omega (arith, c .before .before .loop-test .taken)
+
+loop-again : tie.Need-loop-again Inv-loop μ-loop
+loop-again c =
+    let d = c .before in
+    let i = d .before in
+    let l = i .before in
+    let s = start i in
+    let n = s .args .e - s .args .a in
+    let j = l .loop .j in (
+      running-more (shares s 0) top n (toZ w64 (l .loop .first)) _ j (l .loop .inv .0) (i .loop-test .taken)
+          (added-read (toZ w64 (l .loop .first)) (d .call-share .result) _ (added d) (omega (arith, l .loop .inv .0 .small, small d, few i)))
+          (omega (arith, small d)),
+      running-more (shares s 1) top n (toZ w64 (l .loop .second)) _ j (l .loop .inv .1) (i .loop-test .taken)
+          (added-read (toZ w64 (l .loop .second)) (c .call-share2 .result) _ (added-2 c) (omega (arith, l .loop .inv .1 .small, small-2 c, few i)))
+          (omega (arith, small-2 c)),
+    )
+
+returns : tie.Need-returns Inv-loop μ-loop
+returns c =
+    let l = c .before in
+    let s = l .before .before .before .before .before in
+    let calls = callSlices (now (s .args .variants)) (now (s .args .alleles)) (now (s .args .quals)) (now (s .args .one-minus-quals)) in
+    let n = s .args .e - s .args .a in
+    let x = running-end (shares s 0) top n (toZ w64 (l .loop .first)) (l .loop .j) (l .loop .inv .0) (c .loop-test .left) in
+    let y = running-end (shares s 1) top n (toZ w64 (l .loop .second)) (l .loop .j) (l .loop .inv .1) (c .loop-test .left) in
+    record {
+      first-is = x .0 ∙ sym (between-sum calls (now (s .args .hap)) (now (s .args .mask)) 0 (s .args .a) (s .args .e));
+      second-is = y .0 ∙ sym (between-sum calls (now (s .args .hap)) (now (s .args .mask)) 1 (s .args .a) (s .args .e));
+      first-small = x .1;
+      second-small = y .1;
+    }
+
+pub read-likelihoods-spec : {M : Type 1} → statement M
+read-likelihoods-spec =
+    tie.close
+    (tie.spec
+    Inv-loop
+    μ-loop
+    sub-n
+    loop-holds
+    add-i
+    call-share-requires
+    add-first
+    call-share-requires-2
+    add-second
+    add-j
+    loop-less
+    loop-again
+    returns)

@@ -1,0 +1,4 @@
+pub mod Held
+pub mod Likelihoods
+pub mod SweepCaseOf
+pub mod Totals

@@ -1,0 +1,93 @@
+// Likelihoods of the reads on the two haplotypes, from the rows by fragment.
+ghost use mathlib.Core.Path.{_≡_};
+ghost use mathlib.Core.Bool.{cond};
+ghost use Prim.Native.Nat.{_+_, _*_, _<_, _≤_};
+ghost use lib.Dec.{eqb};
+ghost use lib.IntN.{natAbs};
+ghost use lib.ListN.{length};
+ghost use Rattle.pileup.specs.Packed.{groupStart};
+ghost use Rattle.variants_and_fragments.specs.Written.{written};
+ghost use Rattle.likelihoods.specs.Likelihoods.{CallsIn, EndsIn, LikelihoodsAre, callAt, flagged, alleleOn, callShare, likelihoodAt};
+
+use pileup::row::unpack;
+
+// A read's likelihoods on the two haplotypes.
+pub struct ReadLikelihoods {
+    pub first: i64,
+    pub second: i64,
+}
+
+// one_minus_qual on a match and qual otherwise.
+fn call_term(allele: usize, own: u8, qual: i64, one_minus_qual: i64) -> i64
+    ensures { λ r. ⌜ r ≡ cond (eqb allele own) «one_minus_qual» qual ⌝ }
+{
+    if allele == own as usize { one_minus_qual } else { qual }
+}
+
+// What the call of row i adds to its read's likelihood on haplotype h: nothing at a variant whose flag is not 1.
+fn call_share(
+    rows: &[u64],
+    hap: &[u8],
+    mask: &[u8],
+    i: usize,
+    h: usize,
+) -> i64
+    requires { ⌜ CallsIn (now rows) (i + 1) (now hap) (now mask) × (h < 2) ⌝ }
+    ensures { λ r. ⌜ (r ≡ callShare (flagged (now (mask .entry))) (alleleOn (now (hap .entry)) h) (callAt (now (rows .entry)) i)) × (natAbs r ≤ 262144) ⌝ }
+{
+    let row = unpack(rows[i]);
+    let v = row.variant;
+    let y = call_term(row.allele, hap[2 * v + h], row.qual, row.one_minus_qual);
+    if mask[v] == 1 { y } else { 0 }
+}
+
+// A read's likelihoods, from its rows, a to e. At the loop's head the first j of them are added.
+pub fn read_likelihoods(
+    rows: &[u64],
+    hap: &[u8],
+    mask: &[u8],
+    a: usize,
+    e: usize,
+) -> ReadLikelihoods
+    requires { ⌜ CallsIn (now rows) e (now hap) (now mask) × (a ≤ e) ⌝ }
+    ensures { λ r. ⌜ LikelihoodsAre (now (rows .entry)) a e (now (hap .entry)) (now (mask .entry)) r ⌝ }
+{
+    let n = e - a;
+    let mut first: i64 = 0;
+    let mut second: i64 = 0;
+    let mut j = 0;
+    while j < n {
+        let i = a + j;
+        first += call_share(rows, hap, mask, i, 0);
+        second += call_share(rows, hap, mask, i, 1);
+        j += 1;
+    }
+    ReadLikelihoods { first, second }
+}
+
+// Writes the two likelihoods of each of n fragments, whose rows end where `ends` says. At the loop's head those of the first f are written,
+// and the rows of fragment f start at a.
+pub fn write_likelihoods(
+    rows: &[u64],
+    ends: &[usize],
+    hap: &[u8],
+    mask: &[u8],
+    lik: &mut [i64],
+    n: usize,
+)
+    requires { ⌜ CallsIn (now rows) (groupStart (now ends) n) (now hap) (now mask) × EndsIn (now ends) n × (2 * n ≤ length (now lik)) ⌝ }
+    ensures { λ _. ⌜ now (lik .exit) ≡ written (likelihoodAt (now (rows .entry)) (now (ends .entry)) (now (hap .entry)) (now (mask .entry))) (2 * n) (now (lik .entry)) ⌝ }
+{
+    let mut a = 0;
+    let mut f = 0;
+    while f < n {
+        let e = ends[f];
+        let r = read_likelihoods(rows, hap, mask, a, e);
+        let x = r.first;
+        let y = r.second;
+        lik[2 * f] = x;
+        lik[2 * f + 1] = y;
+        a = e;
+        f += 1;
+    }
+}

@@ -1,0 +1,96 @@
+// The final answer of each variant, from its normalised posteriors.
+ghost use mathlib.Core.Path.{_≡_};
+ghost use mathlib.Core.Bool.{cond};
+ghost use Prim.Native.Nat.{ℕ, _+_, _*_, _<_, _≤_, _^_};
+ghost use lib.IntN.{natAbs};
+ghost use lib.ListN.{length, drop};
+ghost use Rattle.steps.specs.Table.{knots};
+ghost use Rattle.steps.specs.Logs.{steps, lnAddExp, logOf, size};
+ghost use Rattle.variants_and_fragments.specs.Layout.{Sized};
+ghost use Rattle.genotype_probs.specs.Posteriors.{TableAt};
+ghost use Rattle.with_haplotypes.specs.Finals.{isOther, otherSum, finalOf, TablesIn, FinalsWritten};
+use genotype_probs::posteriors::Genotype;
+use genotype_probs::posteriors::max_genotype;
+use steps::LogProb;
+use steps::logs;
+use steps::phred::capped_phred;
+use variants_and_fragments::Sizes;
+use variants_and_fragments::VarFilter;
+use variants_and_fragments::layout;
+
+// The called pair, the quality of the variant, that of the pair, and the filter.
+pub struct FinalAnswer {
+    pub genotype: Genotype,
+    pub qual: f64,
+    pub gq: f64,
+    pub filter: VarFilter,
+}
+
+// The sum with x added, where q is neither the pair p nor its mirror m.
+fn add_other(t: &[u16; 1665], sum: i64, x: i64, p: usize, m: usize, q: usize) -> i64
+    requires { ⌜ (now t ≡ knots) × (size (logOf sum) ≤ 2 ^ 60) × (natAbs x ≤ 2 ^ 40) ⌝ }
+    ensures { λ r. ⌜ logOf r ≡ cond (isOther p m q) (lnAddExp (logOf sum) (steps x)) (logOf sum) ⌝ }
+{
+    if q == p {
+        return sum;
+    }
+    if q == m {
+        return sum;
+    }
+    logs::ln_add_exp(t, sum, x)
+}
+
+// ln_sum_exp over the pairs other than p and its mirror. At the loop's head `sum` is that of those before q.
+fn other_sum(t: &[u16; 1665], post: &[i64], at: usize, k: usize, p: usize) -> i64
+    requires { ⌜ (now t ≡ knots) × TableAt (now post) at k × (p < k * k) ⌝ }
+    ensures { λ r. ⌜ (logOf r ≡ otherSum (drop at (now (post .entry))) k p) × (size (logOf r) ≤ 2 ^ 41) ⌝ }
+{
+    let n = k * k;
+    let m = p % k * k + p / k;
+    let mut sum = logs::MARK;
+    let mut q = 0;
+    while q < n {
+        sum = add_other(t, sum, post[at + q], p, m, q);
+        q += 1;
+    }
+    sum
+}
+
+// The final answer of the variant whose normalised posteriors stand from `at` on.
+pub fn final_answer(t: &[u16; 1665], post: &[i64], at: usize, k: usize) -> FinalAnswer
+    requires { ⌜ (now t ≡ knots) × TableAt (now post) at k ⌝ }
+    ensures { λ r. ⌜ r ≡ finalOf (drop at (now (post .entry))) k ⌝ }
+{
+    let p = max_genotype(t, post, at, k, true);
+    let others = other_sum(t, post, at, k, p);
+    FinalAnswer {
+        genotype: Genotype((p / k) as u8, (p % k) as u8),
+        qual: capped_phred(LogProb(post[at])).0,
+        gq: capped_phred(LogProb(others)).0,
+        filter: VarFilter::Pass,
+    }
+}
+
+// Writes the qualities of N variants, whose normalised posteriors stand at nine places each. At the loop's head those before v are written.
+pub fn write_finals(
+    t: &[u16; 1665],
+    words: &[i32],
+    s: Sizes,
+    post: &[i64],
+    quals: &mut [f64],
+    gqs: &mut [f64],
+)
+    requires { ⌜ (now t ≡ knots) × Sized (now words) s × TablesIn (now words) (now post) (s .n) ⌝ }
+    requires { ⌜ (s .n ≤ length (now quals)) × (s .n ≤ length (now gqs)) ⌝ }
+    ensures { λ _. ⌜ FinalsWritten (now (words .entry)) (now (post .entry)) (s .n) (now (quals .entry)) (now (gqs .entry)) (now (quals .exit)) (now (gqs .exit)) ⌝ }
+{
+    let n = s.n;
+    let mut v = 0;
+    while v < n {
+        let k = layout::allele_count(words, s, v);
+        let r = final_answer(t, post, 9 * v, k);
+        quals[v] = r.qual;
+        gqs[v] = r.gq;
+        v += 1;
+    }
+}
