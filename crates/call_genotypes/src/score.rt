@@ -9,8 +9,8 @@ ghost use Rattle.genotype_probs.specs.Posteriors.{firstMaximum};
 ghost use Rattle.sweeps.specs.Sweeps.{SweepCase, score};
 ghost use Rattle.steps.specs.Lines.{lines};
 ghost use Rattle.call_genotypes.specs.Scores.{valueOf, gapValue, rowAt, rowsAt, rowGaps, turn, RowIn, PileIn, Within, AlleleSums, addFour, QualsIn, qualSum, baseSum, neitherSum, pairGap, scoresOf, ScoresRoom, Some, Standing, rawScores};
-use steps::one_plus::ln_one_plus_exp;
 use pileup::piles::pile_start;
+use steps::one_plus::ln_one_plus_exp;
 
 // Of a call: how far a score rises over the one where neither haplotype has its allele, if the first has, the second has, both have;
 // and its read's second likelihood that stands plus ln(1 + exp(d)), the first being d above the second when both are without the call.

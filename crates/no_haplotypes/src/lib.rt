@@ -18,18 +18,20 @@ ghost use Rattle.no_haplotypes.specs.Tally.{Piled, CallHeld, TallyRoom, 
 ghost use Rattle.variants_and_fragments.specs.Decode.{decode};
 ghost use Rattle.variants_and_fragments.specs.Layout.{Sized, alleleCountAt};
 ghost use Rattle.genotype_probs.specs.Places.{writtenFrom};
-use genotype_probs::case_priors::make_priors;
-use pileup::scratch::fragment_ends;
-use pileup::scratch::nine_each;
-use pileup::scratch::numbers;
-use pileup::scratch::places;
-use pileup::scratch::qualities;
 use genotype_probs::Rates;
+use genotype_probs::case_priors::make_priors;
 use genotype_probs::posteriors::Genotype;
 use genotype_probs::posteriors::max_genotype_post;
 use genotype_probs::posteriors::normalize;
 use genotype_probs::table::ln_half;
 use genotype_probs::table::rates_fault;
+use pileup::piles::pile_calls;
+use pileup::piles::pile_start;
+use pileup::scratch::fragment_ends;
+use pileup::scratch::nine_each;
+use pileup::scratch::numbers;
+use pileup::scratch::places;
+use pileup::scratch::qualities;
 use steps::LogProb;
 use steps::logs;
 use steps::phred::capped_phred;
@@ -38,8 +40,6 @@ use variants_and_fragments::Refusal;
 use variants_and_fragments::Sizes;
 use variants_and_fragments::check_case;
 use variants_and_fragments::layout;
-use pileup::piles::pile_calls;
-use pileup::piles::pile_start;
 
 // The answer of the operation.
 pub enum Called {

@@ -23,7 +23,7 @@ use Rattle.genotype_probs.specs.Normalized.{firstNotNormal}
 use Rattle.with_haplotypes.specs.declared.RoundAnswer.{RoundAnswer}
 use Rattle.with_haplotypes.specs.declared.Round.{Round}
 use Rattle.with_haplotypes.specs.declared.Round.the-variants.{Done, Refused}
-use Rattle.with_haplotypes.specs.Round.{RoundInput, case, sweepCase, start, orderOfSweep, returned, haplotypeAt, likelihoodAt, posteriors, posteriorAt, final}
+use Rattle.with_haplotypes.specs.Round.{RoundInput, caseOfRound, runOf, sweepCase, orderOfSweep, returned, haplotypeAt, likelihoodAt, posteriors, posteriorAt, final}
 
 -- the lent slices
 pub record RoundSlices : Type 0 where
@@ -62,8 +62,8 @@ unfoldable pub roundOutcome : RoundInput → List ℤ → RoundSlices → Outcom
 roundOutcome input sets slices =
     andThen (caseOf (input .words) (input .bases)) (λ s.
     andThen (roundChecks (s .n) (input .rates) (input .phase) sets (input .orders) (input .limit) (shortOfSlices (s .n) (s .f) slices)) (λ m.
-    stop 12 (firstNotNormal (posteriors input) (λ v. alleleCount (variantOf (case input) v)) (s .n)) (s .n)
-    (done (returned input))))
+    stop 12 (firstNotNormal (posteriors (runOf input)) (λ v. alleleCount (variantOf (caseOfRound input) v)) (s .n)) (s .n)
+    (done (returned (runOf input)))))
 
 -- the answer in 01's terms
 unfoldable pub outcomeOf : Round → Outcome RoundAnswer
@@ -74,10 +74,10 @@ outcomeOf (Refused x) = refused (number x) (place x)
 -- back as `after`
 pub record CalledWithHaplotypes (input : RoundInput) (sets : List ℤ) (before : RoundSlices) (r : Round) (after : RoundSlices) : Type 0 where
   pub answer : outcomeOf r ≡ roundOutcome input sets before
-  pub haplotypes-after : after .haplotypes ≡ afterwards (outcomeOf r) (written (haplotypeAt input) (2 * length (case input .variants)) (before .haplotypes)) (before .haplotypes)
-  pub likelihoods-after : after .likelihoods ≡ afterwards (outcomeOf r) (written (likelihoodAt input) (2 * length (case input .fragments)) (before .likelihoods)) (before .likelihoods)
-  pub posteriors-after : after .posteriors ≡ afterwards (outcomeOf r) (written (posteriorAt input) (9 * length (case input .variants)) (before .posteriors)) (before .posteriors)
-  pub quals-after : after .quals ≡ afterwards (outcomeOf r) (written (λ v. final input v .qual) (length (case input .variants)) (before .quals)) (before .quals)
-  pub gqs-after : after .gqs ≡ afterwards (outcomeOf r) (written (λ v. final input v .gq) (length (case input .variants)) (before .gqs)) (before .gqs)
+  pub haplotypes-after : after .haplotypes ≡ afterwards (outcomeOf r) (written (haplotypeAt (runOf input)) (2 * length (caseOfRound input .variants)) (before .haplotypes)) (before .haplotypes)
+  pub likelihoods-after : after .likelihoods ≡ afterwards (outcomeOf r) (written (likelihoodAt (runOf input)) (2 * length (caseOfRound input .fragments)) (before .likelihoods)) (before .likelihoods)
+  pub posteriors-after : after .posteriors ≡ afterwards (outcomeOf r) (written (posteriorAt (runOf input)) (9 * length (caseOfRound input .variants)) (before .posteriors)) (before .posteriors)
+  pub quals-after : after .quals ≡ afterwards (outcomeOf r) (written (λ v. final (runOf input) v .qual) (length (caseOfRound input .variants)) (before .quals)) (before .quals)
+  pub gqs-after : after .gqs ≡ afterwards (outcomeOf r) (written (λ v. final (runOf input) v .gq) (length (caseOfRound input .variants)) (before .gqs)) (before .gqs)
   pub demand3 : (x : RoundAnswer) → outcomeOf r ≡ done x
-      → Demand3 (sweepCase input) (orderOfSweep input) (input .limit) (start input) (record { sweeps = x .sweeps; settled = x .settled; haps = take (2 * length (case input .variants)) (after .haplotypes) })
+      → Demand3 (sweepCase (runOf input)) (orderOfSweep (runOf input)) (input .limit) (runOf input .start) (record { sweeps = x .sweeps; settled = x .settled; haps = take (2 * length (caseOfRound input .variants)) (after .haplotypes) })

@@ -1,6 +1,6 @@
 -- 01, sections 6 and 7: one round of calling genotypes with haplotypes, after HapCUT2. Every definition computes at closed values.
 -- Assumes nothing.
-use mathlib.Core.Bool.{cond}
+use mathlib.Core.Bool.{Bool, cond}
 use mathlib.Core.List.{List, [], _∷_}
 use Prim.Native.Nat.{ℕ, _+_, _-_, _*_, _/_, _%_}
 use lib.Dec.{eqb}
@@ -19,6 +19,66 @@ use Rattle.with_haplotypes.specs.Finals.{finalOf}
 use Rattle.likelihoods.specs.SweepCaseOf.{sweepCaseOf}
 use Rattle.with_haplotypes.specs.declared.RoundAnswer.{RoundAnswer}
 
+-- what a run of sweeps starts from: a case and rates, the phased variants, the haplotypes, the orders one after the other, and the limit
+pub record RunInput : Type 0 where
+  pub case : Case
+  pub rates : Rates
+  pub phased : ℕ → Bool
+  pub start : List ℕ
+  pub orders : List ℕ
+  pub limit : ℕ
+
+-- the haplotypes that a sweep by these variants has when it visits v
+unfoldable pub atVisit : SweepCase → ℕ → List ℕ → List ℕ → List ℕ
+atVisit C v [] h = h
+atVisit C v (w ∷ ws) h = cond (eqb w v) h (atVisit C v ws (visit C w h))
+
+module _ (input : RunInput) where
+  unfoldable pub sweepCase : SweepCase
+  sweepCase = sweepCaseOf (input .rates) (input .phased) (input .case)
+
+  -- sweep s uses lent order s mod m
+  unfoldable pub orderOfSweep : ℕ → List ℕ
+  orderOfSweep s = let n = length (input .case .variants) in orderAt n (input .orders) (s % orderCount n (length (input .orders)))
+
+  unfoldable pub result : RunResult
+  result = run sweepCase orderOfSweep (input .limit) 0 (input .start)
+
+  -- "Returned": sweeps, settled or not, phased totals at the start and at the end, the source's total at the end
+  unfoldable pub returned : RoundAnswer
+  returned = record {
+    sweeps = result .sweeps;
+    settled = result .settled;
+    start = phasedTotal sweepCase (input .start);
+    end = phasedTotal sweepCase (result .haps);
+    source = sourceTotal sweepCase (result .haps);
+  }
+
+  -- ---- "written"
+  -- 2 bytes per variant
+  unfoldable pub haplotypeAt : ℕ → ℕ
+  haplotypeAt e = getD (result .haps) e 0
+
+  -- 2 likelihoods per fragment
+  unfoldable pub likelihoodAt : ℕ → ℤ
+  likelihoodAt e = likelihood (sweepCase .phased) (λ v. getD (result .haps) (2 * v + e % 2) 0) (getD (sweepCase .frags) (e / 2) [])
+
+  -- v's latest visit was in the last sweep: the scores that it worked out
+  unfoldable pub latestScore : ℕ → ℕ → ℤ
+  latestScore v =
+      let last = result .sweeps - 1 in score sweepCase v (atVisit sweepCase v (orderOfSweep last) (after sweepCase orderOfSweep (input .start) last))
+
+  -- v's latest posteriors: k × k, row-major, then zeros to 9
+  unfoldable pub posteriors : ℕ → List ℤ
+  posteriors v = let k = alleleCount (variantOf (input .case) v) in tabulate 9 (normalized (tabulate (k * k) (latestScore v)) k)
+
+  unfoldable pub posteriorAt : ℕ → ℤ
+  posteriorAt e = getD (posteriors (e / 9)) (e % 9) (pos 0)
+
+  -- v's final answer
+  unfoldable pub final : ℕ → FinalAnswer
+  final v = finalOf (posteriors v) (alleleCount (variantOf (input .case) v))
+
 -- what a round reads: the case, the rates, the phase bytes, the orders one after the other, and the limit of sweeps
 pub record RoundInput : Type 0 where
   pub words : List ℤ
@@ -32,61 +92,16 @@ abbrev pub roundInput : List ℤ → List ℕ → Rates → List ℕ → List �
 roundInput words bases rates phase orders limit =
     record { words = words; bases = bases; rates = rates; phase = phase; orders = orders; limit = limit }
 
--- the haplotypes that a sweep by these variants has when it visits v
-unfoldable pub atVisit : SweepCase → ℕ → List ℕ → List ℕ → List ℕ
-atVisit C v [] h = h
-atVisit C v (w ∷ ws) h = cond (eqb w v) h (atVisit C v ws (visit C w h))
+unfoldable pub caseOfRound : RoundInput → Case
+caseOfRound input = decode (input .words) (input .bases)
 
-module _ (input : RoundInput) where
-  unfoldable pub case : Case
-  case = decode (input .words) (input .bases)
-
-  -- the case of the sweeps, phased by section 5
-  unfoldable pub sweepCase : SweepCase
-  sweepCase = sweepCaseOf (input .rates) (phasedFlags case (input .phase)) case
-
-  -- section 5's haplotypes
-  unfoldable pub start : List ℕ
-  start = startHaplotypes case (input .phase)
-
-  -- sweep s uses lent order s mod m
-  unfoldable pub orderOfSweep : ℕ → List ℕ
-  orderOfSweep s = let n = length (case .variants) in orderAt n (input .orders) (s % orderCount n (length (input .orders)))
-
-  unfoldable pub result : RunResult
-  result = run sweepCase orderOfSweep (input .limit) 0 start
-
-  -- "Returned": sweeps, settled or not, phased totals at the start and at the end, the source's total at the end
-  unfoldable pub returned : RoundAnswer
-  returned = record {
-    sweeps = result .sweeps;
-    settled = result .settled;
-    start = phasedTotal sweepCase start;
-    end = phasedTotal sweepCase (result .haps);
-    source = sourceTotal sweepCase (result .haps);
-  }
-
-  -- ---- "written"
-  -- 2 bytes a variant
-  unfoldable pub haplotypeAt : ℕ → ℕ
-  haplotypeAt e = getD (result .haps) e 0
-
-  -- 2 likelihoods a fragment
-  unfoldable pub likelihoodAt : ℕ → ℤ
-  likelihoodAt e = likelihood (sweepCase .phased) (λ v. getD (result .haps) (2 * v + e % 2) 0) (getD (sweepCase .frags) (e / 2) [])
-
-  -- v's latest visit was in the last sweep: the scores that it worked out
-  unfoldable pub latestScore : ℕ → ℕ → ℤ
-  latestScore v =
-      let last = result .sweeps - 1 in score sweepCase v (atVisit sweepCase v (orderOfSweep last) (after sweepCase orderOfSweep start last))
-
-  -- v's latest posteriors: k × k, row-major, then zeros to 9
-  unfoldable pub posteriors : ℕ → List ℤ
-  posteriors v = let k = alleleCount (variantOf case v) in tabulate 9 (normalized (tabulate (k * k) (latestScore v)) k)
-
-  unfoldable pub posteriorAt : ℕ → ℤ
-  posteriorAt e = getD (posteriors (e / 9)) (e % 9) (pos 0)
-
-  -- v's final answer
-  unfoldable pub final : ℕ → FinalAnswer
-  final v = finalOf (posteriors v) (alleleCount (variantOf case v))
+-- a round's run starts from section 5's phased variants and haplotypes
+abbrev pub runOf : RoundInput → RunInput
+runOf input = record {
+  case = caseOfRound input;
+  rates = input .rates;
+  phased = phasedFlags (caseOfRound input) (input .phase);
+  start = startHaplotypes (caseOfRound input) (input .phase);
+  orders = input .orders;
+  limit = input .limit;
+}

@@ -1,28 +1,33 @@
--- What the parts of a round hand on to each other. Assumes nothing.
+-- What the parts of a round hand on to each other: prepare, run, finish. Assumes nothing.
 use mathlib.Core.Path.{_≡_}
+use mathlib.Core.Bool.{cond}
 use mathlib.Core.List.{List}
-use Prim.Native.Nat.{ℕ, _*_, _≤_}
+use Prim.Native.Nat.{ℕ, _*_, _<_, _≤_}
 use lib.IntN.{ℤ}
-use lib.ListN.{length, take}
+use lib.ListN.{length, getD, take}
 use Rattle.variants_and_fragments.specs.declared.Sizes.{Sizes}
 use Rattle.variants_and_fragments.specs.Refusals.{Outcome, refused, done, number, place}
 use Rattle.variants_and_fragments.specs.Check.{caseOf}
+use Rattle.variants_and_fragments.specs.Decode.{decode}
 use Rattle.variants_and_fragments.specs.Layout.{alleleCountAt}
-use Rattle.pileup.specs.Rows.{RowSlices, rowSlices, RowsRoom}
-use Rattle.pileup.specs.Piles.{CallsPiled, PilesRoom}
 use Rattle.variants_and_fragments.specs.Written.{written}
+use Rattle.pileup.specs.Rows.{RowsMade}
+use Rattle.pileup.specs.Piles.{PilesMade}
+use Rattle.genotype_probs.specs.declared.Rates.{Rates}
 use Rattle.genotype_probs.specs.Rates.{ratesFault}
+use Rattle.genotype_probs.specs.Priors.{priorTable, priorAt}
 use Rattle.shuffle.specs.Orders.{orderCount, GoodOrders}
-use Rattle.sweeps.specs.Sweeps.{phasedTotal, sourceTotal}
+use Rattle.sweeps.specs.Sweeps.{GoodHaps, phasedTotal, sourceTotal}
 use Rattle.sweeps.specs.Demand3.{Demand3}
 use Rattle.sweeps.specs.Posts.{posts}
 use Rattle.likelihoods.specs.Held.{Liks}
-use Rattle.call_genotypes.specs.Scores.{rawScores}
-use Rattle.call_genotypes.specs.Runs.{RunStart, resultOf}
+use Rattle.call_genotypes.specs.Scores.{rawScores, SweepState}
+use Rattle.call_genotypes.specs.Runs.{resultOf}
 use Rattle.with_haplotypes.specs.declared.RoundAnswer.{RoundAnswer}
+use Rattle.with_haplotypes.specs.declared.RoundSizes.{RoundSizes}
 use Rattle.with_haplotypes.specs.declared.checks.RoundChecked.{RoundChecked}
 use Rattle.with_haplotypes.specs.declared.checks.RoundChecked.the-variants.{Good, Refused}
-use Rattle.with_haplotypes.specs.Round.{RoundInput, sweepCase, start, orderOfSweep, result, returned, haplotypeAt, likelihoodAt, posteriorAt, final}
+use Rattle.with_haplotypes.specs.Round.{RunInput, RoundInput, sweepCase, orderOfSweep, result, returned, haplotypeAt, likelihoodAt, posteriorAt, final}
 use Rattle.with_haplotypes.specs.Promise.{RoundSlices}
 
 -- the answer of the checks in 01's terms
@@ -30,69 +35,113 @@ unfoldable pub checkedAs : RoundChecked → Outcome ℕ
 checkedAs (Good m) = done m
 checkedAs (Refused x) = refused (number x) (place x)
 
--- an input past all checks, of these sizes and with m orders
-pub record Admitted (input : RoundInput) (s : Sizes) (m : ℕ) : Type 0 where
-  pub accepted : caseOf (input .words) (input .bases) ≡ done s
-  pub good-rates : ratesFault (input .rates) ≡ 7
-  pub phase-long : length (input .phase) ≡ s .n
-  pub good-orders : GoodOrders (s .n) (input .orders) m
-  pub count-is : m ≡ orderCount (s .n) (length (input .orders))
-  pub limit-low : 1 ≤ input .limit
-  pub limit-top : input .limit ≤ 1000000
+-- a case of these words and bases that is accepted, at accepted rates
+pub record CaseGiven (w : List ℤ) (b : List ℕ) (rates : Rates) (s : Sizes) : Type 0 where
+  pub accepted : caseOf w b ≡ done s
+  pub good-rates : ratesFault rates ≡ 7
 
+-- orders and a limit past their checks: m orders, each with every variant once
+pub record OrdersGiven (orders : List ℕ) (limit : ℕ) (z : RoundSizes) : Type 0 where
+  pub good : GoodOrders (z .s .n) orders (z .m)
+  pub count-is : z .m ≡ orderCount (z .s .n) (length orders)
+  pub limit-is : z .limit ≡ limit
+  pub limit-low : 1 ≤ limit
+  pub limit-top : limit ≤ 1000000
+
+-- a round's input past all checks
+pub record Admitted (input : RoundInput) (z : RoundSizes) : Type 0 where
+  pub given : CaseGiven (input .words) (input .bases) (input .rates) (z .s)
+  pub phase-long : length (input .phase) ≡ z .s .n
+  pub orders : OrdersGiven (input .orders) (input .limit) z
+
+-- a run over such a case, from haplotypes whose alleles the variants have
+pub record RunAdmitted (w : List ℤ) (b : List ℕ) (input : RunInput) (z : RoundSizes) : Type 0 where
+  pub given : CaseGiven w b (input .rates) (z .s)
+  pub case-is : input .case ≡ decode w b
+  pub good-start : GoodHaps (sweepCase input) (input .start)
+  pub orders : OrdersGiven (input .orders) (input .limit) z
+
+-- ---- prepare
+-- the scratch of a run: the rows and where each fragment's end, the piles and where each variant's end, the priors
+pub record Scratch : Type 0 where
+  pub rows : List ℕ
+  pub row-ends : List ℕ
+  pub piles : List ℕ
+  pub pile-ends : List ℕ
+  pub pri : List ℤ
+
+abbrev pub scratch : List ℕ → List ℕ → List ℕ → List ℕ → List ℤ → Scratch
+scratch rows row-ends piles pile-ends pri = record { rows = rows; row-ends = row-ends; piles = piles; pile-ends = pile-ends; pri = pri }
+
+-- room in it
+pub record ScratchRoom (s : Sizes) (x : Scratch) : Type 0 where
+  pub rows-long : s .c ≤ length (x .rows)
+  pub row-ends-long : s .f ≤ length (x .row-ends)
+  pub piles-long : s .c ≤ length (x .piles)
+  pub pile-ends-long : s .n ≤ length (x .pile-ends)
+  pub pri-long : 9 * s .n ≤ length (x .pri)
+
+-- the usable calls as rows and as piles, and the priors
+pub record Prepared (w : List ℤ) (b : List ℕ) (rates : Rates) (s : Sizes) (x : Scratch) : Type 0 where
+  pub ambiguous : List ℕ
+  pub count : ℕ
+  pub rows-made : RowsMade w s (x .rows) (x .row-ends) ambiguous count
+  pub piles-made : PilesMade w s (x .pile-ends) (x .piles)
+  pub pri-was : List ℤ
+  pub pri-room : 9 * s .n ≤ length pri-was
+  pub pri-are : x .pri ≡ written (priorAt (priorTable rates) (decode w b)) (9 * s .n) pri-was
+
+-- ---- run
 -- each variant's number of alleles stands in ks
 pub record AlleleCounts (w : List ℤ) (n : ℕ) (ks : List ℕ) : Type 0 where
   pub was : List ℕ
   pub room : n ≤ length was
   pub written-is : ks ≡ written (alleleCountAt w) n was
 
--- the usable calls of a case, as rows and as piles
-pub record PilesMade (w : List ℤ) (s : Sizes) (variants alleles : List ℕ) (quals one-minus-quals : List ℤ) (row-ends ends who : List ℕ) (pile-quals pile-one-minus-quals : List ℤ) : Type 0 where
-  pub fragments : List ℕ
-  pub ambiguous : List ℕ
-  pub count : ℕ
-  pub piled : CallsPiled w s (rowSlices fragments variants alleles quals one-minus-quals) row-ends ambiguous count ends who pile-quals pile-one-minus-quals
-  pub room : PilesRoom (s .n) (s .c) ends who pile-quals pile-one-minus-quals
-  pub row-ends-long : s .f ≤ length row-ends
-
--- room for the rows, the piles and the priors
-pub record ScratchRoom (s : Sizes) (rows : RowSlices) (row-ends ambiguous ends who : List ℕ) (quals one-minus-quals pri : List ℤ) : Type 0 where
-  pub rows-room : RowsRoom (s .c) rows
-  pub row-ends-long : s .f ≤ length row-ends
-  pub ambiguous-long : s .n ≤ length ambiguous
-  pub piles-room : PilesRoom (s .n) (s .c) ends who quals one-minus-quals
-  pub pri-long : 9 * s .n ≤ length pri
-
--- room for the run: haplotypes and likelihoods of exactly the need
-pub record RunRoom (s : Sizes) (hap : List ℕ) (lik post : List ℤ) : Type 0 where
-  pub haps-long : length hap ≡ 2 * s .n
-  pub liks-long : length lik ≡ 2 * s .f
-  pub post-long : 9 * s .n ≤ length post
-
--- what stands before the first sweep
-pub record RoundStart (input : RoundInput) (s : Sizes) (m limit : ℕ) (ks ph : List ℕ) (pri : List ℤ) (variants alleles : List ℕ) (quals one-minus-quals : List ℤ) (row-ends ends who : List ℕ) (pile-quals pile-one-minus-quals : List ℤ) (orders hap : List ℕ) (lik post : List ℤ) : Type 0 where
-  pub admitted : Admitted input s m
+-- what a run is given: the case's words and bases, flags of the phased variants, the start's haplotypes where the run changes them, and
+-- likelihoods of exactly the need
+pub record RunGiven (w : List ℤ) (b : List ℕ) (rates : Rates) (z : RoundSizes) (ks ph orders : List ℕ) (state : SweepState) (input : RunInput) : Type 0 where
+  pub admitted : RunAdmitted w b input z
+  pub rates-are : input .rates ≡ rates
   pub orders-are : input .orders ≡ orders
-  pub limit-is : input .limit ≡ limit
-  pub piles : PilesMade (input .words) s variants alleles quals one-minus-quals row-ends ends who pile-quals pile-one-minus-quals
-  pub run-start : RunStart (sweepCase input) ks ph pri ends who pile-quals pile-one-minus-quals orders hap lik post (s .n) m limit
-  pub hap-is : hap ≡ start input
+  pub counts : AlleleCounts w (z .s .n) ks
+  pub ph-long : z .s .n ≤ length ph
+  pub ph-are : (v : ℕ) → v < z .s .n → getD ph v 0 ≡ cond (input .phased v) 1 0
+  pub hap-is : state .hap ≡ input .start
+  pub liks-long : length (state .lik) ≡ 2 * z .s .f
+  pub post-long : 9 * z .s .n ≤ length (state .post)
 
 -- there is an input of which P holds
-pub record SomeInput (P : RoundInput → Type 0) : Type 0 where
-  pub input : RoundInput
+pub record SomeRun (P : RunInput → Type 0) : Type 0 where
+  pub input : RunInput
   pub holds : P input
 
 -- what the sweeps leave, with the scores of each variant's latest visit not normalised yet
-pub record RoundRan (input : RoundInput) (post : List ℤ) (r : RoundAnswer) (hap' : List ℕ) (lik' post' : List ℤ) : Type 0 where
-  pub result-is : result input ≡ resultOf (r .sweeps) (r .settled) hap'
-  pub demand3 : Demand3 (sweepCase input) (orderOfSweep input) (input .limit) (start input) (resultOf (r .sweeps) (r .settled) hap')
-  pub start-is : r .start ≡ phasedTotal (sweepCase input) (start input)
-  pub end-is : r .end ≡ phasedTotal (sweepCase input) hap'
-  pub source-is : r .source ≡ sourceTotal (sweepCase input) hap'
-  pub liks : Liks (sweepCase input) hap' lik'
-  pub scores : post' ≡ posts rawScores (sweepCase input) (orderOfSweep input) (start input) post (r .sweeps)
+pub record RunMade (input : RunInput) (before after : SweepState) (r : RoundAnswer) : Type 0 where
+  pub result-is : result input ≡ resultOf (r .sweeps) (r .settled) (after .hap)
+  pub demand3 : Demand3 (sweepCase input) (orderOfSweep input) (input .limit) (input .start) (resultOf (r .sweeps) (r .settled) (after .hap))
+  pub start-is : r .start ≡ phasedTotal (sweepCase input) (input .start)
+  pub end-is : r .end ≡ phasedTotal (sweepCase input) (after .hap)
+  pub source-is : r .source ≡ sourceTotal (sweepCase input) (after .hap)
+  pub liks : Liks (sweepCase input) (after .hap) (after .lik)
+  pub scores : after .post ≡ posts rawScores (sweepCase input) (orderOfSweep input) (input .start) (before .post) (r .sweeps)
 
+-- what a run promises of every input that it is given
+abbrev pub RunPromise : List ℤ → List ℕ → Rates → RoundSizes → List ℕ → List ℕ → List ℕ → SweepState → SweepState → RoundAnswer → Type 0
+RunPromise w b rates z ks ph orders before after r = (input : RunInput) → RunGiven w b rates z ks ph orders before input → RunMade input before after r
+
+-- the same where the scratch is prepared
+pub record PreparedRun (z : RoundSizes) (ks ph : List ℕ) (x : Scratch) (orders : List ℕ) (state : SweepState) (input : RunInput) : Type 0 where
+  pub words : List ℤ
+  pub bases : List ℕ
+  pub rates : Rates
+  pub given : RunGiven words bases rates z ks ph orders state input
+  pub prepared : Prepared words bases rates (z .s) x
+
+abbrev pub PreparedPromise : RoundSizes → List ℕ → List ℕ → Scratch → List ℕ → SweepState → SweepState → RoundAnswer → Type 0
+PreparedPromise z ks ph x orders before after r = (input : RunInput) → PreparedRun z ks ph x orders before input → RunMade input before after r
+
+-- ---- the whole round
 -- room for the round in the lent slices
 pub record RoundRoom (s : Sizes) (slices : RoundSlices) : Type 0 where
   pub haplotypes-long : 2 * s .n ≤ length (slices .haplotypes)
@@ -102,11 +151,11 @@ pub record RoundRoom (s : Sizes) (slices : RoundSlices) : Type 0 where
   pub gqs-long : s .n ≤ length (slices .gqs)
 
 -- what a round over an accepted input returns and writes
-pub record RoundMade (input : RoundInput) (s : Sizes) (before : RoundSlices) (r : RoundAnswer) (after : RoundSlices) : Type 0 where
+pub record RoundMade (input : RunInput) (s : Sizes) (before : RoundSlices) (r : RoundAnswer) (after : RoundSlices) : Type 0 where
   pub returned-is : r ≡ returned input
   pub haplotypes-are : after .haplotypes ≡ written (haplotypeAt input) (2 * s .n) (before .haplotypes)
   pub likelihoods-are : after .likelihoods ≡ written (likelihoodAt input) (2 * s .f) (before .likelihoods)
   pub posteriors-are : after .posteriors ≡ written (posteriorAt input) (9 * s .n) (before .posteriors)
   pub quals-are : after .quals ≡ written (λ v. final input v .qual) (s .n) (before .quals)
   pub gqs-are : after .gqs ≡ written (λ v. final input v .gq) (s .n) (before .gqs)
-  pub demand3 : Demand3 (sweepCase input) (orderOfSweep input) (input .limit) (start input) (resultOf (r .sweeps) (r .settled) (take (2 * s .n) (after .haplotypes)))
+  pub demand3 : Demand3 (sweepCase input) (orderOfSweep input) (input .limit) (input .start) (resultOf (r .sweeps) (r .settled) (take (2 * s .n) (after .haplotypes)))

@@ -1,17 +1,23 @@
 // One round of calling genotypes with haplotypes, after HapCUT2: document 01, sections 6 and 7.
 ghost use Rattle.with_haplotypes.specs.Round.{roundInput};
 ghost use Rattle.with_haplotypes.specs.Promise.{roundSlices, CalledWithHaplotypes};
-use crate::accepted::round_accepted;
 use crate::checks::RoundChecked;
 use crate::checks::round_checks;
 use crate::checks::round_short;
+use crate::round::round_accepted;
 use genotype_probs::Rates;
 use variants_and_fragments::Checked;
 use variants_and_fragments::Refusal;
+use variants_and_fragments::Sizes;
 use variants_and_fragments::check_case;
 
-pub mod accepted;
-pub mod checks;
+mod checks;
+pub mod finals;
+mod normalized;
+mod prepare;
+mod round;
+mod run;
+mod scratch;
 
 // How many sweeps were made, whether the last one changed nothing, the phased totals at the start and at the end, and the source's total
 // at the end, over all variants and usable calls.
@@ -23,6 +29,13 @@ pub struct RoundAnswer {
     pub source: i64,
 }
 
+// What a round goes by: the sizes of its case, how many orders are lent, and the most sweeps.
+pub struct RoundSizes {
+    pub s: Sizes,
+    pub m: usize,
+    pub limit: usize,
+}
+
 // What `call_genotypes_with_haplotypes` answers.
 pub enum Round {
     Done(RoundAnswer),
@@ -30,7 +43,7 @@ pub enum Round {
 }
 
 // Calls genotypes with haplotypes, in one round: sweeps from the given phase, by the lent orders in turn, until one changes nothing or
-// the limit is reached. Writes the haplotypes (2 a variant), the likelihoods (2 a fragment), each variant's latest posteriors (9 a
+// the limit is reached. Writes the haplotypes (2 per variant), the likelihoods (2 per fragment), each variant's latest posteriors (9 per
 // variant), its quality and its genotype's quality.
 pub fn call_genotypes_with_haplotypes(
     words: &[i32],
@@ -64,9 +77,12 @@ pub fn call_genotypes_with_haplotypes(
             match round_checks(&t, s.n, rates, phase, sets, orders, limit, short) {
                 RoundChecked::Refused(x) => Round::Refused(x),
                 RoundChecked::Good(m) => Round::Done(round_accepted(
-                    &t,
                     words,
-                    s,
+                    RoundSizes {
+                        s,
+                        m,
+                        limit: limit as usize,
+                    },
                     bases,
                     rates,
                     phase,
@@ -76,8 +92,6 @@ pub fn call_genotypes_with_haplotypes(
                     posteriors,
                     quals,
                     gqs,
-                    m,
-                    limit as usize,
                 )),
             }
         }
