@@ -28,6 +28,11 @@ pub record RunInput : Type 0 where
   pub orders : List ℕ
   pub limit : ℕ
 
+-- the run over the case that these words and bases stand for
+abbrev pub runInput : List ℤ → List ℕ → Rates → (ℕ → Bool) → List ℕ → List ℕ → ℕ → RunInput
+runInput words bases rates phased start orders limit =
+    record { case = decode words bases; rates = rates; phased = phased; start = start; orders = orders; limit = limit }
+
 -- the haplotypes that a sweep by these variants has when it visits v
 unfoldable pub atVisit : SweepCase → ℕ → List ℕ → List ℕ → List ℕ
 atVisit C v [] h = h
@@ -92,16 +97,12 @@ abbrev pub roundInput : List ℤ → List ℕ → Rates → List ℕ → List �
 roundInput words bases rates phase orders limit =
     record { words = words; bases = bases; rates = rates; phase = phase; orders = orders; limit = limit }
 
-unfoldable pub caseOfRound : RoundInput → Case
+-- the case of a round
+abbrev pub caseOfRound : RoundInput → Case
 caseOfRound input = decode (input .words) (input .bases)
 
 -- a round's run starts from section 5's phased variants and haplotypes
 abbrev pub runOf : RoundInput → RunInput
-runOf input = record {
-  case = caseOfRound input;
-  rates = input .rates;
-  phased = phasedFlags (caseOfRound input) (input .phase);
-  start = startHaplotypes (caseOfRound input) (input .phase);
-  orders = input .orders;
-  limit = input .limit;
-}
+runOf input =
+    let case = caseOfRound input in
+    runInput (input .words) (input .bases) (input .rates) (phasedFlags case (input .phase)) (startHaplotypes case (input .phase)) (input .orders) (input .limit)

@@ -1,6 +1,6 @@
 -- What the parts of a round hand on to each other: prepare, run, finish. Assumes nothing.
 use mathlib.Core.Path.{_≡_}
-use mathlib.Core.Bool.{cond}
+use mathlib.Core.Bool.{Bool, cond}
 use mathlib.Core.List.{List}
 use Prim.Native.Nat.{ℕ, _*_, _<_, _≤_}
 use lib.IntN.{ℤ}
@@ -27,7 +27,7 @@ use Rattle.with_haplotypes.specs.declared.RoundAnswer.{RoundAnswer}
 use Rattle.with_haplotypes.specs.declared.RoundSizes.{RoundSizes}
 use Rattle.with_haplotypes.specs.declared.checks.RoundChecked.{RoundChecked}
 use Rattle.with_haplotypes.specs.declared.checks.RoundChecked.the-variants.{Good, Refused}
-use Rattle.with_haplotypes.specs.Round.{RunInput, RoundInput, sweepCase, orderOfSweep, result, returned, haplotypeAt, likelihoodAt, posteriorAt, final}
+use Rattle.with_haplotypes.specs.Round.{RunInput, runInput, RoundInput, sweepCase, orderOfSweep, result, returned, haplotypeAt, likelihoodAt, posteriorAt, final}
 use Rattle.with_haplotypes.specs.Promise.{RoundSlices}
 
 -- the answer of the checks in 01's terms
@@ -40,26 +40,19 @@ pub record CaseGiven (w : List ℤ) (b : List ℕ) (rates : Rates) (s : Sizes) :
   pub accepted : caseOf w b ≡ done s
   pub good-rates : ratesFault rates ≡ 7
 
--- orders and a limit past their checks: m orders, each with every variant once
-pub record OrdersGiven (orders : List ℕ) (limit : ℕ) (z : RoundSizes) : Type 0 where
+-- orders and a limit past their checks: m orders, each with every variant once; at most 1,000,000 sweeps
+pub record OrdersGiven (orders : List ℕ) (z : RoundSizes) : Type 0 where
   pub good : GoodOrders (z .s .n) orders (z .m)
   pub count-is : z .m ≡ orderCount (z .s .n) (length orders)
-  pub limit-is : z .limit ≡ limit
-  pub limit-low : 1 ≤ limit
-  pub limit-top : limit ≤ 1000000
+  pub limit-low : 1 ≤ z .limit
+  pub limit-top : z .limit ≤ 1000000
 
 -- a round's input past all checks
 pub record Admitted (input : RoundInput) (z : RoundSizes) : Type 0 where
   pub given : CaseGiven (input .words) (input .bases) (input .rates) (z .s)
   pub phase-long : length (input .phase) ≡ z .s .n
-  pub orders : OrdersGiven (input .orders) (input .limit) z
-
--- a run over such a case, from haplotypes whose alleles the variants have
-pub record RunAdmitted (w : List ℤ) (b : List ℕ) (input : RunInput) (z : RoundSizes) : Type 0 where
-  pub given : CaseGiven w b (input .rates) (z .s)
-  pub case-is : input .case ≡ decode w b
-  pub good-start : GoodHaps (sweepCase input) (input .start)
-  pub orders : OrdersGiven (input .orders) (input .limit) z
+  pub good-orders : OrdersGiven (input .orders) z
+  pub limit-is : z .limit ≡ input .limit
 
 -- ---- prepare
 -- the scratch of a run: the rows and where each fragment's end, the piles and where each variant's end, the priors
@@ -98,23 +91,22 @@ pub record AlleleCounts (w : List ℤ) (n : ℕ) (ks : List ℕ) : Type 0 where
   pub room : n ≤ length was
   pub written-is : ks ≡ written (alleleCountAt w) n was
 
--- what a run is given: the case's words and bases, flags of the phased variants, the start's haplotypes where the run changes them, and
--- likelihoods of exactly the need
-pub record RunGiven (w : List ℤ) (b : List ℕ) (rates : Rates) (z : RoundSizes) (ks ph orders : List ℕ) (state : SweepState) (input : RunInput) : Type 0 where
-  pub admitted : RunAdmitted w b input z
-  pub rates-are : input .rates ≡ rates
-  pub orders-are : input .orders ≡ orders
+-- what a run is given: an accepted case's words and bases, flags of the phased variants, haplotypes whose alleles the variants have, where the
+-- run changes them, and likelihoods of exactly the need
+pub record RunGiven (w : List ℤ) (b : List ℕ) (rates : Rates) (z : RoundSizes) (ks ph orders : List ℕ) (state : SweepState) (phased : ℕ → Bool) : Type 0 where
+  pub given : CaseGiven w b rates (z .s)
+  pub good-start : GoodHaps (sweepCase (runInput w b rates phased (state .hap) orders (z .limit))) (state .hap)
+  pub good-orders : OrdersGiven orders z
   pub counts : AlleleCounts w (z .s .n) ks
   pub ph-long : z .s .n ≤ length ph
-  pub ph-are : (v : ℕ) → v < z .s .n → getD ph v 0 ≡ cond (input .phased v) 1 0
-  pub hap-is : state .hap ≡ input .start
+  pub ph-are : (v : ℕ) → v < z .s .n → getD ph v 0 ≡ cond (phased v) 1 0
   pub liks-long : length (state .lik) ≡ 2 * z .s .f
   pub post-long : 9 * z .s .n ≤ length (state .post)
 
--- there is an input of which P holds
-pub record SomeRun (P : RunInput → Type 0) : Type 0 where
-  pub input : RunInput
-  pub holds : P input
+-- there are phased variants of which P holds
+pub record SomePhased (P : (ℕ → Bool) → Type 0) : Type 0 where
+  pub phased : ℕ → Bool
+  pub holds : P phased
 
 -- what the sweeps leave, with the scores of each variant's latest visit not normalised yet
 pub record RunMade (input : RunInput) (before after : SweepState) (r : RoundAnswer) : Type 0 where
@@ -126,20 +118,24 @@ pub record RunMade (input : RunInput) (before after : SweepState) (r : RoundAnsw
   pub liks : Liks (sweepCase input) (after .hap) (after .lik)
   pub scores : after .post ≡ posts rawScores (sweepCase input) (orderOfSweep input) (input .start) (before .post) (r .sweeps)
 
--- what a run promises of every input that it is given
+-- what a run promises of the phased variants, whichever the flags say
 abbrev pub RunPromise : List ℤ → List ℕ → Rates → RoundSizes → List ℕ → List ℕ → List ℕ → SweepState → SweepState → RoundAnswer → Type 0
-RunPromise w b rates z ks ph orders before after r = (input : RunInput) → RunGiven w b rates z ks ph orders before input → RunMade input before after r
+RunPromise w b rates z ks ph orders before after r =
+    (phased : ℕ → Bool) → RunGiven w b rates z ks ph orders before phased → RunMade (runInput w b rates phased (before .hap) orders (z .limit)) before after r
 
--- the same where the scratch is prepared
-pub record PreparedRun (z : RoundSizes) (ks ph : List ℕ) (x : Scratch) (orders : List ℕ) (state : SweepState) (input : RunInput) : Type 0 where
+-- the same where the scratch is prepared: there is a case that it was prepared for
+pub record PreparedRun (z : RoundSizes) (ks ph : List ℕ) (x : Scratch) (orders : List ℕ) (state : SweepState) : Type 0 where
   pub words : List ℤ
   pub bases : List ℕ
   pub rates : Rates
-  pub given : RunGiven words bases rates z ks ph orders state input
+  pub phased : ℕ → Bool
+  pub given : RunGiven words bases rates z ks ph orders state phased
   pub prepared : Prepared words bases rates (z .s) x
 
+-- and the promise is about every such case
 abbrev pub PreparedPromise : RoundSizes → List ℕ → List ℕ → Scratch → List ℕ → SweepState → SweepState → RoundAnswer → Type 0
-PreparedPromise z ks ph x orders before after r = (input : RunInput) → PreparedRun z ks ph x orders before input → RunMade input before after r
+PreparedPromise z ks ph x orders before after r =
+    (p : PreparedRun z ks ph x orders before) → RunMade (runInput (p .words) (p .bases) (p .rates) (p .phased) (before .hap) orders (z .limit)) before after r
 
 -- ---- the whole round
 -- room for the round in the lent slices

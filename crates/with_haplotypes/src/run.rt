@@ -5,7 +5,7 @@ ghost use lib.Dec.{eqb};
 ghost use lib.ListN.{length};
 ghost use Rattle.variants_and_fragments.specs.Accepted.{allb};
 ghost use Rattle.call_genotypes.specs.Scores.{sweepState};
-ghost use Rattle.with_haplotypes.specs.Steps.{scratch, PreparedRun, PreparedPromise, SomeRun};
+ghost use Rattle.with_haplotypes.specs.Steps.{scratch, PreparedRun, PreparedPromise};
 use crate::RoundAnswer;
 use crate::RoundSizes;
 use call_genotypes::run::Plan;
@@ -38,7 +38,7 @@ pub fn run_prepared(
     lik: &mut [i64],
     post: &mut [i64],
 ) -> RoundAnswer
-    requires { ⌜ SomeRun (PreparedRun z (now ks) (now ph) (scratch (now rows) (now «row_ends») (now piles) (now «pile_ends») (now pri)) (now orders) (sweepState (now hap) (now lik) (now post))) ⌝ }
+    requires { ⌜ PreparedRun z (now ks) (now ph) (scratch (now rows) (now «row_ends») (now piles) (now «pile_ends») (now pri)) (now orders) (sweepState (now hap) (now lik) (now post)) ⌝ }
     ensures { λ r. ⌜ PreparedPromise z (now (ks .entry)) (now (ph .entry)) (scratch (now (rows .entry)) (now («row_ends» .entry)) (now (piles .entry)) (now («pile_ends» .entry)) (now (pri .entry))) (now (orders .entry)) (sweepState (now (hap .entry)) (now (lik .entry)) (now (post .entry))) (sweepState (now (hap .exit)) (now (lik .exit)) (now (post .exit))) r ⌝ }
 {
     let s = z.s;

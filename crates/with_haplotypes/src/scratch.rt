@@ -2,7 +2,7 @@
 ghost use mathlib.Core.Path.{_≡_};
 ghost use Prim.Native.Nat.{_≤_};
 ghost use Rattle.call_genotypes.specs.Scores.{sweepState};
-ghost use Rattle.with_haplotypes.specs.Steps.{RunGiven, RunPromise, SomeRun};
+ghost use Rattle.with_haplotypes.specs.Steps.{RunGiven, RunPromise, SomePhased};
 use crate::RoundAnswer;
 use crate::RoundSizes;
 use crate::prepare::prepare;
@@ -30,7 +30,7 @@ fn run_large(
     lik: &mut [i64],
     post: &mut [i64],
 ) -> RoundAnswer
-    requires { ⌜ SomeRun (RunGiven (now words) (now bases) rates z (now ks) (now ph) (now orders) (sweepState (now hap) (now lik) (now post))) ⌝ }
+    requires { ⌜ SomePhased (RunGiven (now words) (now bases) rates z (now ks) (now ph) (now orders) (sweepState (now hap) (now lik) (now post))) ⌝ }
     ensures { λ r. ⌜ RunPromise (now (words .entry)) (now (bases .entry)) rates z (now (ks .entry)) (now (ph .entry)) (now (orders .entry)) (sweepState (now (hap .entry)) (now (lik .entry)) (now (post .entry))) (sweepState (now (hap .exit)) (now (lik .exit)) (now (post .exit))) r ⌝ }
 {
     let mut rows = call_words();
@@ -78,7 +78,7 @@ fn run_small(
     lik: &mut [i64],
     post: &mut [i64],
 ) -> RoundAnswer
-    requires { ⌜ SomeRun (RunGiven (now words) (now bases) rates z (now ks) (now ph) (now orders) (sweepState (now hap) (now lik) (now post))) ⌝ }
+    requires { ⌜ SomePhased (RunGiven (now words) (now bases) rates z (now ks) (now ph) (now orders) (sweepState (now hap) (now lik) (now post))) ⌝ }
     requires { ⌜ (z .s .c ≤ 1024) × (z .s .n ≤ 128) × (z .s .f ≤ 512) ⌝ }
     ensures { λ r. ⌜ RunPromise (now (words .entry)) (now (bases .entry)) rates z (now (ks .entry)) (now (ph .entry)) (now (orders .entry)) (sweepState (now (hap .entry)) (now (lik .entry)) (now (post .entry))) (sweepState (now (hap .exit)) (now (lik .exit)) (now (post .exit))) r ⌝ }
 {
@@ -127,7 +127,7 @@ pub fn run_in_scratch(
     lik: &mut [i64],
     post: &mut [i64],
 ) -> RoundAnswer
-    requires { ⌜ SomeRun (RunGiven (now words) (now bases) rates z (now ks) (now ph) (now orders) (sweepState (now hap) (now lik) (now post))) ⌝ }
+    requires { ⌜ SomePhased (RunGiven (now words) (now bases) rates z (now ks) (now ph) (now orders) (sweepState (now hap) (now lik) (now post))) ⌝ }
     ensures { λ r. ⌜ RunPromise (now (words .entry)) (now (bases .entry)) rates z (now (ks .entry)) (now (ph .entry)) (now (orders .entry)) (sweepState (now (hap .entry)) (now (lik .entry)) (now (post .entry))) (sweepState (now (hap .exit)) (now (lik .exit)) (now (post .exit))) r ⌝ }
 {
     let s = z.s;
