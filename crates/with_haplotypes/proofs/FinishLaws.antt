@@ -21,20 +21,20 @@ use Rattle.variants_and_fragments.specs.Written.{written}
 use Rattle.variants_and_fragments.proofs.Decoded.{tabulate-at, fragments-are}
 use Rattle.variants_and_fragments.proofs.GoodCases.{good-case}
 use Rattle.variants_and_fragments.proofs.Written.{written-length, written-at, written-past}
-use Rattle.genotype_probs.specs.Posteriors.{normalized, TableAt}
+use Rattle.genotype_probs.specs.Posteriors.{normalized, TableAt, mirror, isOther, others, otherSum}
 use Rattle.genotype_probs.proofs.AlleleLaws.{nine}
 use Rattle.genotype_probs.proofs.Maxima.{genotype-maximum}
-use Rattle.haplotype_assembly.specs.Phase.{phasedFlags}
+use Rattle.genotype_probs.specs.declared.Rates.{Rates}
 use Rattle.haplotype_assembly.proofs.Decodes.{written-same}
 use Rattle.sweeps.specs.Sweeps.{SweepCase, GoodSweepCase, allele0, likelihood, score}
 use Rattle.sweeps.specs.Demand3.{Demand3}
 use Rattle.sweeps.specs.Posts.{posts}
 use Rattle.sweeps.proofs.Basics.{lik-cong}
 use Rattle.sweeps.proofs.Posts.{length-posts}
-use Rattle.with_haplotypes.specs.Finals.{mirror, isOther, others, otherSum, finalOf, finalAt, TablesIn, FinalsWritten}
+use Rattle.with_haplotypes.specs.Finals.{finalOf, finalAt, TablesIn, FinalsWritten}
 use Rattle.likelihoods.specs.Likelihoods.{alleleOn}
 use Rattle.call_genotypes.specs.Runs.{resultOf}
-use Rattle.call_genotypes.specs.Scores.{rawScores}
+use Rattle.call_genotypes.specs.Scores.{rawScores, SweepState}
 use Rattle.with_haplotypes.specs.NormalizedPosteriors.{normalizedAt, TablesAt}
 use Rattle.genotype_probs.proofs.SameTables.{genotype-same}
 use Rattle.likelihoods.proofs.HeldCases.{alleles-are}
@@ -42,10 +42,11 @@ use Rattle.with_haplotypes.proofs.NormalizedTables.{normalized-here, no
 use Rattle.genotype_probs.proofs.TableSizes.{normal-size}
 use Rattle.likelihoods.proofs.SweepCases as cases
 use Rattle.with_haplotypes.specs.declared.RoundAnswer.{RoundAnswer}
-use Rattle.with_haplotypes.specs.Round.{RoundInput, case, sweepCase, start, orderOfSweep, result, returned, haplotypeAt, likelihoodAt, latestScore, posteriors, posteriorAt, final}
-use Rattle.with_haplotypes.specs.Steps.{Admitted, AlleleCounts, RoundRan}
+use Rattle.with_haplotypes.specs.declared.RoundSizes.{RoundSizes}
+use Rattle.with_haplotypes.specs.Round.{RunInput, runInput, sweepCase, orderOfSweep, result, returned, haplotypeAt, likelihoodAt, latestScore, posteriors, posteriorAt, final}
+use Rattle.with_haplotypes.specs.Steps.{CaseGiven, OrdersGiven, AlleleCounts, RunMade}
 use Rattle.with_haplotypes.proofs.Latest.{posts-latest, posts-past}
-use Rattle.with_haplotypes.proofs.RoundLaws.{known, variants-counted, orders-good}
+use Rattle.with_haplotypes.proofs.RunLaws.{known, variants-counted, orders-good}
 use Rattle.with_haplotypes.proofs.ScoreBounds.{number-small}
 
 -- ---- a final answer reads the k × k entries of its table
@@ -90,57 +91,66 @@ module _ {X : Type 0} (g : ℕ → X) (d : X) (n : ℕ) (l part : List X) (room 
       ext-getD d joined (written g n l) (length-append part (drop n l) ∙ omega (arith, length-drop n l, written-length g n l)) (λ e h. joined-at e)
 
 -- ---- the scores that stand
-module _ {input : RoundInput} {s : Sizes} {m : ℕ} (A : Admitted input s m) {ks : List ℕ} (K : AlleleCounts (input .words) (s .n) ks) where
+module _ {w : List ℤ} {b : List ℕ} {rates : Rates} {z : RoundSizes} (G : CaseGiven w b rates (z .s)) (phased : ℕ → Bool) (from orders : List ℕ) (o : OrdersGiven orders z) {ks : List ℕ} (K : AlleleCounts w (z .z .s .n) ks) where
+  abbrev input : RunInput
+  input = runInput w b rates phased from orders (z .limit)
+
   abbrev C : SweepCase
   C = sweepCase input
 
   good : GoodSweepCase C
-  unfolding sweepCase case
-  good = cases.good-sweep-case (input .rates) (phasedFlags (decode (input .words) (input .bases)) (input .phase)) (decode (input .words) (input .bases)) (good-case (input .words) (input .bases) s (A .accepted))
+  unfolding sweepCase
+  good = cases.good-sweep-case rates phased (decode w b) (good-case w b (z .s) (G .accepted))
 
   -- v's number of alleles, in the words, in the slice and in the case
-  k-is : (v : ℕ) → v < s .n → C .k v ≡ alleleCountAt (input .words) v
-  unfolding sweepCase case
-  k-is v h = alleles-are (input .rates) (phasedFlags (decode (input .words) (input .bases)) (input .phase)) (input .words) (input .bases) s (A .accepted) v h
+  k-is : (v : ℕ) → v < z .s .n → C .k v ≡ alleleCountAt w v
+  unfolding sweepCase
+  k-is v h = alleles-are rates phased w b (z .s) (G .accepted) v h
 
-  k-held : (v : ℕ) → v < s .n → getD ks v 0 ≡ C .k v
-  k-held v h = ap (λ (l : List ℕ). getD l v 0) (K .written-is) ∙ written-at (alleleCountAt (input .words)) (s .n) (K .was) 0 (K .room) v h ∙ sym (k-is v h)
+  k-held : (v : ℕ) → v < z .s .n → getD ks v 0 ≡ C .k v
+  k-held v h = ap (λ (l : List ℕ). getD l v 0) (K .written-is) ∙ written-at (alleleCountAt w) (z .s .n) (K .was) 0 (K .room) v h ∙ sym (k-is v h)
 
-  k-here : (v : ℕ) → C .k v ≡ alleleCount (variantOf (case input) v)
+  k-here : (v : ℕ) → C .k v ≡ alleleCount (variantOf (decode w b) v)
   unfolding sweepCase Rattle.likelihoods.specs.SweepCaseOf.sweepCaseOf
   k-here v = refl
 
   score-small : (v : ℕ) (h : List ℕ) (g : ℕ) → natAbs (score C v h g) ≤ 2 ^ 36
-  unfolding sweepCase case
-  score-small = number-small (input .rates) (phasedFlags (decode (input .words) (input .bases)) (input .phase)) (input .words) (input .bases) s (A .accepted) (A .good-rates)
+  unfolding sweepCase
+  score-small = number-small rates phased w b (z .s) (G .accepted) (G .good-rates)
 
-  module _ {post raw : List ℤ} {r : RoundAnswer} {hap' : List ℕ} {lik' : List ℤ} (R : RoundRan input post r hap' lik' raw) (room : 9 * s .n ≤ length post) where
+  module _ {before after : SweepState} {r : RoundAnswer} (R : RunMade input before after r) (room : 9 * z .s .n ≤ length (before .post)) where
+    abbrev post : List ℤ
+    post = before .post
+
+    abbrev raw : List ℤ
+    raw = after .post
+
     raw-long : length raw ≡ length post
-    raw-long = ap length (R .scores) ∙ length-posts rawScores C (orderOfSweep input) (start input) post (r .sweeps)
+    raw-long = ap length (R .scores) ∙ length-posts rawScores C (orderOfSweep input) from post (r .sweeps)
 
-    raw-at : (v p : ℕ) → v < s .n → p < C .k v * C .k v → getD raw (9 * v + p) (pos 0) ≡ latestScore input v p
+    raw-at : (v p : ℕ) → v < z .s .n → p < C .k v * C .k v → getD raw (9 * v + p) (pos 0) ≡ latestScore input v p
     unfolding latestScore
     raw-at v p h l =
         let last = R .demand3 .ends .last in
         let e = R .demand3 .ends .counted in
-        let n = variants-counted A in
+        let n = variants-counted G phased from orders (z .limit) in
         let q : result input .sweeps - 1 ≡ last = omega (arith, ap (λ x. x .sweeps) (R .result-is)) in
-        ap (λ (x : List ℤ). getD x (9 * v + p) (pos 0)) (R .scores ∙ ap (posts rawScores C (orderOfSweep input) (start input) post) e)
-        ∙ posts-latest C good (orderOfSweep input) (orders-good A) (start input) post (omega arith) last v p (omega arith) l
+        ap (λ (x : List ℤ). getD x (9 * v + p) (pos 0)) (R .scores ∙ ap (posts rawScores C (orderOfSweep input) from post) e)
+        ∙ posts-latest C good (orderOfSweep input) (orders-good G phased from orders (z .limit) o) from post (omega arith) last v p (omega arith) l
         ∙ rw q
 
-    raw-past : (e : ℕ) → 9 * s .n ≤ e → getD raw e (pos 0) ≡ getD post e (pos 0)
-    raw-past e h = ap (λ (x : List ℤ). getD x e (pos 0)) (R .scores) ∙ posts-past C good (orderOfSweep input) (orders-good A) (start input) post (r .sweeps) e (pos 0) (omega (arith, variants-counted A))
+    raw-past : (e : ℕ) → 9 * z .s .n ≤ e → getD raw e (pos 0) ≡ getD post e (pos 0)
+    raw-past e h = ap (λ (x : List ℤ). getD x e (pos 0)) (R .scores) ∙ posts-past C good (orderOfSweep input) (orders-good G phased from orders (z .limit) o) from post (r .sweeps) e (pos 0) (omega (arith, variants-counted G phased from orders (z .limit)))
 
-    raw-small : (v p : ℕ) → v < s .n → p < C .k v * C .k v → natAbs (getD raw (9 * v + p) (pos 0)) ≤ 2 ^ 36
+    raw-small : (v p : ℕ) → v < z .s .n → p < C .k v * C .k v → natAbs (getD raw (9 * v + p) (pos 0)) ≤ 2 ^ 36
     unfolding latestScore
     raw-small v p h l = rw (raw-at v p h l) (score-small v _ p)
 
-    pub tables-at : TablesAt ks raw (s .n)
+    pub tables-at : TablesAt ks raw (z .s .n)
     tables-at = record {
-      ks-long = omega (arith, ap length (K .written-is), written-length (alleleCountAt (input .words)) (s .n) (K .was), K .room);
+      ks-long = omega (arith, ap length (K .written-is), written-length (alleleCountAt w) (z .s .n) (K .was), K .room);
       long = omega (arith, raw-long);
-      each = λ v h. let n = variants-counted A in
+      each = λ v h. let n = variants-counted G phased from orders (z .limit) in
           rw (k-held v h) (record {
             k-low = good .some-allele v (omega arith);
             k-high = good .three-alleles v (omega arith);
@@ -151,10 +161,10 @@ module _ {input : RoundInput} {s : Sizes} {m : ℕ} (A : Admitted input s m) {ks
 
     -- ---- the posteriors
     -- what normalising makes of variant v's scores, place p
-    normal-is : (v p : ℕ) → v < s .n → p < 9 → normalized (drop (9 * v) raw) (getD ks v 0) p ≡ getD (posteriors input v) p (pos 0)
+    normal-is : (v p : ℕ) → v < z .s .n → p < 9 → normalized (drop (9 * v) raw) (getD ks v 0) p ≡ getD (posteriors input v) p (pos 0)
     unfolding posteriors
     normal-is v p h l =
-        let k = alleleCount (variantOf (case input) v) in
+        let k = alleleCount (variantOf (decode w b) v) in
         let e : getD ks v 0 ≡ k = k-held v h ∙ k-here v in
         let scores = tabulate (k * k) (latestScore input v) in
         ap (λ (x : ℕ). normalized (drop (9 * v) raw) x p) e
@@ -162,105 +172,114 @@ module _ {input : RoundInput} {s : Sizes} {m : ℕ} (A : Admitted input s m) {ks
         (λ q j. getD-drop (9 * v) raw q (pos 0) ∙ raw-at v q h (rw (k-here v) j) ∙ sym (tabulate-at (k * k) (latestScore input v) q (pos 0) j)) p
         ∙ sym (tabulate-at 9 (normalized scores k) p (pos 0) l)
 
-    module _ {post' : List ℤ} (done : post' ≡ written (normalizedAt ks raw) (9 * s .n) raw) where
-      after-at : (v p : ℕ) → v < s .n → p < 9 → getD post' (9 * v + p) (pos 0) ≡ getD (posteriors input v) p (pos 0)
+    module _ {post' : List ℤ} (done : post' ≡ written (normalizedAt ks raw) (9 * z .s .n) raw) where
+      after-at : (v p : ℕ) → v < z .s .n → p < 9 → getD post' (9 * v + p) (pos 0) ≡ getD (posteriors input v) p (pos 0)
       after-at v p h l =
           ap (λ (x : List ℤ). getD x (9 * v + p) (pos 0)) done
-          ∙ normalized-here ks raw (s .n) v p (omega (arith, raw-long)) h l
+          ∙ normalized-here ks raw (z .s .n) v p (omega (arith, raw-long)) h l
           ∙ normal-is v p h l
 
       after-long : length post' ≡ length post
-      after-long = ap length done ∙ written-length (normalizedAt ks raw) (9 * s .n) raw ∙ raw-long
+      after-long = ap length done ∙ written-length (normalizedAt ks raw) (9 * z .s .n) raw ∙ raw-long
 
-      element-is : (e : ℕ) → getD post' e (pos 0) ≡ getD (written (posteriorAt input) (9 * s .n) post) e (pos 0)
+      element-is : (e : ℕ) → getD post' e (pos 0) ≡ getD (written (posteriorAt input) (9 * z .s .n) post) e (pos 0)
       unfolding posteriorAt
-      element-is e = elim (decLt e (9 * s .n)) [
+      element-is e = elim (decLt e (9 * z .s .n)) [
         | yes h ↦ let q : 9 * (e / 9) + e % 9 ≡ e = omega arith in
-            sym (ap (λ (i : ℕ). getD post' i (pos 0)) q) ∙ after-at (e / 9) (e % 9) (omega arith) (omega arith) ∙ sym (written-at (posteriorAt input) (9 * s .n) post (pos 0) room e h)
-        | no h ↦ let l : 9 * s .n ≤ e = omega arith in
-            ap (λ (x : List ℤ). getD x e (pos 0)) done ∙ written-past (normalizedAt ks raw) (9 * s .n) raw (pos 0) e l ∙ raw-past e l ∙ sym (written-past (posteriorAt input) (9 * s .n) post (pos 0) e l)
+            sym (ap (λ (i : ℕ). getD post' i (pos 0)) q) ∙ after-at (e / 9) (e % 9) (omega arith) (omega arith) ∙ sym (written-at (posteriorAt input) (9 * z .s .n) post (pos 0) room e h)
+        | no h ↦ let l : 9 * z .s .n ≤ e = omega arith in
+            ap (λ (x : List ℤ). getD x e (pos 0)) done ∙ written-past (normalizedAt ks raw) (9 * z .s .n) raw (pos 0) e l ∙ raw-past e l ∙ sym (written-past (posteriorAt input) (9 * z .s .n) post (pos 0) e l)
       ]
 
-      pub posteriors-written : post' ≡ written (posteriorAt input) (9 * s .n) post
-      posteriors-written = ext-getD (pos 0) post' (written (posteriorAt input) (9 * s .n) post) (after-long ∙ sym (written-length (posteriorAt input) (9 * s .n) post)) (λ e h. element-is e)
+      pub posteriors-written : post' ≡ written (posteriorAt input) (9 * z .s .n) post
+      posteriors-written = ext-getD (pos 0) post' (written (posteriorAt input) (9 * z .s .n) post) (after-long ∙ sym (written-length (posteriorAt input) (9 * z .s .n) post)) (λ e h. element-is e)
 
-      after-small : (v p : ℕ) → v < s .n → p < 9 → natAbs (getD post' (9 * v + p) (pos 0)) ≤ 2 ^ 40
+      after-small : (v p : ℕ) → v < z .s .n → p < 9 → natAbs (getD post' (9 * v + p) (pos 0)) ≤ 2 ^ 40
       after-small v p h l =
-          let n = variants-counted A in
+          let n = variants-counted G phased from orders (z .limit) in
           let small : (q : ℕ) → q < getD ks v 0 * getD ks v 0 → natAbs (getD (drop (9 * v) raw) q (pos 0)) ≤ 2 ^ 36 = λ q j. rw (getD-drop (9 * v) raw q (pos 0)) (raw-small v q h (rw (← k-held v h) j)) in
           let top : getD ks v 0 ≤ 3 = omega (arith, k-held v h, good .three-alleles v (omega arith)) in
-          omega (arith, ap natAbs (ap (λ (x : List ℤ). getD x (9 * v + p) (pos 0)) done ∙ normalized-here ks raw (s .n) v p (omega (arith, raw-long)) h l), normal-size (2 ^ 36) (drop (9 * v) raw) (getD ks v 0) top small p)
+          omega (arith, ap natAbs (ap (λ (x : List ℤ). getD x (9 * v + p) (pos 0)) done ∙ normalized-here ks raw (z .s .n) v p (omega (arith, raw-long)) h l), normal-size (2 ^ 36) (drop (9 * v) raw) (getD ks v 0) top small p)
 
-      pub tables-in : TablesIn (input .words) post' (s .n)
+      pub tables-in : TablesIn w post' (z .s .n)
       tables-in v h =
-          let n = variants-counted A in
+          let n = variants-counted G phased from orders (z .limit) in
           let e = k-is v h in
           let t = good .three-alleles v (omega arith) in
           record {
             k-low = omega (arith, good .some-allele v (omega arith));
             k-high = omega arith;
             inside = omega (arith, after-long);
-            small = λ p l. after-small v p h (omega (arith, nine (alleleCountAt (input .words) v) (omega arith)));
+            small = λ p l. after-small v p h (omega (arith, nine (alleleCountAt w v) (omega arith)));
           }
 
       -- ---- the final answers
-      final-is : (v : ℕ) → v < s .n → finalAt (input .words) post' v ≡ final input v
+      final-is : (v : ℕ) → v < z .s .n → finalAt w post' v ≡ final input v
       unfolding finalAt final
       final-is v h =
-          let n = variants-counted A in
-          let k = alleleCount (variantOf (case input) v) in
-          let e : alleleCountAt (input .words) v ≡ k = sym (k-is v h) ∙ k-here v in
+          let n = variants-counted G phased from orders (z .limit) in
+          let k = alleleCount (variantOf (decode w b) v) in
+          let e : alleleCountAt w v ≡ k = sym (k-is v h) ∙ k-here v in
           let t = nine k (omega (arith, good .three-alleles v (omega arith), k-here v)) in
           ap (finalOf (drop (9 * v) post')) e
           ∙ final-same (drop (9 * v) post') (posteriors input v) k (omega (arith, good .some-allele v (omega arith), k-here v))
           (λ p l. getD-drop (9 * v) post' p (pos 0) ∙ after-at v p h (omega arith))
 
-      module _ {quals gqs quals' gqs' : List Float} (F : FinalsWritten (input .words) post' (s .n) quals gqs quals' gqs') where
-        pub quals-written : quals' ≡ written (λ v. final input v .qual) (s .n) quals
-        quals-written = F .quals-are ∙ written-same (λ v. finalAt (input .words) post' v .qual) (λ v. final input v .qual) (s .n) quals (λ v h. ap (λ x. x .qual) (final-is v h))
+      module _ {quals gqs quals' gqs' : List Float} (F : FinalsWritten w post' (z .s .n) quals gqs quals' gqs') where
+        pub quals-written : quals' ≡ written (λ v. final input v .qual) (z .s .n) quals
+        quals-written = F .quals-are ∙ written-same (λ v. finalAt w post' v .qual) (λ v. final input v .qual) (z .s .n) quals (λ v h. ap (λ x. x .qual) (final-is v h))
 
-        pub gqs-written : gqs' ≡ written (λ v. final input v .gq) (s .n) gqs
-        gqs-written = F .gqs-are ∙ written-same (λ v. finalAt (input .words) post' v .gq) (λ v. final input v .gq) (s .n) gqs (λ v h. ap (λ x. x .gq) (final-is v h))
+        pub gqs-written : gqs' ≡ written (λ v. final input v .gq) (z .s .n) gqs
+        gqs-written = F .gqs-are ∙ written-same (λ v. finalAt w post' v .gq) (λ v. final input v .gq) (z .s .n) gqs (λ v h. ap (λ x. x .gq) (final-is v h))
 
 -- ---- the haplotypes and the likelihoods, of which the fronts were lent
-module _ {input : RoundInput} {s : Sizes} {m : ℕ} (A : Admitted input s m) {post raw : List ℤ} {r : RoundAnswer} {hap' : List ℕ} {lik' : List ℤ} (R : RoundRan input post r hap' lik' raw) where
+module _ {w : List ℤ} {b : List ℕ} {rates : Rates} {z : RoundSizes} (G : CaseGiven w b rates (z .s)) (phased : ℕ → Bool) (from orders : List ℕ) {before after : SweepState} {r : RoundAnswer} (R : RunMade (runInput w b rates phased from orders (z .limit)) before after r) where
+  abbrev input : RunInput
+  input = runInput w b rates phased from orders (z .limit)
+
+  abbrev hap' : List ℕ
+  hap' = after .hap
+
+  abbrev lik' : List ℤ
+  lik' = after .lik
+
   haps-are : result input .haps ≡ hap'
   haps-are = ap (λ x. x .haps) (R .result-is)
 
-  pub haplotypes-written : (l : List ℕ) (a : ℕ) → a ≡ 2 * s .n → 2 * s .n ≤ length l → length hap' ≡ 2 * s .n → hap' ++ drop a l ≡ written (haplotypeAt input) (2 * s .n) l
+  pub haplotypes-written : (l : List ℕ) (a : ℕ) → a ≡ 2 * z .s .n → 2 * z .s .n ≤ length l → length hap' ≡ 2 * z .s .n → hap' ++ drop a l ≡ written (haplotypeAt input) (2 * z .s .n) l
   unfolding haplotypeAt
-  haplotypes-written l a w h e = rw w (front-written (haplotypeAt input) 0 (2 * s .n) l hap' h e (λ i k. rw haps-are))
+  haplotypes-written l a w h e = rw w (front-written (haplotypeAt input) 0 (2 * z .s .n) l hap' h e (λ i k. rw haps-are))
 
   -- demand 3 of what is returned and written
-  pub demand3-written : (l : List ℕ) (a : ℕ) → length hap' ≡ 2 * s .n
-      → Demand3 (sweepCase input) (orderOfSweep input) (input .limit) (start input) (resultOf (r .sweeps) (r .settled) (take (2 * s .n) (hap' ++ drop a l)))
-  demand3-written l a e = rw (take-at hap' (drop a l) (2 * s .n) e) (R .demand3)
+  pub demand3-written : (l : List ℕ) (a : ℕ) → length hap' ≡ 2 * z .s .n
+      → Demand3 (sweepCase input) (orderOfSweep input) (z .limit) from (resultOf (r .sweeps) (r .settled) (take (2 * z .s .n) (hap' ++ drop a l)))
+  demand3-written l a e = rw (take-at hap' (drop a l) (2 * z .s .n) e) (R .demand3)
 
-  fragments-counted : length (sweepCase input .frags) ≡ s .f
-  unfolding sweepCase case
+  fragments-counted : length (sweepCase input .frags) ≡ z .s .f
+  unfolding sweepCase
   fragments-counted =
-      cases.frags-length (input .rates) (phasedFlags (decode (input .words) (input .bases)) (input .phase)) (decode (input .words) (input .bases))
-      ∙ fragments-are (known A) (input .bases)
+      cases.frags-length rates phased (decode w b)
+      ∙ fragments-are (known G) b
 
   -- a read's likelihood on haplotype 0 or 1
   first-is : (cs : List Call) → likelihood (sweepCase input .phased) (alleleOn hap' 0) cs ≡ likelihood (sweepCase input .phased) (allele0 hap') cs
   first-is cs = lik-cong (sweepCase input .phased) (sweepCase input .phased) (alleleOn hap' 0) (allele0 hap') cs (λ v t. refl) (λ v t u. ap (λ (i : ℕ). getD hap' i 0) (omega arith))
 
-  likelihood-is : (e b : ℕ) → e % 2 ≡ b → b < 2 → e < 2 * s .f → getD lik' e (pos 0) ≡ likelihoodAt input e
+  likelihood-is : (e b : ℕ) → e % 2 ≡ b → b < 2 → e < 2 * z .s .f → getD lik' e (pos 0) ≡ likelihoodAt input e
   unfolding likelihoodAt
   likelihood-is e zero q l h =
       let w : 2 * (e / 2) ≡ e = omega arith in
       let i : e / 2 < length (sweepCase input .frags) = omega (arith, fragments-counted) in
-      sym (ap (λ (x : ℕ). getD lik' x (pos 0)) w) ∙ R .liks .firsts (e / 2) i ∙ sym (first-is (getD (sweepCase input .frags) (e / 2) [])) ∙ rw (haps-are, q)
+      sym (ap (λ (x : ℕ). getD lik' x (pos 0)) w) ∙ R .likz .s .firsts (e / 2) i ∙ sym (first-is (getD (sweepCase input .frags) (e / 2) [])) ∙ rw (haps-are, q)
   likelihood-is e (suc zero) q l h =
       let w : 2 * (e / 2) + 1 ≡ e = omega arith in
       let i : e / 2 < length (sweepCase input .frags) = omega (arith, fragments-counted) in
       sym (ap (λ (x : ℕ). getD lik' x (pos 0)) w) ∙ R .liks .seconds (e / 2) i ∙ rw (haps-are, q)
   likelihood-is e (suc (suc b)) q l h = absurd (omega arith)
 
-  pub likelihoods-written : (l : List ℤ) (a : ℕ) → a ≡ 2 * s .f → 2 * s .f ≤ length l → lik' ++ drop a l ≡ written (likelihoodAt input) (2 * s .f) l
+  pub likelihoods-written : (l : List ℤ) (a : ℕ) → a ≡ 2 * z .s .f → 2 * z .s .f ≤ length l → lik' ++ drop a l ≡ written (likelihoodAt input) (2 * z .s .f) l
   likelihoods-written l a w h =
-      rw w (front-written (likelihoodAt input) (pos 0) (2 * s .f) l lik' h (R .liks .long ∙ ap (λ (x : ℕ). 2 * x) fragments-counted) (λ e k. likelihood-is e (e % 2) refl (omega arith) k))
+      rw w (front-written (likelihoodAt input) (pos 0) (2 * z .s .f) l lik' h (R .liks .long ∙ ap (λ (x : ℕ). 2 * x) fragments-counted) (λ e k. likelihood-is e (e % 2) refl (omega arith) k))
 
   pub returned-is : r ≡ returned input
   unfolding returned

@@ -2,7 +2,7 @@ pub mod OrdersHeld
 pub mod Latest
 pub mod ScoreBounds
 pub mod CheckLaws
-pub mod RoundLaws
+pub mod RunLaws
 pub mod StartLaws
 pub mod FinishLaws
 pub mod RoundAnswers

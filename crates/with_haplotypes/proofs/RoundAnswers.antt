@@ -29,11 +29,12 @@ use Rattle.shuffle.proofs.GoodOrders.{unless-done, orders-good}
 use Rattle.genotype_probs.specs.Normalized.{firstNotNormal}
 use Rattle.genotype_probs.proofs.NormalizedLaws.{none-not-normal}
 use Rattle.with_haplotypes.specs.declared.RoundAnswer.{RoundAnswer}
+use Rattle.with_haplotypes.specs.declared.RoundSizes.{RoundSizes}
 use Rattle.with_haplotypes.specs.declared.Round.the-variants.{Done, Refused}
-use Rattle.with_haplotypes.specs.Round.{RoundInput, case, returned, posteriors, latestScore}
+use Rattle.with_haplotypes.specs.Round.{RoundInput, caseOfRound, runOf, returned, posteriors, latestScore}
 use Rattle.with_haplotypes.specs.Promise.{RoundSlices, roundShort, shortOfSlices, limitChecks, roundChecks, roundOutcome, outcomeOf, CalledWithHaplotypes}
 use Rattle.with_haplotypes.specs.Steps.{Admitted, RoundRoom, RoundMade}
-use Rattle.with_haplotypes.proofs.RoundLaws.{known}
+use Rattle.with_haplotypes.proofs.RunLaws.{known}
 
 -- ---- what passed the checks
 count-is : (n m : ℕ) (orders : List ℕ) → ordersOutcome n orders ≡ done m → m ≡ orderCount n (length orders)
@@ -85,7 +86,11 @@ module _ (input : RoundInput) (sets : List ℤ) (before : RoundSlices) where
   abbrev checksOf : Sizes → Outcome ℕ
   checksOf s = roundChecks (s .n) (input .rates) (input .phase) sets (input .orders) (input .limit) (shortOfSlices (s .n) (s .f) before)
 
-  pub admits : (s : Sizes) (m : ℕ) → caseOf (input .words) (input .bases) ≡ done s → checksOf s ≡ done m → Admitted input s m × RoundRoom s before
+  -- the sizes of a round
+  abbrev sizesOf : Sizes → ℕ → RoundSizes
+  sizesOf s m = record { s = s; m = m; limit = input .limit }
+
+  pub admits : (s : Sizes) (m : ℕ) → caseOf (input .words) (input .bases) ≡ done s → checksOf s ≡ done m → Admitted input (sizesOf s m) × RoundRoom s before
   unfolding roundChecks
   admits s m accepted e =
       let fault = phaseFault (s .n) (input .phase) sets in
@@ -93,13 +98,15 @@ module _ (input : RoundInput) (sets : List ℤ) (before : RoundSlices) where
       let b = unless-done (ltb (s .n) fault) 7 fault _ m (a .1) in
       let c = orders-passed (ordersOutcome (s .n) (input .orders)) (input .limit) (shortOfSlices (s .n) (s .f) before) m (b .1) in (
         record {
-          accepted = accepted;
-          good-rates = eqb-true (ratesFault (input .rates)) 7 (a .0);
+          given = record { accepted = accepted; good-rates = eqb-true (ratesFault (input .rates)) 7 (a .0) };
           phase-long = faultless (s .n) (input .phase) sets (ltb-true (s .n) fault (b .0)) .bytes-long;
-          good-orders = orders-good (s .n) m (input .orders) (c .0);
-          count-is = count-is (s .n) m (input .orders) (c .0);
-          limit-low = c .1 .limit-low;
-          limit-top = c .1 .limit-top;
+          good-orders = record {
+            good = orders-good (s .n) m (input .orders) (c .0);
+            count-is = count-is (s .n) m (input .orders) (c .0);
+            limit-low = c .1 .limit-low;
+            limit-top = c .1 .limit-top;
+          };
+          limit-is = refl;
         },
         slices-room s before (c .1 .none-short),
       )
@@ -129,29 +136,29 @@ module _ (input : RoundInput) (sets : List ℤ) (before : RoundSlices) where
 
   module _ (s : Sizes) (m : ℕ) (e : caseOf (input .words) (input .bases) ≡ done s) (q : checksOf s ≡ done m) where
     abbrev count : ℕ → ℕ
-    count v = alleleCount (variantOf (case input) v)
+    count v = alleleCount (variantOf (caseOfRound input) v)
 
     -- never 12
-    all-normal : firstNotNormal (posteriors input) count (s .n) ≡ s .n
-    unfolding case posteriors
+    all-normal : firstNotNormal (posteriors (runOf input)) count (s .n) ≡ s .n
+    unfolding posteriors
     all-normal =
         let g = good-case (input .words) (input .bases) s e in
         let A = admits s m e q .0 in
-        let n = variants-are (known A) (input .bases) in
-        none-not-normal (posteriors input) (λ v. tabulate (count v * count v) (latestScore input v)) count (s .n)
+        let n = variants-are (known (A .given)) (input .bases) in
+        none-not-normal (posteriors (runOf input)) (λ v. tabulate (count v * count v) (latestScore (runOf input) v)) count (s .n)
         (λ v h. g .variants-in v (omega arith) .some-allele)
-        (λ v h p l. tabulate-at 9 (normalized (tabulate (count v * count v) (latestScore input v)) (count v)) p (pos 0) (omega (arith, nine (count v) (g .variants-in v (omega arith) .three-alleles))))
+        (λ v h p l. tabulate-at 9 (normalized (tabulate (count v * count v) (latestScore (runOf input) v)) (count v)) p (pos 0) (omega (arith, nine (count v) (g .variants-in v (omega arith) .three-alleles))))
 
-    pub outcome-done : roundOutcome input sets before ≡ done (returned input)
+    pub outcome-done : roundOutcome input sets before ≡ done (returned (runOf input))
     unfolding roundOutcome andThen stop
     outcome-done = rw (e, q, all-normal, le-ltb (s .n) (s .n) (omega arith))
 
-    pub answer-done : (r : RoundAnswer) (after : RoundSlices) → RoundMade input s before r after → CalledWithHaplotypes input sets before (Done r) after
-    unfolding outcomeOf afterwards case
+    pub answer-done : (r : RoundAnswer) (after : RoundSlices) → RoundMade (runOf input) s before r after → CalledWithHaplotypes input sets before (Done r) after
+    unfolding outcomeOf afterwards
     answer-done r after M =
         let A = admits s m e q .0 in
-        let n = variants-are (known A) (input .bases) in
-        let f = fragments-are (known A) (input .bases) in
+        let n = variants-are (known (A .given)) (input .bases) in
+        let f = fragments-are (known (A .given)) (input .bases) in
         record {
           answer = ap done (M .returned-is) ∙ sym outcome-done;
           haplotypes-after = rw n (M .haplotypes-are);
