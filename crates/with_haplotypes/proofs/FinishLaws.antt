@@ -270,7 +270,7 @@ module _ {w : List ℤ} {b : List ℕ} {rates : Rates} {z : RoundSizes} (G : Cas
   likelihood-is e zero q l h =
       let w : 2 * (e / 2) ≡ e = omega arith in
       let i : e / 2 < length (sweepCase input .frags) = omega (arith, fragments-counted) in
-      sym (ap (λ (x : ℕ). getD lik' x (pos 0)) w) ∙ R .likz .s .firsts (e / 2) i ∙ sym (first-is (getD (sweepCase input .frags) (e / 2) [])) ∙ rw (haps-are, q)
+      sym (ap (λ (x : ℕ). getD lik' x (pos 0)) w) ∙ R .liks .firsts (e / 2) i ∙ sym (first-is (getD (sweepCase input .frags) (e / 2) [])) ∙ rw (haps-are, q)
   likelihood-is e (suc zero) q l h =
       let w : 2 * (e / 2) + 1 ≡ e = omega arith in
       let i : e / 2 < length (sweepCase input .frags) = omega (arith, fragments-counted) in
