@@ -1,21 +1,21 @@
 // One round of calling genotypes with haplotypes, after HapCUT2: document 01, sections 6 and 7.
 ghost use Rattle.with_haplotypes.specs.Round.{roundInput};
 ghost use Rattle.with_haplotypes.specs.Promise.{roundSlices, CalledWithHaplotypes};
+use crate::accepted::round_accepted;
 use crate::checks::RoundChecked;
 use crate::checks::round_checks;
 use crate::checks::round_short;
-use crate::round::round_accepted;
 use genotype_probs::Rates;
 use variants_and_fragments::Checked;
 use variants_and_fragments::Refusal;
 use variants_and_fragments::Sizes;
 use variants_and_fragments::check_case;
 
+mod accepted;
 mod checks;
 pub mod finals;
 mod normalized;
 mod prepare;
-mod round;
 mod run;
 mod scratch;
 
