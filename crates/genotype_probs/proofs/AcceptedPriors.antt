@@ -1,27 +1,23 @@
 -- Accepted rates and an accepted case: what the priors are made from.
 -- Assumes nothing.
 use mathlib.Core.Path.{_≡_}
-use mathlib.Core.Bool.{true}
 use mathlib.Core.List.{List}
 use Prim.Native.Nat.{ℕ, _≤_}
 use native.Mathlib.Omega.{arith}
 use lib.IntN.{ℤ, pos}
-use lib.ListN.{getD}
 use Rattle.variants_and_fragments.specs.declared.Sizes.{Sizes}
 use Rattle.variants_and_fragments.specs.Accepted.{CaseIn, BasesIn}
 use Rattle.variants_and_fragments.proofs.Decoded.{tabulate-length, tabulate-at}
-use Rattle.variants_and_fragments.proofs.First.{first-le}
 use Rattle.genotype_probs.specs.declared.Rates.{Rates}
 use Rattle.genotype_probs.specs.Places.{AllelesIn, TableIn}
 use Rattle.genotype_probs.specs.Priors.{tableEntry, priorTable}
-use Rattle.genotype_probs.specs.Rates.{rateTests, ratesFault}
+use Rattle.genotype_probs.specs.Rates.{ratesFault}
 use Rattle.genotype_probs.proofs.PriorBounds.{entry-down}
-use Rattle.genotype_probs.proofs.RateLaws.{rates-in}
+use Rattle.genotype_probs.proofs.RateLaws.{rates-in, fault-top}
 
 -- the place is at most 7
 pub rates-good : (rates : Rates) (p : ℕ) → p ≡ ratesFault rates → 7 ≤ p → ratesFault rates ≡ 7
-unfolding ratesFault
-rates-good rates p e h = omega (arith, first-le (λ i. getD (rateTests rates) i true) 7)
+rates-good rates p e h = omega (arith, fault-top rates)
 
 pub table-in : (rates : Rates) → ratesFault rates ≡ 7 → TableIn (priorTable rates)
 unfolding priorTable

@@ -31,7 +31,7 @@ unfolding alleleStart
 start-third w v = refl
 
 module _ (w : List ℤ) (b : List ℕ) (s : Sizes) (good : AllelesIn w b s) where
-  -- at most 64 bases an allele, 192 a variant
+  -- at most 64 bases per allele, 192 per variant
   pub length-high : (v j : ℕ) → v < s .n → j < 3 → lengthAt w v j ≤ 64
   length-high v zero h k = good .variants .each v h .len0
   length-high v (suc zero) h k = good .variants .each v h .len1

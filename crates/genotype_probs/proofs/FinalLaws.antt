@@ -13,7 +13,7 @@ use Rattle.steps.proofs.Marks.{log-size, size-steps}
 use Rattle.variants_and_fragments.specs.Decode.{tabulateFrom, tabulate}
 use Rattle.variants_and_fragments.specs.Pileup.{only}
 use Rattle.variants_and_fragments.proofs.Tabulated.{table-start, table-more, table-end}
-use Rattle.with_haplotypes.specs.Finals.{mirror, isOther, others, otherSum}
+use Rattle.genotype_probs.specs.Posteriors.{mirror, isOther, others, otherSum}
 
 -- ---- the test
 pub not-itself : (p m q : ℕ) → q ≡ p → isOther p m q ≡ false

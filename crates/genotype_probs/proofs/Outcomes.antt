@@ -1,4 +1,4 @@
--- The outcomes of the operation, one law for each way that it ends; and what its code needs of an accepted case and of the table.
+-- The outcomes of the operation, one law for each way that it ends.
 -- Assumes nothing.
 use mathlib.Core.Path.{_≡_, sym, ap, _∙_}
 use mathlib.Core.List.{List}
@@ -6,7 +6,7 @@ use Prim.Native.Nat.{ℕ, _*_, _≤_, _<_}
 use native.Mathlib.Omega.{arith}
 use borrow.Author.Tests.{le-leb, lt-leb}
 use lib.Dec.{leb}
-use lib.IntN.{ℤ, pos}
+use lib.IntN.{ℤ}
 use lib.ListN.{length}
 use Rattle.variants_and_fragments.specs.declared.Sizes.{Sizes}
 use Rattle.variants_and_fragments.specs.declared.Refusal.{Refusal}
@@ -16,32 +16,14 @@ use Rattle.variants_and_fragments.specs.Check.{caseOf}
 use Rattle.variants_and_fragments.specs.Decode.{decode}
 use Rattle.variants_and_fragments.specs.Written.{written}
 use Rattle.variants_and_fragments.proofs.Outcomes.{stop-at, stop-on}
-use Rattle.variants_and_fragments.proofs.Accepted.{case-in, bases-in}
-use Rattle.variants_and_fragments.proofs.Decoded.{tabulate-length, tabulate-at, variant-count}
+use Rattle.variants_and_fragments.proofs.Accepted.{case-in}
+use Rattle.variants_and_fragments.proofs.Decoded.{variant-count}
 use Rattle.genotype_probs.specs.declared.Rates.{Rates}
 use Rattle.genotype_probs.specs.declared.Priored.the-variants.{Done, Refused}
 use Rattle.genotype_probs.specs.Rates.{ratesFault}
-use Rattle.genotype_probs.specs.Priors.{tableEntry, priorTable, priorAt}
-use Rattle.genotype_probs.specs.Places.{TableIn, AllelesIn}
+use Rattle.genotype_probs.specs.Priors.{priorTable, priorAt}
 use Rattle.genotype_probs.specs.Answers.{outcomeOf, prioredOf, GenotypePriors}
-use Rattle.genotype_probs.proofs.RateLaws.{rates-in}
-use Rattle.genotype_probs.proofs.PriorBounds.{entry-down}
 
--- ---- what the code needs
-pub alleles-in : (w : List ℤ) (b : List ℕ) (s : Sizes) → caseOf w b ≡ done s → AllelesIn w b s
-alleles-in w b s e =
-    let c = case-in w b s e in
-    record { sized = c .sized; variants = c .variants; bases = bases-in w b s e .size }
-
-pub table-in : (rates : Rates) → ratesFault rates ≡ 7 → TableIn (priorTable rates)
-unfolding priorTable
-table-in rates e =
-    record {
-      size = tabulate-length 144 (tableEntry rates);
-      small = λ i h. rw (tabulate-at 144 (tableEntry rates) i (pos 0) h) (entry-down rates (rates-in rates e) i .most);
-    }
-
--- ---- the ways to end
 module _ (w : List ℤ) (b : List ℕ) (rates : Rates) (before : List ℤ) where
   -- refused, whatever the number: the slice is as it was
   pub refused-with : (x : Refusal) → refused (number x) (place x) ≡ prioredOf w b rates (length before) → GenotypePriors w b rates before (Refused x) before

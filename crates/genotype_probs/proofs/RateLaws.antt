@@ -1,8 +1,9 @@
 -- What accepted rates are, and the sizes of what is made of them: each rate lies in −262144..−1, `ln_one_minus_exp` of steps below 0 is at
 -- most 57,344 steps down. Assumes nothing.
 use mathlib.Core.Path.{_≡_, refl, sym, ap, _∙_}
-use mathlib.Core.Bool.{true, cond}
-use Prim.Native.Nat.{ℕ, _≤_, _<_, _^_}
+use mathlib.Core.Bool.{true, false}
+use Prim.Native.Nat.{ℕ, suc, _+_, _-_, _≤_, _<_, _^_}
+use native.Mathlib.Numerals.{add-one}
 use native.Mathlib.Omega.{arith}
 use borrow.Author.Tests.{leb-true}
 use lib.Dec.{leb}
@@ -66,10 +67,26 @@ pub fault-top : (rates : Rates) → ratesFault rates ≤ 7
 unfolding ratesFault
 fault-top rates = first-le (λ i. getD (rateTests rates) i true) 7
 
--- the tests one after the other
-pub fault-is : (rates : Rates) → ratesFault rates ≡ cond (rateOk (homSnv rates)) (cond (rateOk (hetSnv rates)) (cond (rateOk (homIndel rates)) (cond (rateOk (hetIndel rates)) (cond (rateOk (tsRate rates)) (cond (rateOk (tvRate rates)) (cond (ltZ (rateSum rates) (pos 0)) 7 6) 5) 4) 3) 2) 1) 0
-unfolding ratesFault rateTests firstFail firstFailFrom
-fault-is rates = refl
+-- ---- the tests one after the other: the place among those from i on
+pub faultFrom : Rates → ℕ → ℕ
+faultFrom rates i = firstFailFrom (λ j. getD (rateTests rates) j true) i (7 - i)
+
+pub fault-from : (rates : Rates) → ratesFault rates ≡ faultFrom rates 0
+unfolding ratesFault firstFail faultFrom
+fault-from rates = refl
+
+pub fault-past : (rates : Rates) (i : ℕ) → i < 7 → getD (rateTests rates) i true ≡ true → faultFrom rates i ≡ faultFrom rates (i + 1)
+unfolding faultFrom firstFailFrom
+fault-past rates i h e = let k : 7 - i ≡ suc (7 - (i + 1)) = omega arith in rw (k, e, add-one)
+
+pub fault-here : (rates : Rates) (i : ℕ) → i < 7 → getD (rateTests rates) i true ≡ false → faultFrom rates i ≡ i
+unfolding faultFrom firstFailFrom
+fault-here rates i h e = let k : 7 - i ≡ suc (7 - (i + 1)) = omega arith in rw (k, e)
+
+-- all hold
+pub fault-none : (rates : Rates) → faultFrom rates 7 ≡ 7
+unfolding faultFrom firstFailFrom
+fault-none rates = refl
 
 -- ---- sums of rates
 pub sum-rates : (rates : Rates) → rateSum rates ≡ addExp (addExp (addExp (homSnv rates) (hetSnv rates)) (homIndel rates)) (hetIndel rates)

@@ -21,7 +21,7 @@ unfoldable pub outcomeOf : Priored → Outcome Unit
 outcomeOf Done = done tt
 outcomeOf (Refused x) = refused (number x) (place x)
 
--- Numbers 1 to 5 of the case, 6 of the rates, 10 where the slice has fewer places than nine a variant
+-- Numbers 1 to 5 of the case, 6 of the rates, 10 where the slice has fewer places than nine per variant
 unfoldable pub prioredOf : List ℤ → List ℕ → Rates → ℕ → Outcome Unit
 prioredOf w b rates places =
     andThen (caseOf w b)

@@ -1,14 +1,15 @@
 -- 01, section 4: tables of k × k log probabilities, row-major. All entries are finite.
 -- Assumes nothing.
-use mathlib.Core.Bool.{Bool, cond, _||_}
-use mathlib.Core.List.{List, [], _∷_}
+use mathlib.Core.Bool.{Bool, cond, not, _||_}
+use mathlib.Core.List.{List, [], _∷_, map}
 use Prim.Native.Nat.{ℕ, zero, suc, _+_, _*_, _/_, _%_, _^_, _≤_, _<_}
 use lib.Dec.{eqb, ltb}
 use lib.IntN.{ℤ, pos, natAbs, _-ℤ_}
 use lib.ListN.{length, getD}
 use lib.Signed.{ltZ, _≤ℤ_, _<ℤ_}
-use Rattle.steps.specs.Logs.{addExp, sumExp}
+use Rattle.steps.specs.Logs.{Log, steps, addExp, sumExp, lnSumExp}
 use Rattle.variants_and_fragments.specs.Decode.{tabulate}
+use Rattle.variants_and_fragments.specs.Pileup.{only}
 use Rattle.genotype_probs.specs.declared.posteriors.GenotypePost.{GenotypePost}
 
 -- `ln_sum_exp` of finite ones; it is not asked of none
@@ -67,6 +68,22 @@ maxGenotypePost phased tab k =
       genotype = record { 0 = p / k; 1 = p % k };
       post = record { 0 = atMostOne (postAt phased tab k p) };
     }
+
+-- the row-major number of a pair the other way round
+unfoldable pub mirror : ℕ → ℕ → ℕ
+mirror k p = p % k * k + p / k
+
+-- q is neither the pair p nor its mirror m
+unfoldable pub isOther : ℕ → ℕ → ℕ → Bool
+isOther p m q = not (eqb q p || eqb q m)
+
+-- the pairs other than p and its mirror, row-major
+unfoldable pub others : ℕ → ℕ → List ℕ
+others k p = only (isOther p (mirror k p)) (tabulate (k * k) (λ q. q))
+
+-- the sum over them: the mark where there is none
+unfoldable pub otherSum : List ℤ → ℕ → ℕ → Log
+otherSum tab k p = lnSumExp (map (λ q. steps (getD tab q (pos 0))) (others k p))
 
 -- what a table at a place of a lent slice must be for the sums to fit: k in 1..3, nine places there, each entry at most 2^40 steps from 0
 pub record TableAt (post : List ℤ) (at k : ℕ) : Type 0 where

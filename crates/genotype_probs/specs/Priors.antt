@@ -96,6 +96,6 @@ unfoldable pub allPriors : List ℤ → Variant → ℕ → ℤ
 allPriors table variant p =
     let k = alleleCount variant in cond (ltb p (k * k)) (getPrior table variant (p / k) (p % k)) (pos 0)
 
--- element e of the priors of a case, nine places a variant
+-- element e of the priors of a case, nine places per variant
 unfoldable pub priorAt : List ℤ → Case → ℕ → ℤ
 priorAt table case e = allPriors table (variantOf case (e / 9)) (e % 9)

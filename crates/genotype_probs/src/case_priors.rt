@@ -13,13 +13,6 @@ use crate::priors::write_priors;
 use crate::table::prior_table;
 use variants_and_fragments::Sizes;
 
-// The table of priors.
-fn table_places() -> [i64; 144]
-    ensures { λ r. ⌜ length r ≡ 144 ⌝ }
-{
-    [0i64; 144]
-}
-
 // Writes the priors of all variants at accepted rates.
 pub fn make_priors(
     t: &[u16; 1665],
@@ -32,7 +25,7 @@ pub fn make_priors(
     requires { ⌜ (now t ≡ knots) × CaseIn (now words) s × BasesIn (now words) s (now bases) × (ratesFault rates ≡ 7) × (9 * (s .n) ≤ length (now post)) ⌝ }
     ensures { λ _. ⌜ now (post .exit) ≡ written (priorAt (priorTable rates) (decode (now (words .entry)) (now (bases .entry)))) (9 * (s .n)) (now (post .entry)) ⌝ }
 {
-    let mut table = table_places();
+    let mut table = [0i64; 144];
     prior_table(t, rates, &mut table);
     write_priors(words, s, bases, &table, post);
 }

@@ -3,8 +3,7 @@ ghost use mathlib.Core.Path.{_≡_};
 ghost use Rattle.variants_and_fragments.specs.Refusals.{done};
 ghost use Rattle.variants_and_fragments.specs.Check.{caseOf};
 ghost use Rattle.genotype_probs.specs.Answers.{GenotypePriors};
-use crate::priors::write_priors;
-use crate::table::prior_table;
+use crate::case_priors::make_priors;
 use crate::table::rates_fault;
 use steps::LogProb;
 use variants_and_fragments::Checked;
@@ -12,6 +11,7 @@ use variants_and_fragments::Refusal;
 use variants_and_fragments::Sizes;
 use variants_and_fragments::check_case;
 
+pub mod case_priors;
 pub mod letters;
 pub mod posteriors;
 pub mod priors;
@@ -53,13 +53,11 @@ fn accepted_priors(
     if priors.len() < needed {
         return Priored::Refused(Refusal::Short(needed));
     }
-    let mut table = [0i64; 144];
-    prior_table(&t, rates, &mut table);
-    write_priors(words, s, bases, &table, priors);
+    make_priors(&t, words, s, bases, rates, priors);
     Priored::Done
 }
 
-// Writes the priors of a case's genotypes, nine places a variant: k × k row-major, then zeros. The answer is refused with number 1 to 5, 6
+// Writes the priors of a case's genotypes, nine places per variant: k × k row-major, then zeros. The answer is refused with number 1 to 5, 6
 // or 10, or done.
 pub fn genotype_priors(words: &[i32], bases: &[u8], rates: Rates, priors: &mut [i64]) -> Priored
     ensures { λ r. ⌜ GenotypePriors (now (words .entry)) (now (bases .entry)) rates (now (priors .entry)) r (now (priors .exit)) ⌝ }

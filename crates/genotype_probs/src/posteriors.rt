@@ -6,8 +6,9 @@ ghost use lib.Dec.{ltb};
 ghost use lib.IntN.{pos, natAbs, _-ℤ_};
 ghost use lib.ListN.{drop};
 ghost use Rattle.steps.specs.Table.{knots};
+ghost use Rattle.steps.specs.Logs.{steps, lnAddExp, logOf, size};
 ghost use Rattle.genotype_probs.specs.Places.{writtenFrom};
-ghost use Rattle.genotype_probs.specs.Posteriors.{TableAt, entryAt, rowSum, tableSum, normalized, postAt, maxGenotype, atMostOne, maxGenotypePost};
+ghost use Rattle.genotype_probs.specs.Posteriors.{TableAt, entryAt, rowSum, tableSum, normalized, postAt, maxGenotype, atMostOne, maxGenotypePost, isOther, otherSum};
 use steps::LogProb;
 use steps::logs;
 
@@ -150,4 +151,34 @@ pub fn max_genotype_post(
         genotype: Genotype((p / k) as u8, (p % k) as u8),
         post: LogProb(z),
     }
+}
+
+// The sum with x added, where q is neither the pair p nor its mirror m.
+fn add_other(t: &[u16; 1665], sum: i64, x: i64, p: usize, m: usize, q: usize) -> i64
+    requires { ⌜ (now t ≡ knots) × (size (logOf sum) ≤ 2 ^ 60) × (natAbs x ≤ 2 ^ 40) ⌝ }
+    ensures { λ r. ⌜ logOf r ≡ cond (isOther p m q) (lnAddExp (logOf sum) (steps x)) (logOf sum) ⌝ }
+{
+    if q == p {
+        return sum;
+    }
+    if q == m {
+        return sum;
+    }
+    logs::ln_add_exp(t, sum, x)
+}
+
+// ln_sum_exp over the pairs other than p and its mirror. At the loop's head `sum` is that of those before q.
+pub fn other_sum(t: &[u16; 1665], post: &[i64], at: usize, k: usize, p: usize) -> i64
+    requires { ⌜ (now t ≡ knots) × TableAt (now post) at k × (p < k * k) ⌝ }
+    ensures { λ r. ⌜ (logOf r ≡ otherSum (drop at (now (post .entry))) k p) × (size (logOf r) ≤ 2 ^ 41) ⌝ }
+{
+    let n = k * k;
+    let m = p % k * k + p / k;
+    let mut sum = logs::MARK;
+    let mut q = 0;
+    while q < n {
+        sum = add_other(t, sum, post[at + q], p, m, q);
+        q += 1;
+    }
+    sum
 }

@@ -1,4 +1,4 @@
--- `priors::make_priors` meets its contract: the table of accepted rates is small.
+-- `case_priors::make_priors` meets its contract: the table of accepted rates is small.
 -- Assumes nothing.
 use mathlib.Core.Path.{_≡_, sym, ap, _∙_}
 use mathlib.Core.List.{List}
@@ -13,9 +13,6 @@ use borrow.Author.Needs.{needs}
 use Rattle.genotype_probs.proofs.case_priors.make_priors.Statement.{statement}
 use Rattle.genotype_probs.proofs.case_priors.make_priors.Tie as tie
 
-table-places-requires : tie.Need-table-places-requires
-table-places-requires c κs = search needs
-
 slice-aggregate-prior-table : tie.Need-slice-aggregate-prior-table
 slice-aggregate-prior-table c = search needs
 
@@ -25,10 +22,17 @@ prior-table-requires c κs = search needs
 slice-aggregate-write-priors : tie.Need-slice-aggregate-write-priors
 slice-aggregate-write-priors c = search needs
 
+-- the entry, and the table once it is written
+abbrev start : tie.After-prior-table → tie.Start
+start p = p .before .before .before
+
+abbrev filled : tie.After-write-priors → tie.After-prior-table
+filled c = c .before .before .before .before
+
 write-priors-requires : tie.Need-write-priors-requires
 write-priors-requires c κs =
     let p = c .before .before .before in
-    let s = p .before .before .before .before in
+    let s = start p in
     (alleles-in (s .pre .1) (s .pre .2), rw (p .prior-table .ensures) (table-in (s .args .rates) (s .pre .3)), s .pre .1 .shape, s .pre .4)
 
 same-length : tie.Need-same-length
@@ -36,16 +40,14 @@ same-length c = search needs
 
 returns : tie.Need-returns
 returns c =
-    let w = c .before in
-    let p = w .before .before .before .before in
-    let s = p .before .before .before .before in
-    w .write-priors .ensures ∙ ap (λ (table : List ℤ). written (priorAt table (decode (now (s .args .words)) (now (s .args .bases)))) (9 * (s .args .s .n)) (now (s .args .post))) (p .prior-table .ensures)
+    let p = filled (c .before) in
+    let s = start p in
+    c .before .write-priors .ensures ∙ ap (λ (table : List ℤ). written (priorAt table (decode (now (s .args .words)) (now (s .args .bases)))) (9 * (s .args .s .n)) (now (s .args .post))) (p .prior-table .ensures)
 
 pub make-priors-spec : {M : Type 1} → statement M
 make-priors-spec =
     tie.close
     (tie.spec
-    table-places-requires
     slice-aggregate-prior-table
     prior-table-requires
     slice-aggregate-write-priors

@@ -1,4 +1,4 @@
--- `finals::add_other` meets its contract: each way out is what the test picks.
+-- `posteriors::add_other` meets its contract: each way out is what the test picks.
 -- Assumes nothing.
 use mathlib.Core.Path.{_≡_, sym, ap, _∙_}
 use mathlib.Core.Bool.{Bool, cond}

@@ -1,4 +1,4 @@
--- `finals::other_sum` meets its contract. The loop's invariant: `sum` is that of the other pairs before q.
+-- `posteriors::other_sum` meets its contract. The loop's invariant: `sum` is that of the other pairs before q.
 -- Assumes nothing.
 use mathlib.Core.Path.{_≡_, refl, sym, ap, _∙_}
 use Prim.Native.Nat.{ℕ, _+_, _*_, _-_, _/_, _%_, _^_, _≤_, _<_}
@@ -16,7 +16,7 @@ use Rattle.steps.proofs.Marks.{of-least}
 use Rattle.steps.proofs.Signed.{read-back, read-small}
 use Rattle.genotype_probs.proofs.AlleleLaws.{nine}
 use Rattle.genotype_probs.proofs.TableSums.{place-in, pair-in}
-use Rattle.with_haplotypes.specs.Finals.{mirror, otherSum}
+use Rattle.genotype_probs.specs.Posteriors.{mirror, otherSum}
 use Rattle.genotype_probs.proofs.FinalLaws.{Adding, adding-start, adding-more, adding-end}
 use Rattle.genotype_probs.proofs.posteriors.other_sum.Statement.{statement}
 use Rattle.genotype_probs.proofs.posteriors.other_sum.Tie as tie
