@@ -2,6 +2,7 @@
 
 use bio::stats::{LogProb, Prob};
 use case::Case;
+use case::layout::{PAIR, TABLE};
 use condorbed::{self, Rates, Round};
 use genotype_probs::GenotypePriors;
 use protocol::Tokens;
@@ -66,9 +67,9 @@ impl Request {
     pub fn slices(&self) -> Slices {
         let (n, f) = (self.case.n(), self.case.flist.len());
         Slices {
-            haplotypes: vec![0; 2 * n],
-            likelihoods: vec![0; 2 * f],
-            posteriors: vec![0; 9 * n],
+            haplotypes: vec![0; PAIR * n],
+            likelihoods: vec![0; PAIR * f],
+            posteriors: vec![0; TABLE * n],
             quals: vec![0.0; n],
             gqs: vec![0.0; n],
         }
@@ -133,7 +134,7 @@ fn written(called: &Case) -> Slices {
     let vars = &called.varlist.lst;
     let nine = |tab: &Vec<Vec<LogProb>>| {
         let mut values: Vec<i64> = tab.iter().flat_map(|row| row).map(|p| p.0 as i64).collect();
-        values.resize(9, 0);
+        values.resize(TABLE, 0);
         values
     };
     Slices {
