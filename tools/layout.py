@@ -11,8 +11,8 @@ LOWEST = -262144
 
 
 class Record:
-    """A kind of record, made of its fields in order, each with its number of words. A field's name is then its offset, and
-    `words` is the stride."""
+    """A kind of record, made of its fields in order, each with its number of words. A field's name is then its offset,
+    and `words` is the stride."""
 
     def __init__(self, **widths):
         self.widths, self.words = widths, 0

@@ -1,4 +1,4 @@
-//! The benchmark: one round of longshot's own code, of the static library and of bench/limit.c, on the same cases in turn.
+//! The benchmark: one round of longshot's own code, of the static library and of bench/limit.c, in turn on each case.
 //!
 //! bench SECONDS FILE...   each file a `run` request; so many seconds per file; the last file's ratio is the last line
 //!

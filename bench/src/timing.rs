@@ -10,8 +10,8 @@ const CALLS_PER_TURN: usize = 8;
 const TURNS: usize = 5;
 
 pub const TITLES: &str = "case               N     F      C  sweeps  scorings    \
-                          Rust ms  (median)  ns/scoring    ours ms  (median)  ns/scoring   limit ms  (median)  ns/scoring   \
-                          ratio  ours/limit";
+                          Rust ms  (median)  ns/scoring    ours ms  (median)  ns/scoring   \
+                          limit ms  (median)  ns/scoring   ratio  ours/limit";
 
 pub struct Times {
     sizes: [usize; 3],
