@@ -12,6 +12,7 @@ import sys
 ROOT = os.path.join(os.path.dirname(os.path.abspath(__file__)), "..")
 sys.path.insert(0, os.path.join(ROOT, "tools"))
 
+from layout import needs
 from model import Call, Case, Fragment, Variant, encode
 from protocol import Request
 
@@ -20,7 +21,7 @@ CUTOFF = -4096
 ORDERS, LIMIT = 8, 1000000
 DOUBLING = 4096
 
-# name: variants, reads, calls a read, share of variants with three alleles, share of wrong calls
+# name: variants, reads, calls per read, share of variants with three alleles, share of wrong calls
 CASES = {
     "16-variants": (16, 64, 4, 0.2, 0.05),
     "64-variants": (64, 256, 4, 0.2, 0.05),
@@ -77,7 +78,7 @@ def request(rng, n, f, length, threes, errors):
     words, bases = encode(Case(variants, reads, CUTOFF))
     phase = [phase_byte(rng, truth) for truth in truths]
     orders = Request("orders", words, bases, [0], [n * ORDERS]).result()[1][0]
-    return Request("run", words, bases, [RATES, phase, [0] * n, orders, LIMIT], [2 * n, 2 * f, 9 * n, n, n])
+    return Request("run", words, bases, [RATES, phase, [0] * n, orders, LIMIT], needs("run", n, f))
 
 
 def main():

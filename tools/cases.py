@@ -4,12 +4,12 @@ Everything is drawn from the generator that is handed in, so that a seed fixes i
 """
 import itertools
 
+from layout import LOWEST, MAX_ALLELES, MAX_CALLS, MAX_FRAGMENTS, MAX_LENGTH, MAX_VARIANTS, needs
 from model import Call, Case, Fragment, Variant, check_rates, encode, Refused
 from protocol import Request
 
 RATES = [-70000] * 4 + [-4096, -8192]
 MATCH, MISS = -1700, -5796
-LOWEST = -262144
 # The bytes that the fragment lines of a case can need.
 MOST_LINES = 172032
 
@@ -19,17 +19,17 @@ def random_case(rng, most=6):
     pos0, variants = 0, []
     for _ in range(n):
         pos0 += rng.choice([0, 1, 1, 2, 7])
-        k = rng.randint(1, 3)
+        k = rng.randint(1, MAX_ALLELES)
         alleles = ["".join(rng.choice("ACGT") for _ in range(rng.choice([1, 1, 1, 2, 3]))) for _ in range(k)]
         variants.append(Variant(pos0, rng.choice([0, 3, 9]), (rng.randrange(k), rng.randrange(k)), alleles))
     fragments = []
     for _ in range(rng.randrange(most)):
         chosen = sorted(rng.sample(range(n), rng.randint(0, n)))
         fragments.append(Fragment(rng.randrange(2), [
-            Call(v, rng.randrange(len(variants[v].alleles)), -rng.choice([0, 1, 1999, 2000, 2001, 262144]),
-                 -rng.choice([0, 5, 262144]))
+            Call(v, rng.randrange(len(variants[v].alleles)), -rng.choice([0, 1, 1999, 2000, 2001, -LOWEST]),
+                 -rng.choice([0, 5, -LOWEST]))
             for v in chosen]))
-    return Case(variants, fragments, -rng.choice([0, 2000, 262144]))
+    return Case(variants, fragments, -rng.choice([0, 2000, -LOWEST]))
 
 
 def random_numbering(case, rng):
@@ -54,7 +54,7 @@ def random_alleles(rng, k):
         return rng.sample("ACGT", k)
     if kind < 0.7:
         return [rng.choice("ACGT")] * k
-    lengths = [rng.choice([1, 1, 2, 3]) for _ in range(k)] if kind < 0.9 else [rng.choice([2, 3, 64])] * k
+    lengths = [rng.choice([1, 1, 2, 3]) for _ in range(k)] if kind < 0.9 else [rng.choice([2, 3, MAX_LENGTH])] * k
     start = rng.choice(["", "A", "AC"])
     return [(start + "".join(rng.choices("ACGT", k=length)))[:length] for length in lengths]
 
@@ -111,7 +111,7 @@ def mirror(read):
 def tree(rng, n, f, ties=False):
     """n variants and f reads; for ties every variant has two alleles or more, and half of the reads mirror the rest."""
     variants = [random_variant(rng, p, rng.choice([2, 2, 3]) if ties else None) for p in random_positions(rng, n)]
-    cutoff = rng.choice([0, -1, -2000, -2000, -2000, LOWEST, -rng.randint(0, 262144)])
+    cutoff = rng.choice([0, -1, -2000, -2000, -2000, LOWEST, -rng.randint(0, -LOWEST)])
     quality = random_qualities(rng, cutoff)
     reads = [random_read(rng, variants, quality, random_places(rng, n)) for _ in range(f // 2 if ties else f)]
     if ties:
@@ -130,7 +130,7 @@ def random_rates(rng):
         elif kind < 0.8:
             rates = [-rng.randint(8193, 120000) for _ in range(4)] + [-rng.randint(1, 20000) for _ in range(2)]
         else:
-            rates = [-rng.randint(1, 262144) for _ in range(6)]
+            rates = [-rng.randint(1, -LOWEST) for _ in range(6)]
         try:
             check_rates(rates)
             return rates
@@ -171,10 +171,10 @@ class Trial:
         n, f = len(self.case.variants), len(self.case.fragments)
         if word == "orders":
             return [n * len(self.orders)]
-        lines = min(sum(14 + 8 * len(x.calls) for x in self.case.fragments), MOST_LINES)
-        needs = {"check": [], "priors": [9 * n], "nohap": [13 * n, n, n], "phase": [2 * n, n, n],
-                 "run": [2 * n, 2 * f, 9 * n, n, n], "flist": [lines], "filter": [n]}[word]
-        return [need + self.extra for need in needs]
+        if word == "flist":
+            lines = sum(14 + 8 * len(x.calls) for x in self.case.fragments)
+            return [min(lines, MOST_LINES) + self.extra]
+        return [need + self.extra for need in needs(word, n, f)]
 
     def requests(self, words):
         """The requests of these words."""
@@ -192,7 +192,7 @@ class Trial:
 def shapes():
     """Every shape of at most two variants (alleles, phase byte) and three reads (which variants each calls)."""
     for n in range(3):
-        for variants in itertools.product(itertools.product((1, 2, 3), (48, 49, 45)), repeat=n):
+        for variants in itertools.product(itertools.product(range(1, MAX_ALLELES + 1), (48, 49, 45)), repeat=n):
             subsets = [[v for v in range(n) if bits >> v & 1] for bits in range(2**n)]
             for f in range(4):
                 for places in itertools.product(subsets, repeat=f):
@@ -252,10 +252,12 @@ def random_trial(rng, large):
 
 
 def largest(rng):
-    """N = 1024, F = 4096, C = 16384: four calls a read, positions that rise by one, few reads with a tie."""
-    variants = [random_variant(rng, v) for v in range(1024)]
+    """N, F and C at their limits: all reads of one length, positions that rise by one, few reads with a tie."""
+    n, length = MAX_VARIANTS, MAX_CALLS // MAX_FRAGMENTS
+    variants = [random_variant(rng, v) for v in range(n)]
     quality = random_qualities(rng, -2000)
-    reads = [random_read(rng, variants, quality, range(v, v + 4)) for v in (rng.randrange(1021) for _ in range(4096))]
+    firsts = (rng.randrange(n - length + 1) for _ in range(MAX_FRAGMENTS))
+    reads = [random_read(rng, variants, quality, range(v, v + length)) for v in firsts]
     trial = Trial(rng, Case(variants, reads, -2000))
-    trial.limit, trial.orders, trial.extra = 1000000, [rng.sample(range(1024), 1024) for _ in range(3)], 16
+    trial.limit, trial.orders, trial.extra = 1000000, [rng.sample(range(n), n) for _ in range(3)], 16
     return trial

@@ -1,9 +1,10 @@
 """Damage to accepted requests, so that every refusal of document 01 turns up, alone and with others."""
 import copy
 
-from model import CALL, FRAGMENT, HEAD, VARIANT, Layout
+from layout import CALL, FRAGMENT, HEAD, LOWEST, MAX_ALLELES, MAX_LENGTH, MAX_VARIANTS, VARIANT, Layout
 
-BAD_WORDS = [0, 1, -1, 2, 3, 4, 65, 1025, -262145, 2147483647, -2147483648]
+BAD_WORDS = [0, 1, -1, 2, MAX_ALLELES, MAX_ALLELES + 1, MAX_LENGTH + 1, MAX_VARIANTS + 1, LOWEST - 1, 2147483647,
+             -2147483648]
 
 
 def set_word(rng, request, at):
@@ -14,29 +15,29 @@ def set_word(rng, request, at):
 
 
 def layout(request):
-    return Layout(*request.words[:3]) if len(request.words) >= HEAD else Layout(0, 0, 0)
+    return Layout.of(request.words) if len(request.words) >= HEAD.words else Layout(0, 0, 0)
 
 
 def head(rng, request):
-    set_word(rng, request, rng.randrange(HEAD))
+    set_word(rng, request, rng.randrange(HEAD.words))
 
 
 def variant(rng, request):
     at = layout(request)
     if at.n > 0:
-        set_word(rng, request, at.variant(rng.randrange(at.n)) + rng.randrange(VARIANT))
+        set_word(rng, request, at.variant(rng.randrange(at.n)) + rng.randrange(VARIANT.words))
 
 
 def fragment(rng, request):
     at = layout(request)
     if at.f > 0:
-        set_word(rng, request, at.fragment(rng.randrange(at.f)) + rng.randrange(FRAGMENT))
+        set_word(rng, request, at.fragment(rng.randrange(at.f)) + rng.randrange(FRAGMENT.words))
 
 
 def call(rng, request):
     at = layout(request)
     if at.c > 0:
-        set_word(rng, request, at.call(rng.randint(1, at.c)) + rng.randrange(CALL))
+        set_word(rng, request, at.call(rng.randint(1, at.c)) + rng.randrange(CALL.words))
 
 
 def link(rng, request):
@@ -44,7 +45,7 @@ def link(rng, request):
     at = layout(request)
     if at.c <= 0 or at.f <= 0:
         return
-    places = [at.call(rng.randint(1, at.c)) + CALL - 1, at.fragment(rng.randrange(at.f))]
+    places = [at.call(rng.randint(1, at.c)) + CALL.next, at.fragment(rng.randrange(at.f)) + FRAGMENT.first]
     place = rng.choice(places)
     if 0 <= place < len(request.words):
         request.words[place] = rng.randint(0, at.c + 1)
@@ -61,7 +62,7 @@ def length(rng, values, added):
 def words(rng, request):
     length(rng, request.words, 0)
     if rng.random() < 0.2:
-        del request.words[rng.randrange(6):]
+        del request.words[rng.randrange(HEAD.words + 2):]
 
 
 def bases(rng, request):
@@ -74,9 +75,9 @@ def bases(rng, request):
 def rates(rng, request):
     values = request.parts[0]
     if rng.random() < 0.3:
-        values[:4] = rng.choice([[-8192] * 4, [-1] * 4, [-4096, -4096, -262144, -262144], [-8193] * 4])
+        values[:4] = rng.choice([[-8192] * 4, [-1] * 4, [-4096, -4096, LOWEST, LOWEST], [-8193] * 4])
     else:
-        values[rng.randrange(6)] = rng.choice([0, 1, -262145, 2147483647, -2147483648])
+        values[rng.randrange(6)] = rng.choice([0, 1, LOWEST - 1, 2147483647, -2147483648])
 
 
 def given_phase(rng, request):

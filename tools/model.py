@@ -10,12 +10,8 @@ import math
 import struct
 
 import knots
-
-# 01, section 2: the strides of the layout. Nothing else in tools/ writes a word offset.
-HEAD, VARIANT, FRAGMENT, CALL = 4, 8, 2, 5
-MAX_VARIANTS, MAX_FRAGMENTS, MAX_CALLS = 1024, 4096, 16384
-LOWEST_QUAL = -262144
-MAX_LENGTH = 64
+from layout import (CALL, CALLED, FRAGMENT, HEAD, LOWEST, MAX_ALLELES, MAX_CALLS, MAX_FRAGMENTS, MAX_LENGTH,
+                    MAX_VARIANTS, PAIR, TABLE, VARIANT, Layout, needs)
 
 
 class Refused(Exception):
@@ -54,78 +50,53 @@ def encode(case, numbering=None):
     records are numbered in order where it is left out."""
     calls = [(f, i) for f, x in enumerate(case.fragments) for i in range(len(x.calls))]
     number = dict(zip(calls, numbering or range(1, len(calls) + 1)))
-    words = [len(case.variants), len(case.fragments), len(calls), case.cutoff]
-    assert len(words) == HEAD
+    words = HEAD.make(n=len(case.variants), f=len(case.fragments), c=len(calls), cutoff=case.cutoff)
     for v in case.variants:
-        lengths = [len(a) for a in v.alleles] + [0] * (3 - len(v.alleles))
-        record = [v.pos0, v.dp, v.genotype[0], v.genotype[1], len(v.alleles)] + lengths
-        assert len(record) == VARIANT
-        words += record
+        words += VARIANT.make(pos0=v.pos0, dp=v.dp, genotype=list(v.genotype), k=len(v.alleles),
+                              lengths=[len(a) for a in v.alleles])
     for f, x in enumerate(case.fragments):
-        words += [number[f, 0] if x.calls else 0, x.strand]
+        words += FRAGMENT.make(first=number[f, 0] if x.calls else 0, strand=x.strand)
     records = [None] * len(calls)
     for f, i in calls:
-        x = case.fragments[f].calls
-        following = number[f, i + 1] if i + 1 < len(x) else 0
-        records[number[f, i] - 1] = [x[i].variant, x[i].allele, x[i].qual, x[i].one_minus_qual, following]
-    for record in records:
-        assert len(record) == CALL
-        words += record
+        x, following = case.fragments[f].calls[i], number.get((f, i + 1), 0)
+        records[number[f, i] - 1] = CALL.make(variant=x.variant, allele=x.allele, qual=x.qual,
+                                              one_minus_qual=x.one_minus_qual, next=following)
+    words += [word for record in records for word in record]
     return words, [ord(c) for v in case.variants for a in v.alleles for c in a]
-
-
-class Layout:
-    """Where each word of a case stands, for reading and for damage."""
-
-    def __init__(self, n, f, c):
-        self.n, self.f, self.c = n, f, c
-
-    def total(self):
-        return HEAD + VARIANT * self.n + FRAGMENT * self.f + CALL * self.c
-
-    def variant(self, v):
-        return HEAD + VARIANT * v
-
-    def fragment(self, f):
-        return HEAD + VARIANT * self.n + FRAGMENT * f
-
-    def call(self, r):
-        return HEAD + VARIANT * self.n + FRAGMENT * self.f + CALL * (r - 1)
 
 
 def check_head(words):
     """Number 1: the layout and the cutoff."""
-    if len(words) < HEAD:
+    if len(words) < HEAD.words:
         raise Refused(1, 0)
-    n, f, c, cutoff = words[:HEAD]
-    ranges = [(0, MAX_VARIANTS), (0, MAX_FRAGMENTS), (0, MAX_CALLS), (LOWEST_QUAL, 0)]
-    for i, (low, high) in enumerate(ranges):
-        if not low <= words[i] <= high:
-            raise Refused(1, i)
-    at = Layout(n, f, c)
+    ranges = [(HEAD.n, 0, MAX_VARIANTS), (HEAD.f, 0, MAX_FRAGMENTS), (HEAD.c, 0, MAX_CALLS), (HEAD.cutoff, LOWEST, 0)]
+    for place, low, high in ranges:
+        if not low <= words[place] <= high:
+            raise Refused(1, place)
+    at = Layout.of(words)
     if len(words) != at.total():
-        raise Refused(1, 4)
-    return at, cutoff
+        raise Refused(1, HEAD.words)
+    return at, words[HEAD.cutoff]
 
 
 def check_variants(at, words):
     """Number 2."""
     before = 0
     for v in range(at.n):
-        pos0, dp, a, b, k, *lengths = words[at.variant(v):at.variant(v) + VARIANT]
-        if pos0 < 0 or pos0 < before or dp < 0 or not 1 <= k <= 3:
+        x = VARIANT.read(words, at.variant(v))
+        if x.pos0 < 0 or x.pos0 < before or x.dp < 0 or not 1 <= x.k <= MAX_ALLELES:
             raise Refused(2, v)
-        if not (0 <= a < k and 0 <= b < k):
+        if not all(0 <= a < x.k for a in x.genotype):
             raise Refused(2, v)
-        for j, length in enumerate(lengths):
-            if not (1 <= length <= MAX_LENGTH if j < k else length == 0):
+        for j, length in enumerate(x.lengths):
+            if not (1 <= length <= MAX_LENGTH if j < x.k else length == 0):
                 raise Refused(2, v)
-        before = pos0
+        before = x.pos0
 
 
 def check_alleles(at, words, bases):
     """Number 3: each variant's alleles."""
-    lengths = [words[at.variant(v) + 5:at.variant(v) + 8] for v in range(at.n)]
+    lengths = [VARIANT.read(words, at.variant(v)).lengths for v in range(at.n)]
     if len(bases) != sum(map(sum, lengths)):
         raise Refused(3, at.n)
     start, alleles = 0, []
@@ -143,31 +114,31 @@ def check_alleles(at, words, bases):
 def check_calls(at, words, alleles):
     """Number 4."""
     for r in range(1, at.c + 1):
-        v, a, q, o, _ = words[at.call(r):at.call(r) + CALL]
-        if not 0 <= v < at.n or not 0 <= a < len(alleles[v]):
+        x = CALL.read(words, at.call(r))
+        if not 0 <= x.variant < at.n or not 0 <= x.allele < len(alleles[x.variant]):
             raise Refused(4, r)
-        if not (LOWEST_QUAL <= q <= 0 and LOWEST_QUAL <= o <= 0):
+        if not (LOWEST <= x.qual <= 0 and LOWEST <= x.one_minus_qual <= 0):
             raise Refused(4, r)
 
 
 def check_fragments(at, words):
     """Number 5: the fragments."""
     fragments, reached = [], set()
-    for x in range(at.f):
-        r, strand = words[at.fragment(x):at.fragment(x) + FRAGMENT]
-        if strand not in (0, 1) or not 0 <= r <= at.c:
-            raise Refused(5, x)
-        calls = []
+    for f in range(at.f):
+        fragment, calls = FRAGMENT.read(words, at.fragment(f)), []
+        r = fragment.first
+        if fragment.strand not in (0, 1) or not 0 <= r <= at.c:
+            raise Refused(5, f)
         while r:
-            v, a, q, o, following = words[at.call(r):at.call(r) + CALL]
-            if r in reached or (following != 0 and not r < following <= at.c):
-                raise Refused(5, x)
-            if following != 0 and not v < words[at.call(following)]:
-                raise Refused(5, x)
+            x = CALL.read(words, at.call(r))
+            if r in reached or (x.next != 0 and not r < x.next <= at.c):
+                raise Refused(5, f)
+            if x.next != 0 and not x.variant < words[at.call(x.next) + CALL.variant]:
+                raise Refused(5, f)
             reached.add(r)
-            calls.append(Call(v, a, q, o))
-            r = following
-        fragments.append(Fragment(strand, calls))
+            calls.append(Call(x.variant, x.allele, x.qual, x.one_minus_qual))
+            r = x.next
+        fragments.append(Fragment(fragment.strand, calls))
     if len(reached) < at.c:
         raise Refused(5, at.f)
     return fragments
@@ -182,8 +153,8 @@ def check(words, bases):
     fragments = check_fragments(at, words)
     variants = []
     for v in range(at.n):
-        pos0, dp, a, b = words[at.variant(v):at.variant(v) + 4]
-        variants.append(Variant(pos0, dp, (a, b), alleles[v]))
+        x = VARIANT.read(words, at.variant(v))
+        variants.append(Variant(x.pos0, x.dp, x.genotype, alleles[v]))
     return Case(variants, fragments, cutoff)
 
 
@@ -197,9 +168,9 @@ def number(bits):
     return struct.unpack("<d", struct.pack("<Q", bits))[0]
 
 
-def need(*wanted):
-    """01, number 10: elements needed and the slice, for each; the smallest count that a slice falls short of."""
-    short = [count for count, s in wanted if len(s) < count]
+def need(counts, slices):
+    """01, number 10: the elements needed in each slice; the smallest count that a slice falls short of."""
+    short = [count for count, s in zip(counts, slices) if len(s) < count]
     if short:
         raise Refused(10, min(short))
 
@@ -218,7 +189,7 @@ def var_filter(words, bases, quals, density_qual, density_dist, density_count, m
     """01, section 7: the filter bytes afterwards."""
     case = check(words, bases)
     n = len(case.variants)
-    need((n, quals), (n, filters))
+    need([n] + needs("filter", n, 0), [quals, filters])
     if not math.isfinite(density_qual):
         raise Refused(11, 0)
     strong = [not quals[v] < density_qual for v in range(n)]
@@ -307,7 +278,7 @@ HALF, QUARTER = -4096, -8192
 
 def check_rates(rates):
     for i, rate in enumerate(rates):
-        if not LOWEST_QUAL <= rate <= -1:
+        if not LOWEST <= rate <= -1:
             raise Refused(6, i)
     if not ln_sum_exp(rates[:4]) < 0:
         raise Refused(6, 6)
@@ -352,14 +323,15 @@ def pairs(variant):
 
 
 def nine(values):
-    return values + [0] * (9 - len(values))
+    """A table's places: the values of the pairs, then zeros."""
+    return values + [0] * (TABLE - len(values))
 
 
 def genotype_priors(words, bases, rates, priors):
     """01, section 3: the priors' slice afterwards."""
     case = check(words, bases)
     check_rates(rates)
-    need((9 * len(case.variants), priors))
+    need(needs("priors", len(case.variants), 0), [priors])
     out = [x for v in case.variants for x in nine([get_prior(rates, v, i, j) for i, j in pairs(v)])]
     return [], [written(out, priors)]
 
@@ -403,8 +375,7 @@ def call_without_haplotypes(call, i, j):
 def accept_no_haplotypes(words, bases, rates, variants, quals, gqs):
     case = check(words, bases)
     check_rates(rates)
-    n = len(case.variants)
-    need((13 * n, variants), (n, quals), (n, gqs))
+    need(needs("nohap", len(case.variants), 0), [variants, quals, gqs])
     return case
 
 
@@ -419,10 +390,11 @@ def call_genotypes_no_haplotypes(words, bases, rates, variants, quals, gqs):
                   for i, j in pairs(variant)]
         posts = normalize(variant, scores)
         best, top = max_genotype_post(variant, posts, False)
-        forward = [sum(1 for f, c in used if c.allele == a and f.strand == 0) for a in range(3)]
-        reverse = [sum(1 for f, c in used if c.allele == a and f.strand == 1) for a in range(3)]
+        forward, reverse = ([sum(1 for f, c in used if (f.strand, c.allele) == (strand, a)) for a in range(MAX_ALLELES)]
+                            for strand in (0, 1))
         counts = [x + y for x, y in zip(forward, reverse)]
-        out += list(best) + counts + forward + reverse + [len(here) - len(used), max(variant.dp, len(here))]
+        out += CALLED.make(genotype=list(best), counts=counts, forward=forward, reverse=reverse,
+                           ambiguous=len(here) - len(used), depth=max(variant.dp, len(here)))
         qual.append(pattern(capped_phred(posts[0])))
         gq.append(pattern(capped_phred(ln_one_minus_exp(top))))
     return [], [written(out, variants), written(qual, quals), written(gq, gqs)]
@@ -458,7 +430,7 @@ def given_phase(words, bases, phase, sets, haplotypes, phased, names):
     case = check(words, bases)
     check_phase(case, phase, sets)
     n = len(case.variants)
-    need((2 * n, haplotypes), (n, phased), (n, names))
+    need(needs("phase", n, 0), [haplotypes, phased, names])
     flags = [int(phase_rule(v) and b in (48, 49)) for v, b in zip(case.variants, phase)]
     name = []
     for v in range(n):
@@ -486,6 +458,15 @@ def check_orders(n, orders):
     return out
 
 
+def pair_at(haps, v):
+    return tuple(haps[PAIR * v:PAIR * (v + 1)])
+
+
+def with_pair(haps, v, pair):
+    """The haplotypes with another pair at v."""
+    return haps[:PAIR * v] + list(pair) + haps[PAIR * (v + 1):]
+
+
 class Sweeps:
     """The definitions of section 6 over a case, its priors and its phased flags."""
 
@@ -498,20 +479,20 @@ class Sweeps:
         return sum(c.one_minus_qual if c.allele == alleles[c.variant] else c.qual for c in calls if counts(c.variant))
 
     def share(self, calls, haps, counts):
-        two = [self.likelihood(calls, haps[h::2], counts) for h in (0, 1)]
+        two = [self.likelihood(calls, haps[h::PAIR], counts) for h in (0, 1)]
         return ln_add_exp(two[0] + HALF, two[1] + HALF)
 
     def score(self, v, haps, i, j):
-        with_pair = haps[:2 * v] + [i, j] + haps[2 * v + 2:]
+        changed = with_pair(haps, v, (i, j))
         total = self.priors[v][i, j]
         for calls in self.reads:
             for c in calls:
                 if c.variant == v:
-                    total += self.share(calls, with_pair, lambda w: w == v or self.phased[w])
+                    total += self.share(calls, changed, lambda w: w == v or self.phased[w])
         return total
 
     def total(self, haps, counts):
-        priors = sum(self.priors[v][haps[2 * v], haps[2 * v + 1]] for v in range(len(self.priors)) if counts(v))
+        priors = sum(self.priors[v][pair_at(haps, v)] for v in range(len(self.priors)) if counts(v))
         return priors + sum(self.share(calls, haps, counts) for calls in self.reads)
 
     def run(self, haps, orders, limit):
@@ -522,16 +503,15 @@ class Sweeps:
                 scores = [self.score(v, haps, i, j) for i, j in pairs(self.case.variants[v])]
                 best = scores.index(max(scores))
                 k = len(self.case.variants[v].alleles)
-                haps = haps[:2 * v] + [best // k, best % k] + haps[2 * v + 2:]
+                haps = with_pair(haps, v, divmod(best, k))
                 posts[v] = normalize(self.case.variants[v], scores)
             if haps == before:
                 return s + 1, True, haps, posts
         return limit, False, haps, posts
 
 
-def accept_with_haplotypes(words, bases, rates, phase, sets, orders, limit, haplotypes, likelihoods, posteriors, quals,
-                           gqs):
-    """The case and its list of orders."""
+def accept_with_haplotypes(words, bases, rates, phase, sets, orders, limit, *slices):
+    """The case and its list of orders; the slices are haplotypes, likelihoods, posteriors, quals and gqs."""
     case = check(words, bases)
     check_rates(rates)
     check_phase(case, phase, sets)
@@ -539,12 +519,12 @@ def accept_with_haplotypes(words, bases, rates, phase, sets, orders, limit, hapl
     lists = check_orders(n, orders)
     if not 1 <= limit <= 1000000:
         raise Refused(9, limit)
-    need((2 * n, haplotypes), (2 * f, likelihoods), (9 * n, posteriors), (n, quals), (n, gqs))
+    need(needs("run", n, f), slices)
     return case, lists
 
 
 def final_answers(case, posts):
-    """01, section 7: each variant's latest posteriors, nine a variant, its qual and its gq."""
+    """01, section 7: each variant's latest posteriors, 9 per variant, its qual and its gq."""
     post, qual, gq = [], [], []
     for v, variant in enumerate(case.variants):
         mine = posts[v]
@@ -570,7 +550,7 @@ def call_genotypes_with_haplotypes(words, bases, rates, phase, sets, orders, lim
 
     fields = [count, "settled" if settled else "unsettled", sweeps.total(start, in_phase), sweeps.total(haps, in_phase),
               sweeps.total(haps, lambda v: True)]
-    liks = [sweeps.likelihood(calls, haps[h::2], in_phase) for calls in sweeps.reads for h in (0, 1)]
+    liks = [sweeps.likelihood(calls, haps[h::PAIR], in_phase) for calls in sweeps.reads for h in (0, 1)]
     afters = [haps, liks] + list(final_answers(case, posts))
     return fields, [written(new, old) for new, old in zip(afters, befores)]
 
@@ -597,7 +577,7 @@ def generate_flist_buffer(words, bases, single_reads, buffer):
         parts += ["%d %s" % (b[0].variant + 1, "".join(str(c.allele) for c in b)) for b in blocks]
         text += " ".join(parts).encode() + b" " + bytes(quality_byte(c.qual) for c in calls) + b"\0"
         lines += 1
-    need((len(text), buffer))
+    need([len(text)], [buffer])
     return [len(text), lines], [written(list(text), buffer)]
 
 

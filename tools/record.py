@@ -5,13 +5,16 @@ Run at the repository's root, after oracle/build: python3 tools/record.py
 It writes crates/condorbed/stdin and crates/condorbed/stdout. Accepted requests of the operations that longshot has are
 answered by the oracle, longshot's own code; refusals, `check` and `orders` by tools/model.py, which is written from the
 document. The model answers the others too, and a difference between the two ends this script without a list.
-A change of the layout is a change of the strides in tools/model.py and a new run of this script.
+A change of the layout is a change of tools/layout.py and a new run of this script.
 """
+import itertools
 import random
 import sys
 
 from cases import RATES, random_case, random_numbering, tangled
-from model import Call, Case, Fragment, Layout, Variant, encode
+from layout import (CALL, FRAGMENT, HEAD, LOWEST, MAX_ALLELES, MAX_CALLS, MAX_FRAGMENTS, MAX_LENGTH, MAX_VARIANTS,
+                    VARIANT, Layout, needs)
+from model import Call, Case, Fragment, Variant, encode
 from protocol import OF_THE_SOURCE, Request, ask
 
 HEADER = """# Written by tools/record.py: %d requests and one that cannot be read. The answers in the file stdout are
@@ -38,8 +41,8 @@ class Record:
     def filter(self, words, bases, quals, density_qual, dist, count, max_depth, room):
         self.add("filter", words, bases, (quals, density_qual, dist, count, max_depth), [room])
 
-    def priors(self, words, bases, rates, room):
-        self.add("priors", words, bases, [rates], [room])
+    def priors(self, words, bases, rates, rooms):
+        self.add("priors", words, bases, [rates], rooms)
 
     def nohap(self, words, bases, rates, rooms):
         self.add("nohap", words, bases, [rates], rooms)
@@ -67,45 +70,56 @@ def sample():
     ]
     fragments = [
         Fragment(0, [Call(0, 1, -5796, -1700), Call(1, 2, -9000, -40), Call(3, 0, -2000, -1)]),
-        Fragment(1, [Call(1, 0, -262144, 0)]),
+        Fragment(1, [Call(1, 0, LOWEST, 0)]),
         Fragment(0, []),
-        Fragment(1, [Call(0, 0, 0, -262144), Call(2, 1, -2001, -3)]),
+        Fragment(1, [Call(0, 0, 0, LOWEST), Call(2, 1, -2001, -3)]),
         Fragment(0, [Call(2, 0, -13607, -12), Call(3, 0, -13607, -12)]),
     ]
     return Case(variants, fragments, -2000)
+
+
+# The words and bases of a case of nothing.
+NOTHING = HEAD.make(), []
 
 
 def with_word(words, i, value):
     return words[:i] + [value] + words[i + 1:]
 
 
+def rooms(word, n, f=0, more=()):
+    """What a request needs in each output slice, by n variants and f fragments, and so much more."""
+    return [need + extra for need, extra in itertools.zip_longest(needs(word, n, f), more, fillvalue=0)]
+
+
 def heads(rec):
     rec.note("number 1: fewer than four words, each word out of its range, the length")
     words, bases = encode(sample())
-    for short in range(4):
+    for short in range(HEAD.words):
         rec.check(words[:short], bases)
-    limits = [(-1, 1025), (-1, 4097), (-1, 16385), (-262145, 1)]
-    for i, pair in enumerate(limits):
-        for value in pair:
-            rec.check(with_word(words, i, value), bases)
+    ranges = [(HEAD.n, 0, MAX_VARIANTS), (HEAD.f, 0, MAX_FRAGMENTS), (HEAD.c, 0, MAX_CALLS), (HEAD.cutoff, LOWEST, 0)]
+    for field, low, high in ranges:
+        for value in (low - 1, high + 1):
+            rec.check(with_word(words, field, value), bases)
     rec.check(words[:-1], bases)
     rec.check(words + [0], bases)
-    rec.check([1025, -1, 0, 1], [])
-    rec.check([0, 0, 0, -262144], [])
-    rec.check([0, 0, 0, 0], [])
+    rec.check(HEAD.make(n=MAX_VARIANTS + 1, f=-1, cutoff=1), [])
+    rec.check(HEAD.make(cutoff=LOWEST), [])
+    rec.check(*NOTHING)
 
 
 def variants(rec):
     rec.note("number 2: each field of a variant record out of its range; the later one's place where a position falls")
     words, bases = encode(sample())
-    at = Layout(*words[:3])
-    faults = [(0, 0, -1), (2, 0, 9), (3, 0, 24), (1, 1, -1), (0, 2, -1), (0, 2, 2), (1, 3, 3), (3, 3, 1), (0, 4, 0),
-              (1, 4, 4), (2, 4, -1), (0, 5, 0), (1, 7, 65), (2, 7, 1), (3, 6, -1), (0, 7, 2147483647),
-              (1, 0, -2147483648)]
+    at = Layout.of(words)
+    pos0, dp, k, first, second = VARIANT.pos0, VARIANT.dp, VARIANT.k, VARIANT.genotype, VARIANT.genotype + 1
+    length = [VARIANT.lengths + j for j in range(MAX_ALLELES)]
+    faults = [(0, pos0, -1), (2, pos0, 9), (3, pos0, 24), (1, dp, -1), (0, first, -1), (0, first, 2), (1, second, 3),
+              (3, second, 1), (0, k, 0), (1, k, MAX_ALLELES + 1), (2, k, -1), (0, length[0], 0),
+              (1, length[2], MAX_LENGTH + 1), (2, length[2], 1), (3, length[1], -1), (0, length[2], 2147483647),
+              (1, pos0, -2147483648)]
     for v, field, value in faults:
         rec.check(with_word(words, at.variant(v) + field, value), bases)
-    two = with_word(with_word(words, at.variant(3) + 1, -1), at.variant(1) + 3, 9)
-    rec.check(two, bases)
+    rec.check(with_word(with_word(words, at.variant(3) + dp, -1), at.variant(1) + second, 9), bases)
 
 
 def alleles(rec):
@@ -123,42 +137,46 @@ def alleles(rec):
 def calls(rec):
     rec.note("number 4: the record's number, from 1")
     words, bases = encode(sample())
-    at = Layout(*words[:3])
-    faults = [(1, 0, -1), (8, 0, 4), (1, 1, 2), (2, 1, 3), (3, 1, -1), (4, 2, -262145), (5, 2, 1), (6, 3, -262145),
-              (8, 3, 1)]
+    at = Layout.of(words)
+    variant, allele, qual, one_minus_qual = CALL.variant, CALL.allele, CALL.qual, CALL.one_minus_qual
+    faults = [(1, variant, -1), (8, variant, 4), (1, allele, 2), (2, allele, 3), (3, allele, -1), (4, qual, LOWEST - 1),
+              (5, qual, 1), (6, one_minus_qual, LOWEST - 1), (8, one_minus_qual, 1)]
     for r, field, value in faults:
         rec.check(with_word(words, at.call(r) + field, value), bases)
-    rec.check([0, 0, 1, 0, 0, 0, 0, 0, 0], [])
+    rec.check(HEAD.make(c=1) + CALL.make(), [])
 
 
 def chains(rec):
     rec.note("number 5: the fragment, the later one where a record is shared; F for a record that none reaches")
     words, bases = encode(sample())
-    at = Layout(*words[:3])
-    for f, field, value in [(0, 0, -1), (1, 0, 9), (2, 0, 1), (2, 0, 2), (1, 1, 2), (4, 1, -1), (2, 0, -2147483648)]:
+    at = Layout.of(words)
+    first, strand = FRAGMENT.first, FRAGMENT.strand
+    faults = [(0, first, -1), (1, first, 9), (2, first, 1), (2, first, 2), (1, strand, 2), (4, strand, -1),
+              (2, first, -2147483648)]
+    for f, field, value in faults:
         rec.check(with_word(words, at.fragment(f) + field, value), bases)
     for r, value in [(1, 1), (2, 1), (4, 5), (3, 9), (8, -1), (7, 7), (6, 7), (5, 8), (1, 3)]:
-        rec.check(with_word(words, at.call(r) + 4, value), bases)
-    rec.check(with_word(words, at.call(2) + 0, 0), bases)
-    rec.check(with_word(words, at.fragment(3) + 0, 6), bases)
-    rec.check(with_word(words, at.fragment(4) + 0, 0), bases)
-    rec.check([1, 0, 1, 0, 0, 0, 0, 0, 1, 1, 0, 0, 0, 0, 0, 0, 0], [65])
-    shared = with_word(with_word(words, at.fragment(1) + 0, 1), at.fragment(0) + 1, 5)
+        rec.check(with_word(words, at.call(r) + CALL.next, value), bases)
+    rec.check(with_word(words, at.call(2) + CALL.variant, 0), bases)
+    rec.check(with_word(words, at.fragment(3) + first, 6), bases)
+    rec.check(with_word(words, at.fragment(4) + first, 0), bases)
+    rec.check(HEAD.make(n=1, c=1) + VARIANT.make(k=1, lengths=[1]) + CALL.make(), [65])
+    shared = with_word(with_word(words, at.fragment(1) + first, 1), at.fragment(0) + strand, 5)
     rec.check(shared, bases)
 
 
 def order_of_numbers(rec):
     rec.note("several faults at once: the lower number first")
     words, bases = encode(sample())
-    at = Layout(*words[:3])
-    bad = with_word(words, at.call(5) + 4, 1)
+    at = Layout.of(words)
+    bad = with_word(words, at.call(5) + CALL.next, 1)
     rec.check(bad, bases)
-    bad = with_word(bad, at.call(8) + 2, 5)
+    bad = with_word(bad, at.call(8) + CALL.qual, 5)
     rec.check(bad, bases)
     rec.check(bad, with_word(bases, 9, 65 + 32))
-    bad = with_word(bad, at.variant(3) + 0, 1)
+    bad = with_word(bad, at.variant(3) + VARIANT.pos0, 1)
     rec.check(bad, with_word(bases, 0, 97))
-    rec.check(with_word(bad, 3, 5), bases)
+    rec.check(with_word(bad, HEAD.cutoff, 5), bases)
 
 
 def accepted(rec):
@@ -166,9 +184,9 @@ def accepted(rec):
     words, bases = encode(sample())
     rec.check(words, bases)
     rec.check(*encode(sample(), [2, 5, 8, 1, 3, 4, 6, 7]))
-    wide = Case([Variant(0, 0, (0, 0), ["A" * 64, "C" * 64, "G" * 64]),
+    wide = Case([Variant(0, 0, (0, 0), [base * MAX_LENGTH for base in "ACG"]),
                  Variant(2147483647, 2147483647, (2, 2), ["A", "A", "A"])],
-                [Fragment(1, [Call(0, 2, -262144, -262144), Call(1, 2, 0, 0)])], -262144)
+                [Fragment(1, [Call(0, 2, LOWEST, LOWEST), Call(1, 2, 0, 0)])], LOWEST)
     rec.check(*encode(wide))
 
 
@@ -199,8 +217,8 @@ def filters(rec):
     rec.filter(*far, [0.0] * 3, -1.0, big, 1, 2147483646, 3)
     rec.filter(*far, [0.0] * 3, -1.0, 2147483648, big, 2147483648, 3)
     rec.note("N = 0; longer slices; numbers 10 and 11 and their order")
-    rec.filter([0, 0, 0, 0], [], [], 0.0, 0, 0, 0, 0)
-    rec.filter([0, 0, 0, 0], [], [1.0], 0.0, 0, 0, 0, 2)
+    rec.filter(*NOTHING, [], 0.0, 0, 0, 0, 0)
+    rec.filter(*NOTHING, [1.0], 0.0, 0, 0, 0, 2)
     rec.filter(*four, [50.0] * 6, 20.0, 10, 2, 100, 9)
     rec.filter(*four, [50.0] * 3, 20.0, 10, 2, 100, 4)
     rec.filter(*four, [50.0] * 4, 20.0, 10, 2, 100, 3)
@@ -219,7 +237,8 @@ def damaged(rec, rng, count):
         for _ in range(i % 3):
             if words and rng.random() < 0.9:
                 at = rng.randrange(len(words))
-                words = with_word(words, at, rng.choice([words[at] + 1, words[at] - 1, 0, 1, -1, 2, 3, 65, -262145]))
+                values = [words[at] + 1, words[at] - 1, 0, 1, -1, 2, MAX_ALLELES, MAX_LENGTH + 1, LOWEST - 1]
+                words = with_word(words, at, rng.choice(values))
             elif bases:
                 bases = with_word(bases, rng.randrange(len(bases)), rng.randrange(256))
         rec.check(words, bases)
@@ -244,70 +263,71 @@ def priors(rec, rng):
     rec.note("priors: sample (g); AC/AG and AC/CA; A/A; one allele of two bases; indels; then refusals 6 and 10")
     for alleles in (["A", "G"], ["AC", "AG"], ["AC", "CA"], ["A", "A"], ["AC"], ["C", "CA", "T"], ["GTT", "G", "GTTT"],
                     ["ACGT", "ACGA", "ACCT"], ["A", "C", "T"], ["G", "A", "GA"], ["CT", "C", "CG"], ["TT", "TA", "AT"]):
-        rec.priors(*encode(alone(alleles)), RATES, 9)
+        rec.priors(*encode(alone(alleles)), RATES, rooms("priors", 1))
     words, bases = encode(sample())
-    rec.priors(words, bases, [-90000, -60000, -120001, -70001, -1000, -7777], 40)
+    full = rooms("priors", 4)
+    rec.priors(words, bases, [-90000, -60000, -120001, -70001, -1000, -7777], rooms("priors", 4, more=[4]))
     for i in range(6):
-        for bad in (0, -262145, 5):
-            rec.priors(words, bases, RATES[:i] + [bad] + RATES[i + 1:], 36)
-    lowest = -262144
-    for first in ([-8192] * 4, [-8193] * 4, [-1] * 4, [-4096, -4097, lowest, lowest], [-4096, -4096, lowest, lowest]):
-        rec.priors(words, bases, first + [-1, -262144], 36)
-    rec.priors(words, bases, RATES, 35)
-    rec.priors(words, bases, [0] * 6, 0)
-    rec.priors([0, 0, 0, 0], [], RATES, 0)
-    rec.priors(words[:-1], bases, [0] * 6, 0)
+        for bad in (0, LOWEST - 1, 5):
+            rec.priors(words, bases, RATES[:i] + [bad] + RATES[i + 1:], full)
+    for first in ([-8192] * 4, [-8193] * 4, [-1] * 4, [-4096, -4097, LOWEST, LOWEST], [-4096, -4096, LOWEST, LOWEST]):
+        rec.priors(words, bases, first + [-1, LOWEST], full)
+    rec.priors(words, bases, RATES, rooms("priors", 4, more=[-1]))
+    rec.priors(words, bases, [0] * 6, [0])
+    rec.priors(*NOTHING, RATES, [0])
+    rec.priors(words[:-1], bases, [0] * 6, [0])
     for _ in range(25):
         case = random_case(rng)
-        rates = [-rng.randrange(20000, 262145) for _ in range(4)] + [-rng.randrange(1, 262145) for _ in range(2)]
-        rec.priors(*encode(case), rates, 9 * len(case.variants))
+        rates = [-rng.randint(20000, -LOWEST) for _ in range(4)] + [-rng.randint(1, -LOWEST) for _ in range(2)]
+        rec.priors(*encode(case), rates, rooms("priors", len(case.variants)))
 
 
 def nohap(rec, rng):
     rec.note("nohap: one allele (qual 0.0, gq 500.0), ties, strands, equality at the cutoff, refusals")
     match, miss = -1700, -5796
-    rec.nohap(*encode(alone(["A"])), RATES, (13, 1, 1))
-    rec.nohap(*encode(alone(["A", "G"], (0, 1), [(1, miss, match, 0)])), RATES, (13, 1, 1))
+    one = rooms("nohap", 1)
+    rec.nohap(*encode(alone(["A"])), RATES, one)
+    rec.nohap(*encode(alone(["A", "G"], (0, 1), [(1, miss, match, 0)])), RATES, one)
     both = [(1, miss, match, s % 2) for s in range(30)] + [(0, miss, match, 1)] * 30
-    rec.nohap(*encode(alone(["A", "G"], (0, 1), both)), RATES, (14, 2, 3))
+    rec.nohap(*encode(alone(["A", "G"], (0, 1), both)), RATES, rooms("nohap", 1, more=(1, 1, 2)))
     edge = [(1, -2000, match, 0), (1, -2001, match, 1), (0, 0, -9, 0)]
-    rec.nohap(*encode(alone(["A", "G"], (0, 0), edge)), RATES, (13, 1, 1))
-    rec.nohap(*encode(alone(["A", "A", "A"], (0, 0), [(2, -262144, 0, 0)] * 9)), RATES, (13, 1, 1))
+    rec.nohap(*encode(alone(["A", "G"], (0, 0), edge)), RATES, one)
+    rec.nohap(*encode(alone(["A", "A", "A"], (0, 0), [(2, LOWEST, 0, 0)] * 9)), RATES, one)
     words, bases = encode(sample())
-    rec.nohap(words, bases, RATES, (52, 4, 4))
-    for rooms in ((51, 4, 4), (52, 3, 4), (52, 4, 3), (0, 0, 0)):
-        rec.nohap(words, bases, RATES, rooms)
+    for more in ((0, 0, 0), (-1, 0, 0), (0, -1, 0), (0, 0, -1)):
+        rec.nohap(words, bases, RATES, rooms("nohap", 4, more=more))
+    rec.nohap(words, bases, RATES, (0, 0, 0))
     rec.nohap(words, bases, RATES[:5] + [0], (0, 0, 0))
-    rec.nohap([0, 0, 0, 0], [], RATES, (1, 1, 0))
+    rec.nohap(*NOTHING, RATES, (1, 1, 0))
     for _ in range(25):
         case = random_case(rng)
         n = len(case.variants)
-        rates = [-rng.randrange(20000, 262145) for _ in range(4)] + [-rng.randrange(1, 30000) for _ in range(2)]
-        rec.nohap(*encode(case), rates, (13 * n, n, n))
+        rates = [-rng.randint(20000, -LOWEST) for _ in range(4)] + [-rng.randrange(1, 30000) for _ in range(2)]
+        rec.nohap(*encode(case), rates, rooms("nohap", n))
 
 
 def phase(rec, rng):
     rec.note("phase: each byte orders every variant; names over all variants of a set; refusals 7 and 10")
     words, bases = encode(sample())
-    rec.phase(words, bases, [48, 49, 48, 49], [0, 0, 1, 1], (8, 4, 4))
-    rec.phase(words, bases, [49, 48, 45, 0], [3, 3, 3, -1], (9, 5, 6))
-    rec.phase(words, bases, [45, 49, 49, 48], [2, 2, -2147483648, 0], (8, 4, 4))
+    full = rooms("phase", 4)
+    rec.phase(words, bases, [48, 49, 48, 49], [0, 0, 1, 1], full)
+    rec.phase(words, bases, [49, 48, 45, 0], [3, 3, 3, -1], rooms("phase", 4, more=(1, 1, 2)))
+    rec.phase(words, bases, [45, 49, 49, 48], [2, 2, -2147483648, 0], full)
     two = encode(Case([Variant(3, 0, (1, 0), ["A", "C"]), Variant(9, 0, (2, 1), ["A", "C", "GG"]),
                        Variant(9, 0, (0, 1), ["A", "CC"])], [], 0))
     for byte in (48, 49, 50):
-        rec.phase(*two, [byte] * 3, [2, 1, 2], (6, 3, 3))
-    rec.phase(words, bases, [48] * 3, [0] * 4, (8, 4, 4))
-    rec.phase(words, bases, [48] * 4, [0] * 5, (8, 4, 4))
-    rec.phase(words, bases, [48] * 4, [0, 4, 9, 0], (8, 4, 4))
-    rec.phase(words, bases, [48] * 4, [0, 1, 2, 3], (7, 4, 4))
-    rec.phase(words, bases, [48] * 4, [0, 1, 2, 3], (7, 3, 4))
-    rec.phase(words, bases, [48] * 4, [0, 1, 2, 3], (8, 4, 3))
-    rec.phase([0, 0, 0, 0], [], [], [], (0, 1, 2))
+        rec.phase(*two, [byte] * 3, [2, 1, 2], rooms("phase", 3))
+    rec.phase(words, bases, [48] * 3, [0] * 4, full)
+    rec.phase(words, bases, [48] * 4, [0] * 5, full)
+    rec.phase(words, bases, [48] * 4, [0, 4, 9, 0], full)
+    for more in ((-1, 0, 0), (-1, -1, 0), (0, 0, -1)):
+        rec.phase(words, bases, [48] * 4, [0, 1, 2, 3], rooms("phase", 4, more=more))
+    rec.phase(*NOTHING, [], [], (0, 1, 2))
     for _ in range(25):
         case = random_case(rng)
         n = len(case.variants)
         phase, sets = [rng.choice([48, 49, 45]) for _ in range(n)], [rng.randrange(-1, n) for _ in range(n)]
-        rec.phase(*encode(case), phase, sets, (2 * n, n, n))
+        rec.phase(*encode(case), phase, sets, rooms("phase", n))
 
 
 def flist(rec, rng):
@@ -317,13 +337,13 @@ def flist(rec, rng):
     rec.flist(*encode(line), 0, 19)
     rec.flist(*encode(line), 0, 24)
     rec.flist(*encode(line), 1, 18)
-    many = Case(snv, [Fragment(1, [Call(9, 2, -262144, 0)]), Fragment(0, []),
+    many = Case(snv, [Fragment(1, [Call(9, 2, LOWEST, 0)]), Fragment(0, []),
                       Fragment(1, [Call(8, 1, -2001, 0), Call(9, 2, -2000, 0), Call(10, 0, -5000, 0)]),
                       Fragment(0, [Call(v, v % 3, -2001 - 1361 * v, 0) for v in range(12)])], -2000)
     for single in (0, 1):
         rec.flist(*encode(many), single, 120)
     rec.flist(*encode(sample()), 1, 60)
-    rec.flist([0, 0, 0, 0], [], 0, 0)
+    rec.flist(*NOTHING, 0, 0)
     for _ in range(25):
         rec.flist(*encode(random_case(rng)), rng.randrange(2), 200)
 
@@ -335,8 +355,8 @@ def orders(rec, rng):
     rec.orders(words, bases, 18446744073709551615, 4)
     for room in (0, 3, 5, 13):
         rec.orders(words, bases, 1, room)
-    rec.orders([0, 0, 0, 0], [], 5, 0)
-    rec.orders([0, 0, 0, 0], [], 5, 1)
+    rec.orders(*NOTHING, 5, 0)
+    rec.orders(*NOTHING, 5, 1)
     for n in (1, 2, 3, 17):
         rec.orders(*encode(spread(list(range(n)))), rng.randrange(2**64), 3 * n)
 
@@ -347,19 +367,20 @@ def sample_runs(rec):
     snv = ["A", "G"]
     one = encode(alone(snv, (0, 1), [read[1]]))
     for limit in (10, 2, 1):
-        rec.run(*one, RATES, [48], [0], [0], limit, (2, 2, 9, 1, 1))
+        rec.run(*one, RATES, [48], [0], [0], limit, rooms("run", 1, 1))
     for count in (112, 113):
         for byte in (48, 49):
             both = alone(snv, (0, 1), [read[0]] * count + [read[1]] * count)
-            rec.run(*encode(both), RATES, [byte], [0], [0], 1000000, (2, 4 * count, 9, 1, 1))
-    rec.run([0, 0, 0, 0], [], RATES, [], [], [], 1, (0, 0, 0, 0, 0))
-    rec.run([0, 2, 0, 0, 0, 0, 0, 1], [], RATES, [], [], [], 3, (1, 5, 2, 1, 1))
+            rec.run(*encode(both), RATES, [byte], [0], [0], 1000000, rooms("run", 1, 2 * count))
+    rec.run(*NOTHING, RATES, [], [], [], 1, rooms("run", 0))
+    unread = encode(Case([], [Fragment(0, []), Fragment(1, [])], 0))
+    rec.run(*unread, RATES, [], [], [], 3, rooms("run", 0, 2, more=(1, 1, 2, 1, 1)))
 
 
 def refused_runs(rec):
     rec.note("run: refusals 6 to 10, alone and together")
     words, bases = encode(sample())
-    full = (8, 10, 36, 4, 4)
+    full = rooms("run", 4, 5)
     order = [0, 1, 2, 3]
     good = [words, bases, RATES, [48, 49, 48, 49], [0, 0, 1, 1], order, 5, full]
     rec.run(*good)
@@ -375,9 +396,9 @@ def refused_runs(rec):
     rec.run(*changed(good, 4, [0, 0, 4, 1]))
     rec.run(*changed(good, 2, RATES[:3] + [0] + RATES[4:]))
     for i, room in enumerate(full):
-        rec.run(*changed(good, 7, full[:i] + (room - 1,) + full[i + 1:]))
-    rec.run([0, 0, 0, 0], [], RATES, [], [], [0], 1, (0, 0, 0, 0, 0))
-    bad = changed(good, 7, (7, 9, 0, 3, 4))
+        rec.run(*changed(good, 7, changed(full, i, room - 1)))
+    rec.run(*NOTHING, RATES, [], [], [0], 1, rooms("run", 0))
+    bad = changed(good, 7, [full[0] - 1, full[1] - 1, 0, full[3] - 1, full[4]])
     for i, value in ((6, 0), (5, [0, 0, 1, 2]), (4, [0, 9, 0, 0]), (2, [0] * 6), (1, bases[1:])):
         rec.run(*bad)
         bad = changed(bad, i, value)
@@ -396,8 +417,8 @@ def random_runs(rec, rng):
         m = rng.randint(1, 3)
         lists = [v for _ in range(m) for v in rng.sample(range(n), n)] if n else []
         phase, sets = [rng.choice([48, 49, 45]) for _ in range(n)], [rng.randrange(-1, n) for _ in range(n)]
-        rec.run(*encode(case), RATES, phase, sets, lists, rng.choice([1, 2, 50]),
-                (2 * n + rng.randrange(2), 2 * f, 9 * n, n, n))
+        limit = rng.choice([1, 2, 50])
+        rec.run(*encode(case), RATES, phase, sets, lists, limit, rooms("run", n, f, more=[rng.randrange(2)]))
     rec.note("reads that disagree: several sweeps, the later ones by other orders, settled and not")
     for _ in range(25):
         rec.entries += tangled(rng).requests(["run"])

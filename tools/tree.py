@@ -9,6 +9,7 @@ import math
 import random
 import sys
 
+from layout import CALL, FRAGMENT, HEAD, VARIANT, needs
 from model import Call, Case, Fragment, Variant, encode, sweep_orders
 from protocol import Request, ask, plain_text
 
@@ -82,24 +83,28 @@ def request(case):
     n, f = len(case.variants), len(case.fragments)
     orders = sweep_orders(words, bases, 0, [0] * (3 * n))[1][0]
     parts = [RATES, [ord(row[4]) for row in ROWS], [row[5] for row in ROWS], orders, 1000]
-    return Request("run", words, bases, parts, [2 * n, 2 * f, 9 * n, n, n])
+    return Request("run", words, bases, parts, needs("run", n, f))
 
 
 def words_text(case, words):
     """The words with a line each for the head, a variant, a fragment's first call and strand, and a call record."""
     at = iter(words)
+
+    def record(kind):
+        return plain_text(next(at) for _ in range(kind.words))
+
     lines = ["# the words: how many; then the head: variants, fragments, calls, cutoff (Phred 7: less is unused)",
-             "%d  %s" % (len(words), plain_text(next(at) for _ in range(4))),
+             "%d  %s" % (len(words), record(HEAD)),
              "# each variant: pos0, depth, genotype (2), alleles, their lengths (3)"]
     for row in ROWS:
         note = " (%s)" % row[6] if row[6] else ""
-        lines.append("%-28s # %s%s" % (plain_text(next(at) for _ in range(8)), row[1].replace(" ", "/"), note))
+        lines.append("%-28s # %s%s" % (record(VARIANT), row[1].replace(" ", "/"), note))
     lines.append("# each read: its first call record, its strand (0 forward, 1 reverse)")
-    lines += [plain_text(next(at) for _ in range(2)) for _ in case.fragments]
+    lines += [record(FRAGMENT) for _ in case.fragments]
     lines.append("# each call record: variant, allele, qual, one_minus_qual (steps, 4096 to a doubling), next record")
     for i, fragment in enumerate(case.fragments):
         lines.append("# read %d" % i)
-        lines += [plain_text(next(at) for _ in range(5)) for _ in fragment.calls]
+        lines += [record(CALL) for _ in fragment.calls]
     return lines
 
 

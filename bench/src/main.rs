@@ -1,10 +1,10 @@
-//! The benchmark: one round of longshot's own code and one of the static library, on the same cases in turn.
+//! The benchmark: one round of longshot's own code, of the static library and of bench/limit.c, in turn on each case.
 //!
-//! bench SECONDS FILE...   each file a `run` request; so many seconds a file; the last file's ratio is the last line
+//! bench SECONDS FILE...   each file a `run` request; so many seconds per file; the last file's ratio is the last line
 //!
 //! What is timed of the Rust is `call_genotypes_with_haplotypes` (one round, by an infinite ll_delta) on variants,
-//! fragments and priors that are ready; of ours the whole call, with the checks of all slices and the making of the
-//! priors. Nothing is timed before both have given the same answer.
+//! fragments and priors that are ready; of ours and of the limit the whole call, with the checks of all slices and the
+//! making of the priors. Nothing is timed before all three have given the same answer.
 //!
 //! The modules are those of oracle/src/main.rs, less its own program (edition 2015: the source's paths start here).
 
@@ -59,6 +59,7 @@ mod variants_and_fragments;
 
 extern crate condorbed;
 
+mod limit;
 mod request;
 mod timing;
 

@@ -1,9 +1,11 @@
-//! A `run` request, as the source takes it and as the library does.
+//! A `run` request, as the source takes it and as the library and the limit do.
 
 use bio::stats::{LogProb, Prob};
 use case::Case;
+use case::layout::{PAIR, TABLE};
 use condorbed::{self, Rates, Round};
 use genotype_probs::GenotypePriors;
+use limit;
 use protocol::Tokens;
 use rand::{self, Orders};
 use rounds::{genotype_priors, round, Phase};
@@ -22,7 +24,7 @@ pub struct Request {
     limit: u32,
 }
 
-/// The slices that the library writes.
+/// The slices that the library and the limit write.
 #[derive(PartialEq)]
 pub struct Slices {
     haplotypes: Vec<u8>,
@@ -35,7 +37,7 @@ pub struct Slices {
 /// What a round has to do.
 pub struct Work {
     pub sweeps: usize,
-    /// A scoring is one pair of alleles scored at one visit over one usable call: in each sweep k × k a usable call.
+    /// A scoring is one pair of alleles scored at one visit over one usable call: in each sweep k × k per usable call.
     pub scorings: usize,
 }
 
@@ -66,9 +68,9 @@ impl Request {
     pub fn slices(&self) -> Slices {
         let (n, f) = (self.case.n(), self.case.flist.len());
         Slices {
-            haplotypes: vec![0; 2 * n],
-            likelihoods: vec![0; 2 * f],
-            posteriors: vec![0; 9 * n],
+            haplotypes: vec![0; PAIR * n],
+            likelihoods: vec![0; PAIR * f],
+            posteriors: vec![0; TABLE * n],
             quals: vec![0.0; n],
             gqs: vec![0.0; n],
         }
@@ -98,13 +100,27 @@ impl Request {
         (answer.expect("an accepted request"), time)
     }
 
-    /// What both have to do; stops the program where they do not come to the same.
+    /// One call of the limit; its answer and its time.
+    pub fn limit(&self, out: &mut Slices) -> (Round, Duration) {
+        let start = Instant::now();
+        let answer = limit::call_genotypes_with_haplotypes(
+            &self.words, &self.bases, self.rates, &self.phase.bytes, &self.phase.sets, &self.orders, self.limit,
+            &mut out.haplotypes, &mut out.likelihoods, &mut out.posteriors, &mut out.quals, &mut out.gqs,
+        );
+        let time = start.elapsed();
+        (answer.expect("an accepted request"), time)
+    }
+
+    /// What all three have to do; stops the program where they do not come to the same.
     pub fn agreed(&self) -> Work {
-        let (mut called, mut out) = (self.fresh(), self.slices());
+        let (mut called, mut out, mut limit_out) = (self.fresh(), self.slices(), self.slices());
         self.source(&mut called);
         let (answer, _) = self.ours(&mut out);
+        let (limit_answer, _) = self.limit(&mut limit_out);
         assert!(answer.settled && answer.sweeps == rand::sweeps(), "not as many sweeps, or unsettled");
-        assert!(out == written(&called), "not the same answer");
+        assert!(out == written(&called), "the library's answer is not that of the source");
+        assert!(limit_answer == answer, "the limit's sweeps or totals are not those of the library");
+        assert!(limit_out == out, "the limit has not written what the library has");
         Work { sweeps: answer.sweeps, scorings: answer.sweeps * self.scorings() }
     }
 
@@ -133,7 +149,7 @@ fn written(called: &Case) -> Slices {
     let vars = &called.varlist.lst;
     let nine = |tab: &Vec<Vec<LogProb>>| {
         let mut values: Vec<i64> = tab.iter().flat_map(|row| row).map(|p| p.0 as i64).collect();
-        values.resize(9, 0);
+        values.resize(TABLE, 0);
         values
     };
     Slices {

@@ -1,21 +1,23 @@
-//! Times of both sides in turn, and their line of the table.
+//! Times of all three in turn, and their line of the table.
 
 use request::{Request, Work};
 use std::time::{Duration, Instant};
 
-/// So many calls of the library for each round of the source: they are short.
-const OURS_A_TURN: usize = 8;
+/// So many calls of the library and of the limit for each round of the source: they are short.
+const CALLS_PER_TURN: usize = 8;
 
 /// At least so many turns, whatever the time.
 const TURNS: usize = 5;
 
 pub const TITLES: &str = "case               N     F      C  sweeps  scorings    \
-                          Rust ms  (median)  ns/scoring    ours ms  (median)  ns/scoring   ratio";
+                          Rust ms  (median)  ns/scoring    ours ms  (median)  ns/scoring   \
+                          limit ms  (median)  ns/scoring   ratio  ours/limit";
 
 pub struct Times {
     sizes: [usize; 3],
     source: Vec<Duration>,
     ours: Vec<Duration>,
+    limit: Vec<Duration>,
 }
 
 fn milliseconds(time: Duration) -> f64 {
@@ -23,26 +25,35 @@ fn milliseconds(time: Duration) -> f64 {
 }
 
 impl Times {
-    /// Turns of both, one after the other, for so long.
+    /// Turns of all three, one after the other, for so long.
     pub fn measure(request: &Request, time: Duration) -> Times {
-        let mut times = Times { sizes: request.sizes(), source: vec![], ours: vec![] };
+        let mut times = Times { sizes: request.sizes(), source: vec![], ours: vec![], limit: vec![] };
         let mut out = request.slices();
         let start = Instant::now();
         while times.source.len() < TURNS || start.elapsed() < time {
             let mut called = request.fresh();
             times.source.push(request.source(&mut called));
-            for _ in 0..OURS_A_TURN {
+            for _ in 0..CALLS_PER_TURN {
                 times.ours.push(request.ours(&mut out).1);
+            }
+            for _ in 0..CALLS_PER_TURN {
+                times.limit.push(request.limit(&mut out).1);
             }
         }
         times.source.sort();
         times.ours.sort();
+        times.limit.sort();
         times
     }
 
     /// The source's best time over our best time.
     pub fn ratio(&self) -> f64 {
         milliseconds(self.source[0]) / milliseconds(self.ours[0])
+    }
+
+    /// Our best time over the limit's best time.
+    fn over_limit(&self) -> f64 {
+        milliseconds(self.ours[0]) / milliseconds(self.limit[0])
     }
 
     pub fn line(&self, name: &str, work: &Work) -> String {
@@ -52,6 +63,7 @@ impl Times {
         };
         let [n, f, c] = self.sizes;
         let sizes = format!("{:5} {:5} {:6} {:7} {:9}", n, f, c, work.sweeps, work.scorings);
-        format!("{:14} {}  {}  {} {:7.1}", name, sizes, side(&self.source), side(&self.ours), self.ratio())
+        let sides = format!("{}  {}  {}", side(&self.source), side(&self.ours), side(&self.limit));
+        format!("{:14} {}  {} {:7.1} {:11.2}", name, sizes, sides, self.ratio(), self.over_limit())
     }
 }

@@ -1,14 +1,145 @@
 //! A case of document 01, section 2, as the source's variants and fragments. The case is an accepted one.
+//!
+//! Here, in `layout`, stand all strides, offsets and limits that the oracle and the benchmark know.
 
 use bio::stats::{cutoff, LogProb};
 use genotype_probs::{Genotype, GenotypeProbs};
 use protocol::Tokens;
+use self::layout::{ranged, Words, MAX_LENGTH};
 use variants_and_fragments::{FragCall, Fragment, Var, VarFilter, VarList};
 
-const HEAD: usize = 4;
-const VARIANT: usize = 8;
-const FRAGMENT: usize = 2;
-const CALL: usize = 5;
+/// Where each word of a case stands, and the strides of the slices that are written.
+pub mod layout {
+    pub const MAX_VARIANTS: usize = 1024;
+    pub const MAX_FRAGMENTS: usize = 4096;
+    pub const MAX_CALLS: usize = 16384;
+    pub const MAX_ALLELES: usize = 3;
+    pub const MAX_LENGTH: usize = 64;
+    pub const LOWEST: i32 = -262144;
+
+    /// Words of the head and of each record.
+    const HEAD: usize = 4;
+    const VARIANT: usize = 8;
+    const FRAGMENT: usize = 2;
+    const CALL: usize = 5;
+
+    /// Written: 2 haplotype alleles per variant and 2 likelihoods per fragment; a table of all pairs per variant.
+    #[allow(dead_code)] // the benchmark's
+    pub const PAIR: usize = 2;
+    pub const TABLE: usize = MAX_ALLELES * MAX_ALLELES;
+
+    /// The words of a case.
+    pub struct Words<'a>(pub &'a [i32]);
+
+    /// The words of one variant, one fragment, one call.
+    pub struct VariantWords<'a>(&'a [i32]);
+    pub struct FragmentWords<'a>(&'a [i32]);
+    pub struct CallWords<'a>(&'a [i32]);
+
+    impl<'a> Words<'a> {
+        pub fn n(&self) -> usize {
+            self.0[0] as usize
+        }
+
+        pub fn f(&self) -> usize {
+            self.0[1] as usize
+        }
+
+        pub fn c(&self) -> usize {
+            self.0[2] as usize
+        }
+
+        pub fn cutoff(&self) -> i32 {
+            self.0[3]
+        }
+
+        pub fn variant(&self, v: usize) -> VariantWords<'a> {
+            VariantWords(self.record(HEAD + VARIANT * v, VARIANT))
+        }
+
+        pub fn fragment(&self, f: usize) -> FragmentWords<'a> {
+            FragmentWords(self.record(HEAD + VARIANT * self.n() + FRAGMENT * f, FRAGMENT))
+        }
+
+        /// Calls are numbered from 1.
+        pub fn call(&self, r: usize) -> CallWords<'a> {
+            CallWords(self.record(HEAD + VARIANT * self.n() + FRAGMENT * self.f() + CALL * (r - 1), CALL))
+        }
+
+        fn record(&self, at: usize, words: usize) -> &'a [i32] {
+            &self.0[at..at + words]
+        }
+
+        /// Whether the head is within its limits and gives this number of words: a test that both sides mean the same
+        /// layout, not the check of a case.
+        pub fn sized(&self) -> bool {
+            let (n, f, c) = (self.n(), self.f(), self.c());
+            let within = n <= MAX_VARIANTS && f <= MAX_FRAGMENTS && c <= MAX_CALLS;
+            within && ranged(self.cutoff()) && self.0.len() == HEAD + VARIANT * n + FRAGMENT * f + CALL * c
+        }
+    }
+
+    /// Whether it is a cutoff or a quality.
+    pub fn ranged(steps: i32) -> bool {
+        LOWEST <= steps && steps <= 0
+    }
+
+    impl<'a> VariantWords<'a> {
+        pub fn pos0(&self) -> usize {
+            self.0[0] as usize
+        }
+
+        pub fn dp(&self) -> usize {
+            self.0[1] as usize
+        }
+
+        pub fn genotype(&self) -> (u8, u8) {
+            (self.0[2] as u8, self.0[3] as u8)
+        }
+
+        pub fn k(&self) -> usize {
+            self.0[4] as usize
+        }
+
+        /// The lengths of its k alleles.
+        pub fn lengths(&self) -> &'a [i32] {
+            let all = &self.0[5..5 + MAX_ALLELES];
+            &all[..self.k()]
+        }
+    }
+
+    impl<'a> FragmentWords<'a> {
+        pub fn first(&self) -> usize {
+            self.0[0] as usize
+        }
+
+        pub fn strand(&self) -> i32 {
+            self.0[1]
+        }
+    }
+
+    impl<'a> CallWords<'a> {
+        pub fn variant(&self) -> usize {
+            self.0[0] as usize
+        }
+
+        pub fn allele(&self) -> u8 {
+            self.0[1] as u8
+        }
+
+        pub fn qual(&self) -> i32 {
+            self.0[2]
+        }
+
+        pub fn one_minus_qual(&self) -> i32 {
+            self.0[3]
+        }
+
+        pub fn next(&self) -> usize {
+            self.0[4] as usize
+        }
+    }
+}
 
 #[derive(Clone)]
 pub struct Case {
@@ -26,18 +157,13 @@ impl Case {
     }
 
     fn decode(words: &[i32], bases: &[u8]) -> Case {
-        let (n, f) = (words[0] as usize, words[1] as usize);
-        let fragments = HEAD + VARIANT * n;
-        let calls = fragments + FRAGMENT * f;
+        let words = Words(words);
+        assert!(words.sized(), "not the words of an accepted case");
         let mut bases = bases.iter().map(|b| *b as char);
-        let variants = words[HEAD..fragments].chunks(VARIANT);
-        let vars = variants.map(|w| variant(w, &mut bases)).collect();
-        let records = &words[calls..];
-        let flist = words[fragments..calls].chunks(FRAGMENT).enumerate();
         Case {
-            varlist: var_list(vars),
-            flist: flist.map(|(i, w)| fragment(i, w, records)).collect(),
-            max_p_miscall: cutoff(words[3]),
+            varlist: var_list((0..words.n()).map(|v| variant(&words, v, &mut bases)).collect()),
+            flist: (0..words.f()).map(|f| fragment(&words, f)).collect(),
+            max_p_miscall: cutoff(words.cutoff()),
         }
     }
 
@@ -82,23 +208,25 @@ fn var_list(vars: Vec<Var>) -> VarList {
     list
 }
 
-fn variant<I: Iterator<Item = char>>(words: &[i32], bases: &mut I) -> Var {
-    let k = words[4] as usize;
-    let lengths = words[5..5 + k].iter();
-    let alleles: Vec<String> = lengths.map(|l| bases.by_ref().take(*l as usize).collect()).collect();
+fn variant<I: Iterator<Item = char>>(words: &Words, v: usize, bases: &mut I) -> Var {
+    let words = words.variant(v);
+    let (k, (a, b)) = (words.k(), words.genotype());
+    let lengths = words.lengths().iter().map(|l| *l as usize);
+    let alleles: Vec<String> = lengths.map(|l| bases.by_ref().take(l).collect()).collect();
+    assert!(alleles.iter().all(|x| 1 <= x.len() && x.len() <= MAX_LENGTH), "an allele's length");
     Var {
-        ix: 0,
+        ix: v,
         tid: 0,
-        pos0: words[0] as usize,
+        pos0: words.pos0(),
         alleles: alleles,
-        dp: words[1] as usize,
+        dp: words.dp(),
         allele_counts: vec![0; k],
         allele_counts_forward: vec![0; k],
         allele_counts_reverse: vec![0; k],
         ambiguous_count: 0,
         qual: 0.0,
         filter: VarFilter::Pass,
-        genotype: Genotype(words[2] as u8, words[3] as u8),
+        genotype: Genotype(a, b),
         gq: 0.0,
         unphased_genotype: Genotype(0, 0),
         unphased_gq: 0.0,
@@ -118,21 +246,22 @@ fn variant<I: Iterator<Item = char>>(words: &[i32], bases: &mut I) -> Var {
     }
 }
 
-fn fragment(i: usize, words: &[i32], records: &[i32]) -> Fragment {
+fn fragment(words: &Words, f: usize) -> Fragment {
     let mut calls = vec![];
-    let mut next = words[0] as usize;
+    let mut next = words.fragment(f).first();
     while next != 0 {
-        let record = &records[CALL * (next - 1)..CALL * next];
+        let call = words.call(next);
+        assert!(ranged(call.qual()) && ranged(call.one_minus_qual()), "a quality");
         calls.push(FragCall {
-            frag_ix: i,
-            var_ix: record[0] as usize,
-            allele: record[1] as u8,
-            qual: LogProb(f64::from(record[2])),
-            one_minus_qual: LogProb(f64::from(record[3])),
+            frag_ix: f,
+            var_ix: call.variant(),
+            allele: call.allele(),
+            qual: LogProb(f64::from(call.qual())),
+            one_minus_qual: LogProb(f64::from(call.one_minus_qual())),
         });
-        next = record[4] as usize;
+        next = call.next();
     }
-    fragment_of(calls, words[1] == 1)
+    fragment_of(calls, words.fragment(f).strand() == 1)
 }
 
 pub fn fragment_of(calls: Vec<FragCall>, reverse_strand: bool) -> Fragment {

@@ -3,6 +3,7 @@
 use bio::stats::LogProb;
 use call_genotypes::call_genotypes_no_haplotypes;
 use case::Case;
+use case::layout::{MAX_ALLELES, TABLE};
 use genotype_probs::{Genotype, GenotypeProbs};
 use haplotype_assembly::generate_flist_buffer;
 use protocol::{Answer, Output, Tokens};
@@ -46,16 +47,16 @@ fn rooms(tokens: &mut Tokens, count: usize) -> Option<Vec<usize>> {
     tokens.several(count, |t| t.u32().map(|x| x as usize))
 }
 
-/// A table of pairs, row-major, then zeros to nine.
+/// The places of a table of pairs, row-major, then zeros.
 fn nine(probs: &GenotypeProbs) -> Vec<i64> {
     let mut values: Vec<i64> = probs.tab.iter().flat_map(|row| row).map(|p| p.0 as i64).collect();
-    values.resize(9, 0);
+    values.resize(TABLE, 0);
     values
 }
 
 /// Counts by allele, absent alleles 0.
 fn three(counts: &[u16]) -> Vec<i64> {
-    (0..3).map(|a| counts.get(a).map_or(0, |x| i64::from(*x))).collect()
+    (0..MAX_ALLELES).map(|a| counts.get(a).map_or(0, |x| i64::from(*x))).collect()
 }
 
 fn pairs(vars: &[Var]) -> Vec<u8> {
