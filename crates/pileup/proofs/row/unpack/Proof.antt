@@ -1,0 +1,20 @@
+-- `unpack` takes a word apart as `unpacked` does.
+-- Assumes nothing.
+use mathlib.Core.Path.{refl}
+use borrow.Author.Needs.{needs}
+use Rattle.pileup.specs.Packed.{unpacked}
+use Rattle.pileup.proofs.row.unpack.Statement.{statement}
+use Rattle.pileup.proofs.row.unpack.Tie as tie
+
+below-requires : tie.Need-below-requires
+below-requires c κs = search needs
+
+below-requires-2 : tie.Need-below-requires-2
+below-requires-2 c κs = search needs
+
+returns : tie.Need-returns
+unfolding unpacked
+returns c = rw (c .before .below .ensures, c .below2 .ensures) ?
+
+pub unpack-spec : {M : Type 1} → statement M
+unpack-spec = tie.close (tie.spec below-requires below-requires-2 returns)
