@@ -1,2 +1,11 @@
 pub mod Packing
 pub mod Groups
+pub mod Folds
+pub mod CallReads
+pub mod ChainReads
+pub mod LentReader
+pub mod Laying
+pub mod RowFacts
+pub mod RowParts
+pub mod RowWalks
+pub mod RowRuns

@@ -1,0 +1,31 @@
+-- Reading a fragment's chain from its first call on, one call at a time, gives the fragment's calls.
+-- Assumes nothing.
+use mathlib.Core.Path.{_≡_, refl}
+use mathlib.Core.List.{List, _∷_, map}
+use Prim.Native.Nat.{ℕ, zero, suc, _+_, _-_, _≤_}
+use native.Mathlib.Omega.{arith}
+use borrow.Author.Tests.{le-leb}
+use lib.IntN.{ℤ}
+use Rattle.variants_and_fragments.specs.declared.Sizes.{Sizes}
+use Rattle.variants_and_fragments.specs.Chain.{firstCallAt, nextCallAt, chainFrom, chainOf}
+use Rattle.variants_and_fragments.specs.Accepted.{FragmentIn}
+use Rattle.variants_and_fragments.specs.Decode.{callFrom, fragmentFrom}
+use Rattle.pileup.specs.Reader.{heldCall, readAt, nextAt, gather, callsRead}
+use Rattle.variants_and_fragments.proofs.Walks.{chain-end, chain-none}
+use Rattle.pileup.proofs.Folds.{Onward, onward-start, onward-next}
+
+chain-on : (w : List ℤ) (s : Sizes) (j r : ℕ) → 1 ≤ r → r ≤ s .c → chainFrom w s (suc j) r ≡ r ∷ chainFrom w s j (nextCallAt w s r)
+unfolding chainFrom
+chain-on w s j r lo hi = simp (le-leb 1 r lo, le-leb r (s .c) hi)
+
+-- the same of what is left after k records
+reads-left : (w : List ℤ) (s : Sizes) (j k r : ℕ) → j ≡ s .c - k → Onward w s r k → callsRead w s j r ≡ map heldCall (map (callFrom w s) (chainFrom w s j r))
+unfolding callsRead gather readAt nextAt
+reads-left w s zero k r e i = rw (chain-none w s 0 r refl)
+reads-left w s (suc j) k zero e i = rw (chain-end w s (suc j) 0 refl)
+reads-left w s (suc j) k (suc r) e i =
+    rw (chain-on w s j (suc r) (omega arith) (i .r-top), reads-left w s j (k + 1) (nextCallAt w s (suc r)) (omega arith) (onward-next i (omega arith) (λ z. omega arith) _ refl))
+
+pub chain-read : (w : List ℤ) (s : Sizes) (f : ℕ) → FragmentIn w s f → callsRead w s (s .c) (firstCallAt w s f) ≡ map heldCall (fragmentFrom w s f .calls)
+unfolding fragmentFrom chainOf
+chain-read w s f i = reads-left w s (s .c) 0 (firstCallAt w s f) (omega arith) (onward-start w s f _ refl i)

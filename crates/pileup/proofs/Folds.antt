@@ -1,0 +1,68 @@
+-- A loop along the chain of an accepted case's fragment: what holds at its head, and what a turn does to a fold over the chain.
+-- Assumes nothing.
+use mathlib.Core.Path.{_≡_}
+use mathlib.Core.Bool.{true, not, _&&_}
+use mathlib.Core.List.{List, _∷_}
+use Prim.Native.Nat.{ℕ, zero, _+_, _-_, _≤_, _<_}
+use native.Mathlib.Nat.{sub-zero}
+use native.Mathlib.Omega.{arith}
+use lib.IntN.{ℤ}
+use Rattle.variants_and_fragments.specs.declared.Sizes.{Sizes}
+use Rattle.variants_and_fragments.specs.Layout.{callOk}
+use Rattle.variants_and_fragments.specs.Chain.{firstCallAt, nextCallAt, linkOk, chainFrom, chainOf, memb, goodChain, reached}
+use Rattle.variants_and_fragments.specs.Accepted.{allb, CallIn, FragmentIn}
+use Rattle.variants_and_fragments.proofs.Bools.{both}
+use Rattle.variants_and_fragments.proofs.Records.{call-facts}
+use Rattle.variants_and_fragments.specs.Fold.{fold}
+use Rattle.variants_and_fragments.proofs.Walks.{chain-end, chain-none, chain-step, link-top}
+
+-- r is where a walk stands after k records
+pub record Onward (w : List ℤ) (s : Sizes) (r k : ℕ) : Type 0 where
+  pub past : List ℕ
+  pub r-top : r ≤ s .c
+  pub k-top : k ≤ s .c
+  pub right : goodChain w s past (chainFrom w s (s .c - k) r) ≡ true
+  pub calls : allb (callOk w s) (chainFrom w s (s .c - k) r) ≡ true
+
+pub onward-start : (w : List ℤ) (s : Sizes) (f r : ℕ) → r ≡ firstCallAt w s f → FragmentIn w s f → Onward w s r 0
+unfolding chainOf
+onward-start w s f r e i = record { past = reached w s f; r-top = rw e (i .first-in); k-top = omega arith; right = rw (e, sub-zero) (i .right); calls = rw (e, sub-zero) (i .calls) }
+
+pub fold-start : {A : Type 0} (step : A → ℕ → A) (a : A) (w : List ℤ) (s : Sizes) (f r : ℕ) → r ≡ firstCallAt w s f → fold step a (chainOf w s f) ≡ fold step a (chainFrom w s (s .c - 0) r)
+unfolding chainOf
+fold-start step a w s f r e = rw (e, sub-zero)
+
+module _ {w : List ℤ} {s : Sizes} {r k : ℕ} (i : Onward w s r k) where
+  pub fold-end : {A : Type 0} (step : A → ℕ → A) (a : A) → r ≡ 0 → fold step a (chainFrom w s (s .c - k) r) ≡ a
+  unfolding fold
+  fold-end step a e = rw (chain-end w s (s .c - k) r e)
+
+  pub fold-out : {A : Type 0} (step : A → ℕ → A) (a : A) → s .c ≤ k → fold step a (chainFrom w s (s .c - k) r) ≡ a
+  unfolding fold
+  fold-out step a l = let z : s .c - k ≡ 0 = omega arith in rw (chain-none w s (s .c - k) r z)
+
+  module _ (more : k < s .c) (some : r ≡ 0 → ⊥) where
+    step-chain : chainFrom w s (s .c - k) r ≡ r ∷ chainFrom w s (s .c - (k + 1)) (nextCallAt w s r)
+    step-chain = chain-step w s k r more (omega arith) (i .r-top)
+
+    pub onward-call : CallIn w s r
+    unfolding allb
+    onward-call = call-facts w s r (both (callOk w s r) (allb (callOk w s) (chainFrom w s (s .c - (k + 1)) (nextCallAt w s r))) (rw step-chain at (i .calls)) .0)
+
+    pub onward-next : (t : ℕ) → t ≡ nextCallAt w s r → Onward w s t (k + 1)
+    unfolding allb goodChain
+    onward-next t e =
+        let n = chainFrom w s (s .c - (k + 1)) (nextCallAt w s r) in
+        let g = both (not (memb r (i .past))) (linkOk w s r && goodChain w s (r ∷ i .past) n) (rw step-chain at (i .right)) in
+        let h = both (linkOk w s r) (goodChain w s (r ∷ i .past) n) (g .1) in
+        record {
+          past = r ∷ i .past;
+          r-top = rw e (link-top (s .c) r (nextCallAt w s r) _ _ (h .0));
+          k-top = omega arith;
+          right = rw e (h .1);
+          calls = rw e (both (callOk w s r) (allb (callOk w s) n) (rw step-chain at (i .calls)) .1);
+        }
+
+    pub fold-on : {A : Type 0} (step : A → ℕ → A) (a b : A) (t : ℕ) → b ≡ step a r → t ≡ nextCallAt w s r → fold step a (chainFrom w s (s .c - k) r) ≡ fold step b (chainFrom w s (s .c - (k + 1)) t)
+    unfolding fold
+    fold-on step a b t q e = rw (step-chain, q, e)

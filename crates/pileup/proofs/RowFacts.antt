@@ -1,0 +1,53 @@
+-- Each row of an accepted case is one of its fragments, at one of its variants, and in its ranges.
+-- Assumes nothing.
+use mathlib.Core.Path.{_≡_}
+use mathlib.Core.Bool.{true}
+use mathlib.Core.List.{List, [], _∷_, _++_, map}
+use Prim.Native.Nat.{ℕ, zero, suc, _+_, _≤_, _<_}
+use native.Mathlib.Omega.{arith}
+use lib.Dec.{lit<}
+use lib.IntN.{ℤ}
+use Rattle.variants_and_fragments.specs.declared.Sizes.{Sizes}
+use Rattle.variants_and_fragments.specs.Case.{usable, All, end, also}
+use Rattle.variants_and_fragments.specs.Layout.{cutoffAt, callOk, callVariantAt}
+use Rattle.variants_and_fragments.specs.Chain.{chainOf}
+use Rattle.variants_and_fragments.specs.Accepted.{allb, CallIn, CaseIn}
+use Rattle.variants_and_fragments.specs.Decode.{tabulateFrom, callFrom, fragmentFrom}
+use Rattle.variants_and_fragments.specs.Pileup.{Row, rowOf, usableCalls, rowsFrom}
+use Rattle.variants_and_fragments.proofs.Alls.{all-map}
+use Rattle.variants_and_fragments.proofs.Bools.{both}
+use Rattle.variants_and_fragments.proofs.Decoded.{debt-down}
+use Rattle.variants_and_fragments.proofs.Records.{call-facts}
+use Rattle.variants_and_fragments.proofs.Usable.{only-all}
+use Rattle.pileup.specs.Packed.{RowIn}
+
+all-append : {X : Type 0} {P : X → Type 0} {xs ys : List X} → All P xs → All P ys → All P (xs ++ ys)
+all-append end q = q
+all-append (also p ps) q = also p (all-append ps q)
+
+module _ {w : List ℤ} {s : Sizes} (k : CaseIn w s) where
+  pub row-in : (f r : ℕ) → f < s .f → CallIn w s r → RowIn (s .n) (s .f) (rowOf f (callFrom w s r))
+  unfolding callFrom
+  row-in f r h c = record {
+    fragment-in = h;
+    variant-in = c .variant-in;
+    allele-in = omega (arith, c .allele-in, k .variants .each (callVariantAt w s r) (c .variant-in) .k-high);
+    qual-in = debt-down 262144 _ (lit< tt) (c .qual-in);
+    one-minus-qual-in = debt-down 262144 _ (lit< tt) (c .other-in);
+  }
+
+  chain-in : (f : ℕ) → f < s .f → (rs : List ℕ) → allb (callOk w s) rs ≡ true → All (λ call. RowIn (s .n) (s .f) (rowOf f call)) (map (callFrom w s) rs)
+  unfolding allb
+  chain-in f h [] e = end
+  chain-in f h (r ∷ rs) e = let t = both (callOk w s r) (allb (callOk w s) rs) e in also (row-in f r h (call-facts w s r (t .0))) (chain-in f h rs (t .1))
+
+  -- the rows of fragment f
+  pub own-in : (f : ℕ) → f < s .f → All (RowIn (s .n) (s .f)) (map (rowOf f) (usableCalls (cutoffAt w) (fragmentFrom w s f)))
+  unfolding usableCalls fragmentFrom
+  own-in f h = all-map (rowOf f) _ (only-all (usable (cutoffAt w) (fragmentFrom w s f)) (map (callFrom w s) (chainOf w s f)) (chain-in f h (chainOf w s f) (k .frags f h .calls)))
+
+  -- those of j fragments from f on
+  pub from-in : (j f : ℕ) → f + j ≤ s .f → All (RowIn (s .n) (s .f)) (rowsFrom (cutoffAt w) f (tabulateFrom (fragmentFrom w s) f j))
+  unfolding rowsFrom tabulateFrom
+  from-in zero f h = end
+  from-in (suc j) f h = all-append (own-in f (omega arith)) (from-in j (suc f) (omega arith))
