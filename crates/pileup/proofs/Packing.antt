@@ -2,7 +2,7 @@
 -- Assumes nothing.
 use mathlib.Core.Path.{_≡_, refl, sym, ap}
 use Prim.Native.Nat.{ℕ, zero, suc, _+_, _*_, _/_, _%_, _≤_, _<_, _^_}
-use native.Mathlib.Nat.{zero-add}
+use native.Mathlib.Nat.{zero-add, div-div-eq-div-mul}
 use native.Mathlib.Omega.{arith}
 use borrow.Author.Tests.{leb-true}
 use lib.IntN.{ℤ, pos, negsuc, negℤ, _-ℤ_}
@@ -72,3 +72,15 @@ module _ {row : Row} (r : Packable row) where
 pub unpack-pack : (row : Row) → Packable row → unpacked (packed row) ≡ row
 unfolding unpacked
 unpack-pack row r = rw (fragment-part r, variant-part r, allele-part r, qual-part r, other-part r) refl
+
+-- every word is that of its row
+neg-debt : (x : ℕ) → debtOf (negℤ (pos x)) ≡ x
+neg-debt zero = refl
+neg-debt (suc x) = refl
+
+parts-join : (w : ℕ) → w % 1024 + 1024 * (w / 1024 % 4 + 4 * (w / 4096 % 4096 + 4096 * (w / 16777216 % 524288 + 524288 * (w / 8796093022208)))) ≡ w
+parts-join w = omega (arith, div-div-eq-div-mul w 1024 4, div-div-eq-div-mul w 4096 4096, div-div-eq-div-mul w 16777216 524288)
+
+pub pack-unpack : (word : ℕ) → packed (unpacked word) ≡ word
+unfolding packed unpacked
+pack-unpack word = rw (neg-debt (word / 16777216 % 524288), neg-debt (word / 8796093022208)) (parts-join word)
