@@ -13,7 +13,7 @@ use Rattle.variants_and_fragments.specs.Layout.{cutoffAt, callOk, callVariantAt
 use Rattle.variants_and_fragments.specs.Chain.{chainOf}
 use Rattle.variants_and_fragments.specs.Accepted.{allb, CallIn, CaseIn}
 use Rattle.variants_and_fragments.specs.Decode.{tabulateFrom, callFrom, fragmentFrom}
-use Rattle.variants_and_fragments.specs.Pileup.{Row, rowOf, usableCalls, rowsFrom}
+use Rattle.variants_and_fragments.specs.Pileup.{rowOf, usableCalls, rowsFrom}
 use Rattle.variants_and_fragments.proofs.Alls.{all-map}
 use Rattle.variants_and_fragments.proofs.Bools.{both}
 use Rattle.variants_and_fragments.proofs.Decoded.{debt-down}
