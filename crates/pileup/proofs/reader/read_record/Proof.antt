@@ -10,21 +10,6 @@ use Rattle.pileup.proofs.reader.read_record.Tie as tie
 returns : tie.Need-returns
 returns c = read-end _ _ _ (c .if1 .taken)
 
-call-variant-requires : tie.Need-call-variant-requires
-call-variant-requires c κs = search needs
-
-called-allele-requires : tie.Need-called-allele-requires
-called-allele-requires c κs = search needs
-
-qual-of-requires : tie.Need-qual-of-requires
-qual-of-requires c κs = search needs
-
-one-minus-qual-of-requires : tie.Need-one-minus-qual-of-requires
-one-minus-qual-of-requires c κs = search needs
-
-next-call-requires : tie.Need-next-call-requires
-next-call-requires c κs = search needs
-
 returns-2 : tie.Need-returns-2
 returns-2 c =
     let q = c .before .before .qual-of in
@@ -38,9 +23,9 @@ read-record-spec =
     tie.close
     (tie.spec
     returns
-    call-variant-requires
-    called-allele-requires
-    qual-of-requires
-    one-minus-qual-of-requires
-    next-call-requires
+    (λ c κs. search needs)
+    (λ c κs. search needs)
+    (λ c κs. search needs)
+    (λ c κs. search needs)
+    (λ c κs. search needs)
     returns-2)

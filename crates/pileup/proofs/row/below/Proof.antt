@@ -6,9 +6,6 @@ use Rattle.variants_and_fragments.proofs.Readings.{minus-fits, minus-back}
 use Rattle.pileup.proofs.row.below.Statement.{statement}
 use Rattle.pileup.proofs.row.below.Tie as tie
 
-cast-result : tie.Need-cast-result
-cast-result c = search needs
-
 sub-result : tie.Need-sub-result
 sub-result c = minus-fits (c .args .debt) (omega (arith, c .pre))
 
@@ -16,4 +13,4 @@ returns : tie.Need-returns
 returns c = minus-back (c .args .debt) (omega (arith, c .pre))
 
 pub below-spec : {M : Type 1} → statement M
-below-spec = tie.close (tie.spec cast-result sub-result returns)
+below-spec = tie.close (tie.spec (λ c. search needs) sub-result returns)

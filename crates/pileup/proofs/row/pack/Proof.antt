@@ -16,36 +16,6 @@ fits c = search needs
 fits-other : (c : tie.After-debt2) → SFits w64 (c .before .before .before .before .args .row .«one_minus_qual»)
 fits-other c = search needs
 
-debt-requires : tie.Need-debt-requires
-debt-requires c κs = search needs
-
-debt-requires-2 : tie.Need-debt-requires-2
-debt-requires-2 c κs = search needs
-
-mul-qualities : tie.Need-mul-qualities
-mul-qualities c = search needs
-
-add-qualities : tie.Need-add-qualities
-add-qualities c = search needs
-
-mul-who : tie.Need-mul-who
-mul-who c = search needs
-
-add-who : tie.Need-add-who
-add-who c = search needs
-
-mul-who-2 : tie.Need-mul-who-2
-mul-who-2 c = search needs
-
-add-who-2 : tie.Need-add-who-2
-add-who-2 c = search needs
-
-mul-result : tie.Need-mul-result
-mul-result c = search needs
-
-add-result : tie.Need-add-result
-add-result c = search needs
-
 returns : tie.Need-returns
 unfolding packed
 returns c = rw (c .before .before .debt .ensures .0, c .debt2 .ensures .0, toZ-ofZ (fits c), toZ-ofZ (fits-other c)) refl
@@ -54,14 +24,14 @@ pub pack-spec : {M : Type 1} → statement M
 pack-spec =
     tie.close
     (tie.spec
-    debt-requires
-    debt-requires-2
-    mul-qualities
-    add-qualities
-    mul-who
-    add-who
-    mul-who-2
-    add-who-2
-    mul-result
-    add-result
+    (λ c κs. search needs)
+    (λ c κs. search needs)
+    (λ c. search needs)
+    (λ c. search needs)
+    (λ c. search needs)
+    (λ c. search needs)
+    (λ c. search needs)
+    (λ c. search needs)
+    (λ c. search needs)
+    (λ c. search needs)
     returns)

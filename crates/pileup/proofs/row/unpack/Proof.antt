@@ -8,15 +8,9 @@ use Rattle.pileup.specs.Packed.{unpacked}
 use Rattle.pileup.proofs.row.unpack.Statement.{statement}
 use Rattle.pileup.proofs.row.unpack.Tie as tie
 
-below-requires : tie.Need-below-requires
-below-requires c κs = search needs
-
-below-requires-2 : tie.Need-below-requires-2
-below-requires-2 c κs = search needs
-
 returns : tie.Need-returns
 unfolding unpacked
 returns c = rw (toZ-ofZ (sfits-of {w = w64} (c .before .below .ok)), toZ-ofZ (sfits-of {w = w64} (c .below2 .ok)), c .before .below .ensures, c .below2 .ensures) refl
 
 pub unpack-spec : {M : Type 1} → statement M
-unpack-spec = tie.close (tie.spec below-requires below-requires-2 returns)
+unpack-spec = tie.close (tie.spec (λ c κs. search needs) (λ c κs. search needs) returns)
