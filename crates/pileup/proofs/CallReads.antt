@@ -32,13 +32,10 @@ unfolding stepAt readAt nextAt heldCall callFrom
 read-some w s zero h = absurd (h refl)
 read-some w s (suc r) h = refl
 
--- the fields of a call that is read
-pub record ReadHere (w : List ℤ) (s : Sizes) (r v a : ℕ) (q o : ℤ) (t : ℕ) : Type 0 where
+-- the call that is read, and the record after it
+pub record ReadHere (w : List ℤ) (s : Sizes) (r : ℕ) (call : Call) (t : ℕ) : Type 0 where
   pub some : r ≡ 0 → ⊥
-  pub variant-is : v ≡ callVariantAt w s r
-  pub allele-is : a ≡ calledAlleleAt w s r
-  pub qual-is : q ≡ qualAt w s r
-  pub one-minus-qual-is : o ≡ oneMinusQualAt w s r
+  pub call-is : call ≡ heldCall (callFrom w s r)
   pub next-is : t ≡ nextCallAt w s r
 
 -- a step is what is read and the record after it
@@ -59,23 +56,15 @@ end-zero w s (suc r) e = let z : _≡_ {A = ℕ} 0 1 = cc in absurd (omega arith
 pub ended : (w : List ℤ) (s : Sizes) (r : ℕ) (step : CallStep) → step ≡ stepAt w s r → step .read ≡ read.End → r ≡ 0
 ended w s r step e f = end-zero w s r (sym f ∙ step-parts w s r step e .0)
 
--- a step that reads a call has the fields of record r
+-- a step that reads a call reads that of record r
 callIn : CallRead → Call
 callIn read.End = held 0 0 (pos 0) (pos 0)
 callIn (read.Call call) = call
 
-call-here : (w : List ℤ) (s : Sizes) (r : ℕ) (call : Call) → read.Call call ≡ readAt w s r → ReadHere w s r (call .variant) (call .allele) (call .qual) (call .«one_minus_qual») (nextAt w s r)
-unfolding readAt nextAt heldCall callFrom callIn
+call-here : (w : List ℤ) (s : Sizes) (r : ℕ) (call : Call) → read.Call call ≡ readAt w s r → ReadHere w s r call (nextAt w s r)
+unfolding readAt nextAt callIn
 call-here w s zero call e = let z : _≡_ {A = ℕ} 0 1 = cc in absurd (omega arith)
-call-here w s (suc r) call e = record {
-  some = λ z. omega arith;
-  variant-is = ap (λ (x : CallRead). callIn x .variant) e;
-  allele-is = ap (λ (x : CallRead). callIn x .allele) e;
-  qual-is = ap (λ (x : CallRead). callIn x .qual) e;
-  one-minus-qual-is = ap (λ (x : CallRead). callIn x .«one_minus_qual») e;
-  next-is = refl;
-}
+call-here w s (suc r) call e = record { some = λ z. omega arith; call-is = ap callIn e; next-is = refl }
 
-pub read-here : (w : List ℤ) (s : Sizes) (r : ℕ) (step : CallStep) (call : Call) → step ≡ stepAt w s r → step .read ≡ read.Call call
-    → ReadHere w s r (call .variant) (call .allele) (call .qual) (call .«one_minus_qual») (step .next)
+pub read-here : (w : List ℤ) (s : Sizes) (r : ℕ) (step : CallStep) (call : Call) → step ≡ stepAt w s r → step .read ≡ read.Call call → ReadHere w s r call (step .next)
 read-here w s r step call e f = rw (step-parts w s r step e .1) (call-here w s r call (sym f ∙ step-parts w s r step e .0))

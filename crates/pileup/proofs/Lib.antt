@@ -1,0 +1,16 @@
+pub mod Packing
+pub mod Groups
+pub mod Folds
+pub mod CallReads
+pub mod ChainReads
+pub mod LentReader
+pub mod Keys
+pub mod Laying
+pub mod RowFacts
+pub mod RowParts
+pub mod RowWalks
+pub mod RowRuns
+pub mod Counts
+pub mod Totals
+pub mod Sorting
+pub mod PileRuns
