@@ -11,6 +11,7 @@ pub mod EncodeSamples
 pub mod Tabulated
 pub mod First
 pub mod Records
+pub mod Heads
 pub mod Chain
 pub mod Outcomes
 pub mod Bools

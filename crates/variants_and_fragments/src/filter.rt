@@ -1,3 +1,4 @@
+// `var_filter`: the filter value of each variant, by a window that slides along them.
 ghost use mathlib.Core.Path.{_≡_};
 ghost use mathlib.Core.List.{List};
 ghost use Prim.Native.Nat.{ℕ, _≤_, _<_};

@@ -1,3 +1,4 @@
+// A case of variants and fragments: its check, and the types that every crate over it shares.
 ghost use mathlib.Core.Path.{_≡_};
 ghost use Rattle.variants_and_fragments.specs.Check.{outcomeOf, caseOf};
 use crate::alleles::alleles_fault;

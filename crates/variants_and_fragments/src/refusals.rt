@@ -1,3 +1,4 @@
+// A refusal's number and place.
 ghost use mathlib.Core.Path.{_≡_};
 ghost use Rattle.variants_and_fragments.specs.Refusals as refusals;
 use crate::Refusal;
