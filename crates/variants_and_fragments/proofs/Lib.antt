@@ -14,6 +14,7 @@ pub mod Records
 pub mod Heads
 pub mod Chain
 pub mod Outcomes
+pub mod Short
 pub mod Bools
 pub mod Accepted
 pub mod AlleleBytes

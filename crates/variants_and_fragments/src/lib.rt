@@ -8,17 +8,19 @@ use crate::head::head_fault;
 use crate::layout::read_sizes;
 use crate::variants::first_bad_variant;
 pub use filter::var_filter;
+pub use refusals::earlier;
 pub use refusals::number;
 pub use refusals::place;
+pub use refusals::short_of;
 
 pub mod alleles;
-pub mod calls;
-pub mod chains;
+mod calls;
+mod chains;
 pub mod filter;
-pub mod head;
+mod head;
 pub mod layout;
 pub mod refusals;
-pub mod variants;
+mod variants;
 
 // What the head says: N, F, C, and how far the cutoff lies below 0.
 pub struct Sizes {
