@@ -7,6 +7,8 @@ use native.Mathlib.Omega.{arith}
 use native.Mathlib.Decide.{ℕ-discrete}
 use Rattle.variants_and_fragments.specs.Filter.{anyBelow, countBelow}
 use Rattle.variants_and_fragments.specs.FilterWindow.{pastLast}
+use Rattle.variants_and_fragments.specs.Sums.{countTo}
+use Rattle.variants_and_fragments.proofs.Sums.{countTo-grows}
 
 pub any-one : (n : ℕ) (p : ℕ → Bool) (k : ℕ) → k < n → p k ≡ true → anyBelow n p ≡ true
 unfolding anyBelow
@@ -26,28 +28,23 @@ unfolding anyBelow
 any-more n p = refl
 
 pub count-in : (n : ℕ) (p : ℕ → Bool) → p n ≡ true → countBelow (suc n) p ≡ countBelow n p + 1
-unfolding countBelow
+unfolding countTo
 count-in n p e = rw e
 
 pub count-out : (n : ℕ) (p : ℕ → Bool) → p n ≡ false → countBelow (suc n) p ≡ countBelow n p
-unfolding countBelow
+unfolding countTo
 count-out n p e = rw e (omega arith)
 
 pub count-none : (n : ℕ) (p : ℕ → Bool) → ((k : ℕ) → k < n → p k ≡ false) → countBelow n p ≡ 0
-unfolding countBelow
+unfolding countTo
 count-none zero p h = refl
 count-none (suc n) p h = count-out n p (h n (omega arith)) ∙ count-none n p (λ k l. h k (omega arith))
 
 pub count-le : (p : ℕ → Bool) (m n : ℕ) → m ≤ n → countBelow m p ≤ countBelow n p
-unfolding countBelow
-count-le p m zero h = let e : m ≡ 0 = omega arith in rw e (omega arith)
-count-le p m (suc n) h = elim (ℕ-discrete m (suc n)) [
-  | yes q ↦ rw q (omega arith)
-  | no q ↦ omega (arith, count-le p m n (omega arith))
-]
+count-le p m n h = countTo-grows m n (λ k. cond (p k) 1 0) h
 
 pub count-top : (n : ℕ) (p : ℕ → Bool) → countBelow n p ≤ n
-unfolding countBelow
+unfolding countTo
 count-top zero p = omega arith
 count-top (suc n) p = go (p n) (count-top n p)
   where

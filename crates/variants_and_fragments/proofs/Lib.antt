@@ -6,6 +6,7 @@ pub mod Alls
 pub mod Sums
 pub mod Bounds
 pub mod GoodCases
+pub mod Only
 pub mod Usable
 pub mod EncodeSamples
 pub mod Tabulated

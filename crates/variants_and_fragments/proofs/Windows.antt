@@ -17,6 +17,7 @@ use Rattle.variants_and_fragments.specs.declared.Sizes.{Sizes}
 use Rattle.variants_and_fragments.specs.declared.DensityParameters.{DensityParameters}
 use Rattle.variants_and_fragments.specs.declared.filter.Window.{Window}
 use Rattle.variants_and_fragments.specs.Case.{variantOf}
+use Rattle.variants_and_fragments.specs.Sums.{countTo}
 use Rattle.variants_and_fragments.specs.Layout.{sizesOf, pos0At, depthAt}
 use Rattle.variants_and_fragments.specs.Accepted.{CaseIn}
 use Rattle.variants_and_fragments.specs.Decode.{variantFrom, decode}
@@ -48,7 +49,7 @@ pos0-le {w} {s} k i (suc j) h l = elim (ℕ-discrete i (suc j)) [
 
 module _ {w : List ℤ} {s : Sizes} {quals : List Float} {density : DensityParameters} where
   pub window-start : WindowAt w s quals density 0 (record { end = 0; ahead = 0; last = 0; until = 0 })
-  unfolding countBelow pastLast
+  unfolding countTo pastLast
   window-start = record {
     end-in = omega arith;
     ahead-is = refl;

@@ -13,7 +13,7 @@ use Rattle.variants_and_fragments.specs.Chain.{firstCallAt, strandAt, ch
 use Rattle.variants_and_fragments.specs.Alleles.{VariantsIn, allelesStart, isBase}
 
 -- p holds of each
-unfoldable pub allb : (ℕ → Bool) → List ℕ → Bool
+unfoldable pub allb : {X : Type 0} → (X → Bool) → List X → Bool
 allb p [] = true
 allb p (x ∷ xs) = p x && allb p xs
 

@@ -11,6 +11,7 @@ use Rattle.variants_and_fragments.specs.declared.DensityParameters.{Dens
 use Rattle.variants_and_fragments.specs.declared.VarFilter.{VarFilter}
 use Rattle.variants_and_fragments.specs.declared.VarFilter.the-variants.{Pass, Density, Depth, DensityAndDepth, StrandBias, DensityAndStrandBias, DepthAndStrandBias, DensityAndDepthAndStrandBias}
 use Rattle.variants_and_fragments.specs.Case.{Case, variantOf}
+use Rattle.variants_and_fragments.specs.Sums.{countTo}
 
 -- p holds of one of 0..n−1
 unfoldable pub anyBelow : ℕ → (ℕ → Bool) → Bool
@@ -18,9 +19,8 @@ anyBelow zero p = false
 anyBelow (suc n) p = anyBelow n p || p n
 
 -- of how many of 0..n−1 p holds
-unfoldable pub countBelow : ℕ → (ℕ → Bool) → ℕ
-countBelow zero p = 0
-countBelow (suc n) p = countBelow n p + cond (p n) 1 0
+abbrev pub countBelow : ℕ → (ℕ → Bool) → ℕ
+countBelow n p = countTo n (λ m. cond (p m) 1 0)
 
 -- values 0 to 7 as in `VarFilter`: 1 density, 2 depth, 4 strand bias, joined by bits
 abbrev pub filterValue : VarFilter → ℕ
