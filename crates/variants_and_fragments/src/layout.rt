@@ -14,7 +14,7 @@ use crate::Sizes;
 // What a word that passes no range reads as.
 pub const NONE: usize = 4294967296;
 
-// The numbers of section 2: words of the head and of each record, the most of each, the lowest cutoff and quality.
+// The numbers of section 2: words of the head and of each record.
 pub const HEAD_WORDS: usize = 4;
 
 pub const VARIANT_WORDS: usize = 8;
@@ -23,42 +23,43 @@ pub const FRAGMENT_WORDS: usize = 2;
 
 pub const CALL_WORDS: usize = 5;
 
-// The words of the head.
-pub const VARIANTS: usize = 0;
+// The fields, each by its place in its record: of the head.
+const VARIANTS: usize = 0;
 
-pub const FRAGMENTS: usize = 1;
+const FRAGMENTS: usize = 1;
 
-pub const CALLS: usize = 2;
+const CALLS: usize = 2;
 
-pub const CUTOFF: usize = 3;
+const CUTOFF: usize = 3;
 
-// The fields of a variant record; the genotype has 2 words, the lengths 3.
-pub const POS0: usize = 0;
+// Of a variant; the genotype has 2 words, the lengths have 3.
+const POS0: usize = 0;
 
-pub const DEPTH: usize = 1;
+const DEPTH: usize = 1;
 
-pub const GENOTYPE: usize = 2;
+const GENOTYPE: usize = 2;
 
-pub const ALLELE_COUNT: usize = 4;
+const ALLELE_COUNT: usize = 4;
 
-pub const LENGTHS: usize = 5;
+const LENGTHS: usize = 5;
 
-// The fields of a fragment record.
-pub const FIRST: usize = 0;
+// Of a fragment.
+const FIRST: usize = 0;
 
-pub const STRAND: usize = 1;
+const STRAND: usize = 1;
 
-// The fields of a call record.
-pub const VARIANT: usize = 0;
+// Of a call.
+const VARIANT: usize = 0;
 
-pub const ALLELE: usize = 1;
+const ALLELE: usize = 1;
 
-pub const QUAL: usize = 2;
+const QUAL: usize = 2;
 
-pub const ONE_MINUS_QUAL: usize = 3;
+const ONE_MINUS_QUAL: usize = 3;
 
-pub const NEXT: usize = 4;
+const NEXT: usize = 4;
 
+// The most of each, and the lowest cutoff and quality.
 pub const MAX_VARIANTS: usize = 1024;
 
 pub const MAX_FRAGMENTS: usize = 4096;
