@@ -22,8 +22,3 @@ pub mod AlleleBytes
 pub mod Written
 pub mod Linked
 pub mod Places
-pub mod Below
-pub mod Density
-pub mod Windows
-pub mod Filters
-pub mod Refusing

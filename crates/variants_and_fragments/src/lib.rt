@@ -7,7 +7,6 @@ use crate::chains::chain_fault;
 use crate::head::head_fault;
 use crate::layout::read_sizes;
 use crate::variants::first_bad_variant;
-pub use filter::var_filter;
 pub use refusals::earlier;
 pub use refusals::number;
 pub use refusals::place;
@@ -16,7 +15,6 @@ pub use refusals::short_of;
 pub mod alleles;
 mod calls;
 mod chains;
-pub mod filter;
 mod head;
 pub mod layout;
 pub mod refusals;
@@ -52,13 +50,6 @@ pub enum Checked {
     Refused(Refusal),
 }
 
-// When variants stand too close: more than n others of quality gq or more within len bases.
-pub struct DensityParameters {
-    pub n: u32,
-    pub len: u32,
-    pub gq: f64,
-}
-
 // The filters that a variant fails.
 pub enum VarFilter {
     Pass,
@@ -69,12 +60,6 @@ pub enum VarFilter {
     DensityAndStrandBias,
     DepthAndStrandBias,
     DensityAndDepthAndStrandBias,
-}
-
-// The answer of var_filter.
-pub enum Filtered {
-    Done,
-    Refused(Refusal),
 }
 
 // The check of a case: numbers 1 to 5 of document 01's table, in order, or the sizes that the head gives.

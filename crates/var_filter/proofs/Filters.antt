@@ -10,18 +10,18 @@ use lib.Dec.{leb, ltb}
 use lib.IntN.{ℤ}
 use lib.Ieee.{Float}
 use lib.ListN.{length, set}
 use Rattle.variants_and_fragments.specs.declared.Sizes.{Sizes}
-use Rattle.variants_and_fragments.specs.declared.DensityParameters.{DensityParameters}
-use Rattle.variants_and_fragments.specs.declared.filter.Window.{Window}
+use Rattle.var_filter.specs.declared.DensityParameters.{DensityParameters}
+use Rattle.var_filter.specs.declared.Window.{Window}
 use Rattle.variants_and_fragments.specs.Layout.{sizesOf, depthAt}
 use Rattle.variants_and_fragments.specs.Accepted.{CaseIn}
 use Rattle.variants_and_fragments.specs.Decode.{decode}
 use Rattle.variants_and_fragments.specs.Written.{written}
 use Rattle.variants_and_fragments.proofs.Written.{written-on, written-length}
-use Rattle.variants_and_fragments.specs.Filter.{anyBelow, limitsOf, joinedReasons, markedDense, tooDeep, filterOf}
-use Rattle.variants_and_fragments.specs.FilterWindow.{WindowAt, Slid}
-use Rattle.variants_and_fragments.proofs.Density.{covers, covers-on}
-use Rattle.variants_and_fragments.proofs.Windows.{depth-is, window-start, reach-to}
+use Rattle.var_filter.specs.Filter.{anyBelow, limitsOf, joinedReasons, markedDense, tooDeep, filterOf}
+use Rattle.var_filter.specs.FilterWindow.{WindowAt, Slid}
+use Rattle.var_filter.proofs.Density.{covers, covers-on}
+use Rattle.var_filter.proofs.Windows.{depth-is, window-start, reach-to}
 
 -- whatever the allele bytes b: the filters below v are written, and m lies in a stretch of an earlier variant where it is below until
 pub record FiltersTo (w : List ℤ) (s : Sizes) (quals : List Float) (density : DensityParameters) (max-depth : ℕ) (before : List ℕ) (v : ℕ) (x : Window) (filters : List ℕ) : Type 0 where

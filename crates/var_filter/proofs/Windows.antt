@@ -13,19 +13,19 @@ use native.Mathlib.Decide.{decLt, ℕ-discrete}
 use lib.IntN.{ℤ}
 use lib.Ieee.{Float}
 use lib.ListN.{length}
 use Rattle.variants_and_fragments.specs.declared.Sizes.{Sizes}
-use Rattle.variants_and_fragments.specs.declared.DensityParameters.{DensityParameters}
-use Rattle.variants_and_fragments.specs.declared.filter.Window.{Window}
+use Rattle.var_filter.specs.declared.DensityParameters.{DensityParameters}
+use Rattle.var_filter.specs.declared.Window.{Window}
 use Rattle.variants_and_fragments.specs.Case.{variantOf}
 use Rattle.variants_and_fragments.specs.Sums.{countTo}
 use Rattle.variants_and_fragments.specs.Layout.{sizesOf, pos0At, depthAt}
 use Rattle.variants_and_fragments.specs.Accepted.{CaseIn}
 use Rattle.variants_and_fragments.specs.Decode.{variantFrom, decode}
-use Rattle.variants_and_fragments.specs.Filter.{countBelow, strong, limitsOf}
-use Rattle.variants_and_fragments.specs.FilterWindow.{pastLast, WindowAt, WindowEnd, Extended, Slid}
+use Rattle.var_filter.specs.Filter.{countBelow, strong, limitsOf}
+use Rattle.var_filter.specs.FilterWindow.{pastLast, WindowAt, WindowEnd, Extended, Slid}
 use Rattle.variants_and_fragments.proofs.Decoded.{variant-count, variant-is}
-use Rattle.variants_and_fragments.proofs.Below.{count-in, count-out, count-le, count-top, past-in, past-out, past-le}
-use Rattle.variants_and_fragments.proofs.Density.{ReachTo}
+use Rattle.var_filter.proofs.Below.{count-in, count-out, count-le, count-top, past-in, past-out, past-le}
+use Rattle.var_filter.proofs.Density.{ReachTo}
 
 -- the position and the depth of the decoded variant
 pub pos0-is : (w : List ℤ) (b : List ℕ) (v : ℕ) → v < sizesOf w .n → variantOf (decode w b) v .pos0 ≡ pos0At w v

@@ -8,13 +8,13 @@ use lib.Dec.{leb}
 use lib.IntN.{ℤ}
 use lib.ListN.{length}
 use lib.Ieee.{Float, nan, inf, fin}
-use Rattle.variants_and_fragments.specs.declared.Filtered.{Filtered}
-use Rattle.variants_and_fragments.specs.declared.Filtered.the-variants.{Done, Refused}
+use Rattle.var_filter.specs.declared.Filtered.{Filtered}
+use Rattle.var_filter.specs.declared.Filtered.the-variants.{Done, Refused}
 use Rattle.variants_and_fragments.specs.Refusals.{Outcome, refused, done, number, place, andThen, unless, afterwards}
 use Rattle.variants_and_fragments.specs.Check.{caseOf}
 use Rattle.variants_and_fragments.specs.Decode.{decode}
 use Rattle.variants_and_fragments.specs.Written.{written}
-use Rattle.variants_and_fragments.specs.Filter.{Limits, filterOf}
+use Rattle.var_filter.specs.Filter.{Limits, filterOf}
 
 -- neither NaN nor infinite
 abbrev pub isFinite : Float → Bool

@@ -7,11 +7,11 @@ use Prim.Native.Nat.{ℕ, zero, suc, _+_, _≤_, _<_}
 use lib.Dec.{ltb}
 use lib.IntN.{ℤ}
 use lib.Ieee.{Float}
 use Rattle.variants_and_fragments.specs.declared.Sizes.{Sizes}
-use Rattle.variants_and_fragments.specs.declared.DensityParameters.{DensityParameters}
-use Rattle.variants_and_fragments.specs.declared.filter.Window.{Window}
+use Rattle.var_filter.specs.declared.DensityParameters.{DensityParameters}
+use Rattle.var_filter.specs.declared.Window.{Window}
 use Rattle.variants_and_fragments.specs.Layout.{pos0At}
-use Rattle.variants_and_fragments.specs.Filter.{countBelow, strong}
+use Rattle.var_filter.specs.Filter.{countBelow, strong}
 
 -- one past the last of 0..n−1 of which p holds; 0 where there is none
 unfoldable pub pastLast : ℕ → (ℕ → Bool) → ℕ

@@ -7,11 +7,11 @@ use Prim.Native.Nat.{ℕ, zero, suc, _+_}
 use lib.Dec.{leb, ltb}
 use lib.ListN.{length, getD}
 use lib.Ieee.{Float, nan, lt}
-use Rattle.variants_and_fragments.specs.declared.DensityParameters.{DensityParameters}
+use Rattle.var_filter.specs.declared.DensityParameters.{DensityParameters}
 use Rattle.variants_and_fragments.specs.declared.VarFilter.{VarFilter}
 use Rattle.variants_and_fragments.specs.declared.VarFilter.the-variants.{Pass, Density, Depth, DensityAndDepth, StrandBias, DensityAndStrandBias, DepthAndStrandBias, DensityAndDepthAndStrandBias}
 use Rattle.variants_and_fragments.specs.Case.{Case, variantOf}
 use Rattle.variants_and_fragments.specs.Sums.{countTo}
 
 -- p holds of one of 0..n−1
 unfoldable pub anyBelow : ℕ → (ℕ → Bool) → Bool

@@ -11,10 +11,10 @@ use borrow.Author.Tests.{lt-ltb, le-ltb, le-leb, lt-leb}
 use lib.Dec.{leb, ltb}
 use lib.Ieee.{Float}
 use lib.ListN.{length}
 use Rattle.variants_and_fragments.specs.Case.{Case, variantOf}
-use Rattle.variants_and_fragments.specs.Filter.{anyBelow, countBelow, Limits, strong, counted, dense}
-use Rattle.variants_and_fragments.specs.FilterWindow.{pastLast}
-use Rattle.variants_and_fragments.proofs.Below.{any-one, any-none, any-more, count-after, count-le, past-le, past-none, past-holds, past-count}
+use Rattle.var_filter.specs.Filter.{anyBelow, countBelow, Limits, strong, counted, dense}
+use Rattle.var_filter.specs.FilterWindow.{pastLast}
+use Rattle.var_filter.proofs.Below.{any-one, any-none, any-more, count-after, count-le, past-le, past-none, past-holds, past-count}
 
 -- e is the first variant past the reach of v, or N
 pub record ReachTo (case : Case) (limits : Limits) (v e : ℕ) : Type 0 where

@@ -9,20 +9,20 @@ use lib.Dec.{leb}
 use lib.IntN.{ℤ}
 use lib.Ieee.{Float}
 use lib.ListN.{length}
 use Rattle.variants_and_fragments.specs.declared.Sizes.{Sizes}
 use Rattle.variants_and_fragments.specs.declared.Refusal.{Refusal}
 use Rattle.variants_and_fragments.specs.declared.Refusal.the-variants.{Short, DensityQual}
 use Rattle.variants_and_fragments.specs.declared.Checked.the-variants.{Accepted, Refused as NotAccepted}
-use Rattle.variants_and_fragments.specs.declared.Filtered.the-variants.{Done, Refused}
+use Rattle.var_filter.specs.declared.Filtered.the-variants.{Done, Refused}
 use Rattle.variants_and_fragments.specs.Refusals.{done, number, place, andThen, unless, afterwards}
 use Rattle.variants_and_fragments.specs.Check.{outcomeOf, caseOf}
 use Rattle.variants_and_fragments.specs.Accepted.{CaseIn}
 use Rattle.variants_and_fragments.proofs.Accepted.{case-in}
 use Rattle.variants_and_fragments.specs.Decode.{decode}
 use Rattle.variants_and_fragments.specs.Written.{written}
-use Rattle.variants_and_fragments.specs.Filter.{Limits, filterOf}
-use Rattle.variants_and_fragments.specs.Filtered.{isFinite, varFilterOf, filteredOutcome, VarFiltered}
+use Rattle.var_filter.specs.Filter.{Limits, filterOf}
+use Rattle.var_filter.specs.Filtered.{isFinite, varFilterOf, filteredOutcome, VarFiltered}
 use Rattle.variants_and_fragments.proofs.Decoded.{variant-count}
 
 pub case-accepted : (w : List ℤ) (b : List ℕ) (s : Sizes) → outcomeOf (Accepted s) ≡ caseOf w b → CaseIn w s
 unfolding outcomeOf
@@ -43,11 +43,11 @@ module _ (w : List ℤ) (b : List ℕ) (quals : List Float) (limits : Limits) (b
     past-case = rw (← accepted)
 
     pub quals-short : length quals < s .n → VarFiltered w b quals limits before (Refused (Short (s .n))) before
-    unfolding filteredOutcome unless number place
+    unfolding filteredOutcome unless
     quals-short h = refused-with (Short (s .n)) (rw (past-case, lt-leb (s .n) (length quals) h))
 
     pub filters-short : length before < s .n → VarFiltered w b quals limits before (Refused (Short (s .n))) before
-    unfolding filteredOutcome unless number place
+    unfolding filteredOutcome unless
     filters-short h = refused-with (Short (s .n)) (rw (past-case, lt-leb (s .n) (length before) h, and-false (leb (s .n) (length quals))))
 
     module _ (room : s .n ≤ length quals) (space : s .n ≤ length before) where
@@ -56,7 +56,7 @@ module _ (w : List ℤ) (b : List ℕ) (quals : List Float) (limits : Limits) (b
       past-length = rw (past-case, le-leb (s .n) (length quals) room, le-leb (s .n) (length before) space)
 
       pub not-finite : isFinite (limits .density-qual) ≡ false → VarFiltered w b quals limits before (Refused (DensityQual 0)) before
-      unfolding filteredOutcome unless number place
+      unfolding filteredOutcome unless
       not-finite t = refused-with (DensityQual 0) (rw (past-length, t))
 
       pub filtered : isFinite (limits .density-qual) ≡ true → {after : List ℕ} → after ≡ written (filterOf (decode w b) quals limits) (s .n) before → VarFiltered w b quals limits before Done after

@@ -1,14 +1,14 @@
--- `filter::slide_window` meets its contract: each way out is one of the three ways of a visit.
+-- `slide_window` meets its contract: each way out is one of the three ways of a visit.
 -- Assumes nothing.
 use mathlib.Core.Path.{_≡_, ap}
 use mathlib.Core.Bool.{true, false, not}
 use native.Mathlib.Omega.{arith}
 use borrow.Author.Needs.{needs}
 use denote.Ref.{now}
-use Rattle.variants_and_fragments.specs.Filter.{strong}
-use Rattle.variants_and_fragments.proofs.Windows.{ahead-some, slid-weak, slid-few, slid-marks}
-use Rattle.variants_and_fragments.proofs.filter.slide_window.Statement.{statement}
-use Rattle.variants_and_fragments.proofs.filter.slide_window.Tie as tie
+use Rattle.var_filter.specs.Filter.{strong}
+use Rattle.var_filter.proofs.Windows.{ahead-some, slid-weak, slid-few, slid-marks}
+use Rattle.var_filter.proofs.slide_window.Statement.{statement}
+use Rattle.var_filter.proofs.slide_window.Tie as tie
 
 abbrev start-of : tie.After-extend-window → tie.Start
 start-of c = c .before .before

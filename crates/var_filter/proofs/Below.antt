@@ -5,10 +5,10 @@ use mathlib.Core.Bool.{Bool, true, false, cond, _||_, or-true}
 use Prim.Native.Nat.{ℕ, zero, suc, _+_, _-_, _≤_, _<_}
 use native.Mathlib.Omega.{arith}
 use native.Mathlib.Decide.{ℕ-discrete}
-use Rattle.variants_and_fragments.specs.Filter.{anyBelow, countBelow}
-use Rattle.variants_and_fragments.specs.FilterWindow.{pastLast}
+use Rattle.var_filter.specs.Filter.{anyBelow, countBelow}
+use Rattle.var_filter.specs.FilterWindow.{pastLast}
 use Rattle.variants_and_fragments.specs.Sums.{countTo}
 use Rattle.variants_and_fragments.proofs.Sums.{countTo-grows}
 
 pub any-one : (n : ℕ) (p : ℕ → Bool) (k : ℕ) → k < n → p k ≡ true → anyBelow n p ≡ true
 unfolding anyBelow

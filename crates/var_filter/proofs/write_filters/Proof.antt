@@ -1,14 +1,14 @@
--- `filter::write_filters` meets its contract. The loop's invariant: the filters below v are written, and x is the window before v.
+-- `write_filters` meets its contract. The loop's invariant: the filters below v are written, and x is the window before v.
 -- Assumes nothing.
 use mathlib.Core.Path.{ap, _∙_}
 use Prim.Native.Nat.{ℕ, _+_, _-_}
 use native.Mathlib.Omega.{arith}
 use borrow.Author.Needs.{needs}
 use lib.Dec.{leb, ltb}
-use Rattle.variants_and_fragments.specs.Filter.{joinedReasons}
-use Rattle.variants_and_fragments.proofs.Filters.{FiltersTo, filters-start, filters-length, filters-on, filters-end}
-use Rattle.variants_and_fragments.proofs.filter.write_filters.Statement.{statement}
-use Rattle.variants_and_fragments.proofs.filter.write_filters.Tie as tie
+use Rattle.var_filter.specs.Filter.{joinedReasons}
+use Rattle.var_filter.proofs.Filters.{FiltersTo, filters-start, filters-length, filters-on, filters-end}
+use Rattle.var_filter.proofs.write_filters.Statement.{statement}
+use Rattle.var_filter.proofs.write_filters.Tie as tie
 
 abbrev Inv-loop : tie.InvT-loop
 Inv-loop words s quals density max-depth filters₀ n top x₀ v₀ filters x v = FiltersTo words s quals density max-depth filters₀ v x filters

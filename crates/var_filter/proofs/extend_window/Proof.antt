@@ -1,16 +1,16 @@
--- `filter::extend_window` meets its contract. The loop's invariant: what is passed is a window before the visit of v.
+-- `extend_window` meets its contract. The loop's invariant: what is passed is a window before the visit of v.
 -- Assumes nothing.
 use mathlib.Core.Path.{refl}
 use Prim.Native.Nat.{_+_, _-_, _≤_}
 use native.Mathlib.Omega.{arith}
 use native.Mathlib.Nat.{le-refl}
 use denote.Ref.{now}
 use Rattle.variants_and_fragments.specs.Layout.{pos0At}
-use Rattle.variants_and_fragments.specs.Filter.{strong}
-use Rattle.variants_and_fragments.specs.FilterWindow.{WindowAt}
-use Rattle.variants_and_fragments.proofs.Windows.{ahead-top, window-strong, window-weak}
-use Rattle.variants_and_fragments.proofs.filter.extend_window.Statement.{statement}
-use Rattle.variants_and_fragments.proofs.filter.extend_window.Tie as tie
+use Rattle.var_filter.specs.Filter.{strong}
+use Rattle.var_filter.specs.FilterWindow.{WindowAt}
+use Rattle.var_filter.proofs.Windows.{ahead-top, window-strong, window-weak}
+use Rattle.var_filter.proofs.extend_window.Statement.{statement}
+use Rattle.var_filter.proofs.extend_window.Tie as tie
 
 abbrev Inv-loop : tie.InvT-loop
 Inv-loop words s quals density v x n top end₀ ahead₀ last₀ end ahead last =

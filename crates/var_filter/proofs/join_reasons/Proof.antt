@@ -1,8 +1,8 @@
--- `filter::join_reasons` meets its contract, by the two tests on each way.
+-- `join_reasons` meets its contract, by the two tests on each way.
 -- Assumes nothing.
-use Rattle.variants_and_fragments.specs.Filter.{joinedReasons}
-use Rattle.variants_and_fragments.proofs.filter.join_reasons.Statement.{statement}
-use Rattle.variants_and_fragments.proofs.filter.join_reasons.Tie as tie
+use Rattle.var_filter.specs.Filter.{joinedReasons}
+use Rattle.var_filter.proofs.join_reasons.Statement.{statement}
+use Rattle.var_filter.proofs.join_reasons.Tie as tie
 
 returns : tie.Need-returns
 unfolding joinedReasons

@@ -3,21 +3,32 @@ ghost use mathlib.Core.Path.{_≡_};
 ghost use mathlib.Core.List.{List};
 ghost use Prim.Native.Nat.{ℕ, _≤_, _<_};
 ghost use lib.ListN.{length};
 ghost use Rattle.variants_and_fragments.specs.Accepted.{CaseIn};
 ghost use Rattle.variants_and_fragments.specs.Decode.{decode};
 ghost use Rattle.variants_and_fragments.specs.Written.{written};
-ghost use Rattle.variants_and_fragments.specs.Filter.{filterValue, joinedReasons, limitsOf, filterOf};
-ghost use Rattle.variants_and_fragments.specs.FilterWindow.{WindowAt, Extended, Slid};
-ghost use Rattle.variants_and_fragments.specs.Filtered.{isFinite, VarFiltered};
-use crate::Checked;
-use crate::DensityParameters;
-use crate::Filtered;
-use crate::Refusal;
-use crate::Sizes;
-use crate::VarFilter;
-use crate::check_case;
-use crate::layout::depth_of;
-use crate::layout::pos0_of;
+ghost use Rattle.var_filter.specs.Filter.{filterValue, joinedReasons, limitsOf, filterOf};
+ghost use Rattle.var_filter.specs.FilterWindow.{WindowAt, Extended, Slid};
+ghost use Rattle.var_filter.specs.Filtered.{isFinite, VarFiltered};
+use variants_and_fragments::Checked;
+use variants_and_fragments::Refusal;
+use variants_and_fragments::Sizes;
+use variants_and_fragments::VarFilter;
+use variants_and_fragments::check_case;
+use variants_and_fragments::layout::depth_of;
+use variants_and_fragments::layout::pos0_of;
+
+// When variants stand too close: more than n others of quality gq or more within len bases.
+pub struct DensityParameters {
+    pub n: u32,
+    pub len: u32,
+    pub gq: f64,
+}
+
+// The answer of var_filter.
+pub enum Filtered {
+    Done,
+    Refused(Refusal),
+}
 
 // The number of a filter.
 pub fn filter_value(f: VarFilter) -> u8

@@ -1,12 +1,12 @@
--- `filter::is_finite` meets its contract, by cases on the float: below infinity and above minus infinity.
+-- `is_finite` meets its contract, by cases on the float: below infinity and above minus infinity.
 -- Assumes nothing.
 use mathlib.Core.Path.{_≡_, refl, sym, subst}
 use mathlib.Core.Bool.{true, false}
 use lib.Dec.{T}
 use lib.Ieee.{Float, nan, inf, fin, lt, div, neg, ofBits}
-use Rattle.variants_and_fragments.specs.Filtered.{isFinite}
-use Rattle.variants_and_fragments.proofs.filter.is_finite.Statement.{statement}
-use Rattle.variants_and_fragments.proofs.filter.is_finite.Tie as tie
+use Rattle.var_filter.specs.Filtered.{isFinite}
+use Rattle.var_filter.proofs.is_finite.Statement.{statement}
+use Rattle.var_filter.proofs.is_finite.Tie as tie
 
 below-infinity : (x : Float) → lt x (inf false) ≡ true → lt (inf true) x ≡ isFinite x
 unfolding lt

@@ -1,14 +1,14 @@
--- `filter::var_filter` meets its contract: each way out is one row of the table, or the filters written.
+-- `var_filter` meets its contract: each way out is one row of the table, or the filters written.
 -- Assumes nothing.
 use mathlib.Core.Path.{_≡_, sym, ap, _∙_}
 use borrow.Author.Needs.{needs}
 use borrow.Author.Tests.{not-true, not-false}
 use denote.Ref.{now}
 use Rattle.variants_and_fragments.specs.declared.Checked.the-variants.{Accepted, Refused}
 use Rattle.variants_and_fragments.specs.Check.{outcomeOf, caseOf}
-use Rattle.variants_and_fragments.proofs.Refusing.{case-accepted, case-refused, quals-short, filters-short, not-finite, filtered}
-use Rattle.variants_and_fragments.proofs.filter.var_filter.Statement.{statement}
-use Rattle.variants_and_fragments.proofs.filter.var_filter.Tie as tie
+use Rattle.var_filter.proofs.Refusing.{case-accepted, case-refused, quals-short, filters-short, not-finite, filtered}
+use Rattle.var_filter.proofs.var_filter.Statement.{statement}
+use Rattle.var_filter.proofs.var_filter.Tie as tie
 
 abbrev start-of : tie.After-check-case → tie.Start
 start-of c = c .before .before .before .before
