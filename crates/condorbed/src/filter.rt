@@ -10,8 +10,8 @@ use crate::parts::read_case;
 use protocol::input;
 use protocol::input::Reader;
 use protocol::output;
-use variants_and_fragments::DensityParameters;
-use variants_and_fragments::Filtered;
+use var_filter::DensityParameters;
+use var_filter::Filtered;
 
 // What was read, and the reader after it.
 pub struct Parts {
@@ -130,14 +130,7 @@ fn call(
     max_depth: u32,
     filters: &mut [u8],
 ) {
-    let answer = variants_and_fragments::var_filter(
-        words,
-        bases,
-        quals,
-        density,
-        max_depth,
-        filters,
-    );
+    let answer = var_filter::var_filter(words, bases, quals, density, max_depth, filters);
     let first = match answer {
         Filtered::Done => done(output),
         Filtered::Refused(r) => refused(output, r),

@@ -8,12 +8,12 @@ use lib.IntN.{ℤ}
 use lib.Ieee.{Float}
 use Rattle.variants_and_fragments.specs.declared.Sizes.{Sizes}
 use Rattle.variants_and_fragments.specs.declared.Refusal.{Refusal}
-use Rattle.variants_and_fragments.specs.declared.Filtered.{Filtered}
-use Rattle.variants_and_fragments.specs.declared.DensityParameters as operation-density
+use Rattle.var_filter.specs.declared.Filtered.{Filtered}
+use Rattle.var_filter.specs.declared.DensityParameters as operation-density
 use Rattle.variants_and_fragments.specs.Refusals.{Outcome, number, place}
 use Rattle.variants_and_fragments.specs.Check as check
-use Rattle.variants_and_fragments.specs.Filter.{limitsOf}
-use Rattle.variants_and_fragments.specs.Filtered as filter
+use Rattle.var_filter.specs.Filter.{limitsOf}
+use Rattle.var_filter.specs.Filtered as filter
 use Rattle.genotype_probs.specs.declared.Rates as operation-rates
 use Rattle.genotype_probs.specs.declared.Priored.{Priored}
 use Rattle.genotype_probs.specs.Answers as priors

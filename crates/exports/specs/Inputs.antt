@@ -3,7 +3,7 @@
 use lib.IntN.{ℤ}
 use Rattle.steps.specs.declared.LogProb.{LogProb}
 use Rattle.genotype_probs.specs.declared.Rates as operation-rates
-use Rattle.variants_and_fragments.specs.declared.DensityParameters as operation-density
+use Rattle.var_filter.specs.declared.DensityParameters as operation-density
 use Rattle.exports.specs.declared.inputs.Rates.{Rates}
 use Rattle.exports.specs.declared.inputs.DensityParameters.{DensityParameters}
 

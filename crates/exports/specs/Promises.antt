@@ -12,8 +12,8 @@ use Rattle.variants_and_fragments.specs.Refusals.{done, afterwards}
 use Rattle.variants_and_fragments.specs.Check.{caseOf}
 use Rattle.variants_and_fragments.specs.Decode.{decode}
 use Rattle.variants_and_fragments.specs.Written.{written}
-use Rattle.variants_and_fragments.specs.Filter.{limitsOf, filterOf}
-use Rattle.variants_and_fragments.specs.Filtered.{varFilterOf}
+use Rattle.var_filter.specs.Filter.{limitsOf, filterOf}
+use Rattle.var_filter.specs.Filtered.{varFilterOf}
 use Rattle.genotype_probs.specs.Priors.{priorTable, priorAt}
 use Rattle.genotype_probs.specs.Answers.{prioredOf}
 use Rattle.haplotype_assembly.specs.Phase.{phasedFlags, startAllele, phaseName}

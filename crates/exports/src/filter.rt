@@ -5,8 +5,8 @@ use crate::answers::done;
 use crate::answers::refused;
 use crate::inputs::DensityParameters;
 use crate::inputs::density_of;
-use variants_and_fragments::Filtered;
-use variants_and_fragments::var_filter;
+use var_filter::Filtered;
+use var_filter::var_filter;
 
 // `var_filter`.
 #[no_mangle]

@@ -37,10 +37,10 @@ pub fn rates_of(r: Rates) -> genotype_probs::Rates
 }
 
 // The density that `var_filter` takes.
-pub fn density_of(d: DensityParameters) -> variants_and_fragments::DensityParameters
+pub fn density_of(d: DensityParameters) -> var_filter::DensityParameters
     ensures { λ x. ⌜ x ≡ densityOf d ⌝ }
 {
-    variants_and_fragments::DensityParameters {
+    var_filter::DensityParameters {
         n: d.n,
         len: d.len,
         gq: d.gq,

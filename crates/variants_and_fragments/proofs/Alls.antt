@@ -1,9 +1,9 @@
--- What holds of every element of a list: by index and along the list, under a map, and of a tabulated list.
+-- What holds of every element of a list: by index and along the list, of an append, a part and a map, and of a tabulated list.
 -- Assumes nothing.
-use mathlib.Core.List.{List, [], _∷_, map}
+use mathlib.Core.List.{List, [], _∷_, _++_, map}
 use Prim.Native.Nat.{ℕ, zero, suc, _+_, _≤_, _<_}
 use native.Mathlib.Omega.{arith}
-use lib.ListN.{length, getD}
+use lib.ListN.{length, getD, drop}
 use Rattle.variants_and_fragments.specs.Case.{All, end, also}
 use Rattle.variants_and_fragments.specs.Decode.{tabulateFrom, tabulate}
 
@@ -24,10 +24,19 @@ pub all-map : {X Y : Type 0} {P : Y → Type 0} (g : X → Y) (xs : List X) → 
 all-map g [] end = end
 all-map g (x ∷ xs) (also p ps) = also p (all-map g xs ps)
 
-from-all : {X : Type 0} {P : X → Type 0} (g : ℕ → X) (i n : ℕ) → ((k : ℕ) → i ≤ k → k < i + n → P (g k)) → All P (tabulateFrom g i n)
+pub all-append : {X : Type 0} {P : X → Type 0} {xs ys : List X} → All P xs → All P ys → All P (xs ++ ys)
+all-append end qs = qs
+all-append (also p ps) qs = also p (all-append ps qs)
+
+pub all-drop : {X : Type 0} {P : X → Type 0} (n : ℕ) (xs : List X) → All P xs → All P (drop n xs)
+all-drop zero xs ps = ps
+all-drop (suc n) [] end = end
+all-drop (suc n) (x ∷ xs) (also p ps) = all-drop n xs ps
+
+pub all-from : {X : Type 0} {P : X → Type 0} (g : ℕ → X) (i n : ℕ) → ((k : ℕ) → i ≤ k → k < i + n → P (g k)) → All P (tabulateFrom g i n)
 unfolding tabulateFrom
-from-all g i zero h = end
-from-all g i (suc n) h = also (h i (omega arith) (omega arith)) (from-all g (suc i) n (λ k a b. h k (omega arith) (omega arith)))
+all-from g i zero h = end
+all-from g i (suc n) h = also (h i (omega arith) (omega arith)) (all-from g (suc i) n (λ k a b. h k (omega arith) (omega arith)))
 
 pub all-tabulate : {X : Type 0} {P : X → Type 0} (n : ℕ) (g : ℕ → X) → ((k : ℕ) → k < n → P (g k)) → All P (tabulate n g)
-all-tabulate n g h = from-all g 0 n (λ k a b. h k (omega arith))
+all-tabulate n g h = all-from g 0 n (λ k a b. h k (omega arith))

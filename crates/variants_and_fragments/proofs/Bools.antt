@@ -1,16 +1,34 @@
--- Two tests in one, and a test turned round.
+-- Tests: what holds where one does, two in one, and one turned round. The kit's laws of `T` are handed on, so that one line brings all.
 -- Assumes nothing.
 use mathlib.Core.Path.{_≡_, refl}
-use mathlib.Core.Bool.{Bool, true, false, not, _&&_, _||_}
+use mathlib.Core.Bool.{Bool, true, false, not, cond, _&&_, _||_}
+use mathlib.Core.Logic.{_⊎_, inl, inr}
 use Prim.Native.Nat.{ℕ}
 use native.Mathlib.Omega.{arith}
+use lib.Dec.{T}
+pub use lib.Dec.{T-not, not-T}
+pub use lib.Ieee.Bits.{is-true, is-false, cond-no}
+pub use Rattle.steps.proofs.Signed.{true-false}
+
+pub true-is : (b : Bool) → b ≡ true → T b
+true-is true e = tt
+true-is false e = true-false e refl
+
+-- a test holds or not
+pub which : (b : Bool) → T b ⊎ T (not b)
+which true = inl tt
+which false = inr tt
+
+pub cond-yes : {A : Type 0} (b : Bool) (x y : A) → T b → cond b x y ≡ x
+cond-yes true x y t = refl
+cond-yes false x y t = absurd t
 
 pub both : (a b : Bool) → (a && b) ≡ true → (a ≡ true) × (b ≡ true)
 both true b h = (refl, h)
-both false b h = let z : _≡_ {A = ℕ} 0 1 = cc in absurd (omega arith)
+both false b h = true-false h refl
 
 pub or-off : (a b : Bool) → (a || b) ≡ false → (a ≡ false) × (b ≡ false)
-or-off true b h = let z : _≡_ {A = ℕ} 0 1 = cc in absurd (omega arith)
+or-off true b h = true-false refl h
 or-off false b h = (refl, h)
 
 pub or-right : (a b : Bool) → b ≡ true → (a || b) ≡ true
@@ -18,5 +36,5 @@ or-right true b h = refl
 or-right false b h = h
 
 pub not-on : (b : Bool) → not b ≡ true → b ≡ false
-not-on true h = let z : _≡_ {A = ℕ} 0 1 = cc in absurd (omega arith)
+not-on true h = true-false h refl
 not-on false h = refl

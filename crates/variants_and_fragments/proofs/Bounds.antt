@@ -1,30 +1,22 @@
 -- Sums of numbers at or below 0: a sum over a list lies in −n..0, n being what its terms lack to 0 at most. So every sum over the
 -- calls of an accepted case, or over some of them, is −2^32 or more where each term lies in −262144..0.
 -- Assumes nothing.
-use mathlib.Core.Path.{_≡_, refl}
-use mathlib.Core.Bool.{Bool, true, false}
+use mathlib.Core.Path.{_≡_}
+use mathlib.Core.Bool.{true}
 use mathlib.Core.List.{List, [], _∷_}
 use Prim.Native.Nat.{ℕ, _+_, _*_, _^_, _≤_, _<_}
 use native.Mathlib.Omega.{arith}
-use lib.Dec.{T}
 use lib.IntN.{ℤ, pos, negℤ, _+ℤ_}
 use lib.ListN.{length}
 use lib.Signed.{leZ, _≤ℤ_}
 use Rattle.variants_and_fragments.specs.Case.{Case, Fragment, Call, noFragment, fragmentOf, All, end, also, GoodCase}
 use Rattle.variants_and_fragments.specs.Sums.{sumOver, countOver, DownTo}
+use Rattle.variants_and_fragments.proofs.Bools.{is-true, true-is}
 use Rattle.variants_and_fragments.proofs.Alls.{all-imp}
 use Rattle.variants_and_fragments.proofs.Sums.{count-same, count-times, count-at, count-le}
 use Rattle.steps.proofs.Signed.{up, dn, up-pos, dn-pos, ≤ℤ→, →≤ℤ, parts-add, neg-up, neg-dn}
 
 -- ---- tests of ℤ and their order
-is-true : (b : Bool) → T b → b ≡ true
-is-true true t = refl
-is-true false t = absurd t
-
-true-is : (b : Bool) → b ≡ true → T b
-true-is true e = tt
-true-is false e = let z : _≡_ {A = ℕ} 0 1 = cc in absurd (omega arith)
-
 pub leZ-true : (a b : ℤ) → leZ a b ≡ true → a ≤ℤ b
 leZ-true a b e = record { le = true-is (leZ a b) e }
 

@@ -10,7 +10,7 @@ use lib.IntN.{ℤ}
 use lib.Dec.{leb, ltb}
 use borrow.Author.Tests.{lt-ltb, le-ltb, le-leb, lt-leb, eq-eqb, ne-eqb, leb-true}
 use Rattle.variants_and_fragments.specs.declared.Sizes.{Sizes}
-use Rattle.variants_and_fragments.specs.Chain.{nextCallAt, chainFrom, isRecord, fragmentTest, chainFaultAt, linkTest}
+use Rattle.variants_and_fragments.specs.Chain.{firstCallAt, nextCallAt, firstRecordAt, chainFrom, isRecord, fragmentTest, chainFaultAt, linkTest}
 use Rattle.variants_and_fragments.specs.Accepted.{allb}
 use Rattle.variants_and_fragments.proofs.Bools.{both}
 
@@ -66,6 +66,35 @@ place-past p n i c q h = elim (decLt p n) [
     | no k ↦ (m, omega arith)
   ]
 ]
+
+-- ---- where a chain starts
+pub first-none : (w : List ℤ) (s : Sizes) (f : ℕ) → s .c < firstCallAt w s f → 0 ≡ firstRecordAt w s f
+unfolding firstRecordAt
+first-none w s f h = simp (le-leb 1 (firstCallAt w s f) (omega arith), lt-leb _ _ h)
+
+pub first-some : (w : List ℤ) (s : Sizes) (f : ℕ) → firstCallAt w s f ≤ s .c → firstCallAt w s f ≡ firstRecordAt w s f
+unfolding firstRecordAt
+first-some w s f h = elim (decLt 0 (firstCallAt w s f)) [
+  | yes l ↦ simp (le-leb 1 _ l, le-leb _ _ h)
+  | no l ↦ let e : firstCallAt w s f ≡ 0 = omega arith in rw e
+]
+
+-- it is 0 or a record
+pub first-top : (w : List ℤ) (s : Sizes) (f : ℕ) → firstRecordAt w s f ≤ s .c
+first-top w s f = elim (decLt (s .c) (firstCallAt w s f)) [
+  | yes l ↦ omega (arith, first-none w s f l)
+  | no l ↦ omega (arith, first-some w s f (omega arith))
+]
+
+-- the chain is the same from there as from the word
+pub first-chain : (w : List ℤ) (s : Sizes) (k f : ℕ) → chainFrom w s k (firstRecordAt w s f) ≡ chainFrom w s k (firstCallAt w s f)
+unfolding chainFrom firstRecordAt
+first-chain w s zero f = refl
+first-chain w s (suc k) f = go (isRecord s (firstCallAt w s f)) refl
+  where
+    go : (t : Bool) → isRecord s (firstCallAt w s f) ≡ t → chainFrom w s (suc k) (cond t (firstCallAt w s f) 0) ≡ chainFrom w s (suc k) (firstCallAt w s f)
+    go true e = refl
+    go false e = simp e
 
 pub all-chain : (w : List ℤ) (s : Sizes) (p : ℕ → Bool) → ((r : ℕ) → 1 ≤ r → r ≤ s .c → p r ≡ true) → (k r : ℕ) → allb p (chainFrom w s k r) ≡ true
 unfolding allb chainFrom

@@ -14,8 +14,8 @@ use lib.Signed.{ltZ}
 use Rattle.variants_and_fragments.specs.declared.Sizes.{Sizes}
 use Rattle.variants_and_fragments.specs.Sums.{DownTo}
 use Rattle.variants_and_fragments.specs.Case.{Variant, Fragment, alleleCount, alleleOf, usable, variantOf, fragmentOf, noVariant, noFragment}
-use Rattle.variants_and_fragments.specs.Words.{none, natOf, debtOf, debtAt}
-use Rattle.variants_and_fragments.specs.Layout.{sizesOf, callAt, pos0At, depthAt, genotypeAt, alleleCountAt, lengthAt, qualAt, cutoffAt}
+use Rattle.variants_and_fragments.specs.Words.{none, natOf, debtOf}
+use Rattle.variants_and_fragments.specs.Layout.{sizesOf, pos0At, depthAt, genotypeAt, alleleCountAt, lengthAt, qualAt, cutoffAt}
 use Rattle.variants_and_fragments.specs.Chain.{strandAt, chainOf}
 use Rattle.variants_and_fragments.specs.Alleles.{allelesLength, allelesStart}
 use Rattle.variants_and_fragments.proofs.AlleleBytes.{off-on, off-le}
@@ -101,10 +101,10 @@ module _ {w : List ℤ} {s : Sizes} (k : CaseIn w s) where
   sizes-are = sym (k .shape)
 
   -- a call of a record in range is usable exactly when it lies further below 0 than the cutoff
-  pub usable-is : (fragment : Fragment) (r : ℕ) → CallIn w s r → usable (cutoffAt w) fragment (callFrom w s r) ≡ ltb (s .cut) (debtAt w (callAt s r + 2))
+  pub usable-is : (fragment : Fragment) (r : ℕ) → CallIn w s r → usable (cutoffAt w) fragment (callFrom w s r) ≡ ltb (s .cut) (debtOf (qualAt w s r))
   unfolding usable callFrom
   usable-is fragment r i =
-      let e : s .cut ≡ debtAt w 3 = ap (λ (t : Sizes). t .cut) (k .shape) in
+      let e : s .cut ≡ debtOf (cutoffAt w) = ap (λ (t : Sizes). t .cut) (k .shape) in
       rw e (debt-less (qualAt w s r) (cutoffAt w) (omega (arith, i .qual-in)) (omega (arith, k .cut-in)))
 
 module _ {w : List ℤ} {s : Sizes} (k : CaseIn w s) (b : List ℕ) where

@@ -15,7 +15,7 @@ use Rattle.variants_and_fragments.specs.declared.Sizes.{Sizes}
 use Rattle.variants_and_fragments.specs.Sums.{countOver}
 use Rattle.variants_and_fragments.specs.Case.{Case, Call, alleleOf, variantOf, fragmentOf, noFragment, noCall, risingFrom, All, end, also, GoodAllele, GoodVariant, GoodCall, GoodFragment, GoodCase, SmallNumbers}
 use Rattle.variants_and_fragments.specs.Refusals.{done}
-use Rattle.variants_and_fragments.specs.Layout.{variantAt, alleleCountAt, lengthAt, VariantIn, pos0At, cutoffAt, callVariantAt, callOk}
+use Rattle.variants_and_fragments.specs.Layout.{pos0Field, depthField, variantAt, alleleCountAt, lengthAt, VariantIn, pos0At, cutoffAt, callVariantAt, callOk}
 use Rattle.variants_and_fragments.specs.Chain.{firstCallAt, nextCallAt, isRecord, linkOk, chainFrom, chainOf, memb, goodChain}
 use Rattle.variants_and_fragments.specs.Accepted.{allb, CallIn, CaseIn, BasesIn}
 use Rattle.variants_and_fragments.proofs.Bools.{both}
@@ -135,8 +135,8 @@ module _ {w : List ℤ} {b : List ℕ} {s : Sizes} (k : CaseIn w s) (i : BasesIn
 
   numbers-small : ((j : ℕ) → SFits w32 (getD w j (pos 0))) → SmallNumbers (decode w b)
   numbers-small fits = record {
-    pos0-top = λ v h. let l : v < s .n = omega (arith, variants-are k b) in rw (pos0-is k b v l) (nat-top _ (fits (variantAt v)) (k .variants .each v l .pos-in));
-    dp-top = λ v h. let l : v < s .n = omega (arith, variants-are k b) in rw (dp-is k b v l) (nat-top _ (fits (variantAt v + 1)) (k .variants .each v l .dp-in));
+    pos0-top = λ v h. let l : v < s .n = omega (arith, variants-are k b) in rw (pos0-is k b v l) (nat-top _ (fits (variantAt v + pos0Field)) (k .variants .each v l .pos-in));
+    dp-top = λ v h. let l : v < s .n = omega (arith, variants-are k b) in rw (dp-is k b v l) (nat-top _ (fits (variantAt v + depthField)) (k .variants .each v l .dp-in));
   }
 
 -- what the check accepts is a good case

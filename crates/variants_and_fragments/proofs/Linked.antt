@@ -1,24 +1,25 @@
--- An accepted fragment's chain is linked from its first call to the zero that ends it, for a next is larger than its record: C steps
--- are enough. Along it the records and the variants rise, so that no record comes twice and no variant has two calls.
+-- An accepted fragment's chain is linked from its first call to the zero that ends it. Along it the variants rise, so that no record
+-- comes twice, no variant has two calls, and C steps are enough: there are C records (proofs/Pigeon).
 -- Assumes nothing.
 use mathlib.Core.Path.{_≡_, refl, _∙_, ap}
-use mathlib.Core.Bool.{Bool, true, not, _&&_}
+use mathlib.Core.Bool.{Bool, true, false, cond, not, _&&_}
 use mathlib.Core.List.{List, [], _∷_}
 use Prim.Native.Nat.{ℕ, zero, suc, _+_, _≤_, _<_}
 use native.Mathlib.Nat.{le-refl}
 use native.Mathlib.Omega.{arith}
-use native.Mathlib.Decide.{decLt}
+use native.Mathlib.Decide.{decLt, ℕ-discrete}
 use borrow.Author.Tests.{le-leb, ltb-true, ne-eqb}
 use lib.ListN.{length, getD}
 use lib.IntN.{ℤ}
 use lib.Dec.{leb, ltb}
 use Rattle.variants_and_fragments.specs.declared.Sizes.{Sizes}
 use Rattle.variants_and_fragments.specs.Layout.{callVariantAt, callOk}
-use Rattle.variants_and_fragments.specs.Chain.{firstCallAt, nextCallAt, linkTest, linkOk, chainFrom, chainOf, memb, goodChain, reached}
+use Rattle.variants_and_fragments.specs.Chain.{firstCallAt, nextCallAt, isRecord, linkTest, linkOk, chainFrom, chainOf, memb, goodChain, reached}
 use Rattle.variants_and_fragments.specs.Accepted.{allb, CallIn, FragmentIn}
 use Rattle.variants_and_fragments.proofs.Bools.{both}
 use Rattle.variants_and_fragments.proofs.Records.{call-facts}
 use Rattle.variants_and_fragments.proofs.Walks.{link-top}
+use Rattle.variants_and_fragments.proofs.Pigeon.{distinct, Within, none, more, pigeon}
 
 -- rs are the records from r on, each a record of the case with a right link, and zero is met after the last
 pub data Linked (w : List ℤ) (s : Sizes) : ℕ → List ℕ → Type 0 where
@@ -26,38 +27,72 @@ pub data Linked (w : List ℤ) (s : Sizes) : ℕ → List ℕ → Type 0 where
   goes : {r : ℕ} {rs : List ℕ} → 1 ≤ r → r ≤ s .c → linkOk w s r ≡ true → Linked w s (nextCallAt w s r) rs → Linked w s r (r ∷ rs)
 
 -- what a right link says of a next that is not zero
-link-parts : (c r t v u : ℕ) → linkTest c r t v u ≡ true → 1 ≤ t → (r < t) × (v < u)
+link-rises : (c r t v u : ℕ) → linkTest c r t v u ≡ true → 1 ≤ t → v < u
 unfolding linkTest
-link-parts c r t v u h l =
+link-rises c r t v u h l =
     let k : (leb t c && (ltb r t && ltb v u)) ≡ true = rw (ne-eqb t 0 (λ e. omega arith)) at h in
-    let m = both (ltb r t) (ltb v u) (both (leb t c) (ltb r t && ltb v u) k .1) in
-    (ltb-true _ _ (m .0), ltb-true _ _ (m .1))
+    ltb-true _ _ (both (ltb r t) (ltb v u) (both (leb t c) (ltb r t && ltb v u) k .1) .1)
 
-module _ (w : List ℤ) (s : Sizes) (r : ℕ) (h : linkOk w s r ≡ true) (l : 1 ≤ nextCallAt w s r) where
-  pub next-above : r < nextCallAt w s r
-  next-above = link-parts (s .c) r (nextCallAt w s r) (callVariantAt w s r) (callVariantAt w s (nextCallAt w s r)) h l .0
-
-  pub next-rises : callVariantAt w s r < callVariantAt w s (nextCallAt w s r)
-  next-rises = link-parts (s .c) r (nextCallAt w s r) (callVariantAt w s r) (callVariantAt w s (nextCallAt w s r)) h l .1
+pub next-rises : (w : List ℤ) (s : Sizes) (r : ℕ) → linkOk w s r ≡ true → 1 ≤ nextCallAt w s r → callVariantAt w s r < callVariantAt w s (nextCallAt w s r)
+next-rises w s r h l = link-rises (s .c) r (nextCallAt w s r) (callVariantAt w s r) (callVariantAt w s (nextCallAt w s r)) h l
 
 chain-on : (w : List ℤ) (s : Sizes) (k r : ℕ) → 1 ≤ r → r ≤ s .c → chainFrom w s (suc k) r ≡ r ∷ chainFrom w s k (nextCallAt w s r)
 unfolding chainFrom
 chain-on w s k r lo hi = simp (le-leb 1 r lo, le-leb r (s .c) hi)
 
--- a good chain is linked, where k steps are enough
-linked-from : (w : List ℤ) (s : Sizes) (k r : ℕ) (past : List ℕ) → r ≤ s .c → (1 ≤ r → s .c < r + k) → goodChain w s past (chainFrom w s k r) ≡ true → Linked w s r (chainFrom w s k r)
+-- the records passed are distinct ones of the case, at variants below r's
+record Passed (w : List ℤ) (s : Sizes) (r : ℕ) (past : List ℕ) : Type 0 where
+  apart : distinct past ≡ true
+  within : Within (s .c) past
+  below : 1 ≤ r → (x : ℕ) → memb x past ≡ true → callVariantAt w s x < callVariantAt w s r
+
+module _ {w : List ℤ} {s : Sizes} {r : ℕ} {past : List ℕ} (lo : 1 ≤ r) (p : Passed w s r past) where
+  -- so r is none of them
+  fresh : memb r past ≡ false
+  fresh = go (memb r past) refl
+    where
+      go : (b : Bool) → memb r past ≡ b → b ≡ false
+      go true e = absurd (omega (arith, p .below lo r e))
+      go false e = refl
+
+  more-apart : distinct (r ∷ past) ≡ true
+  unfolding distinct
+  more-apart = rw fresh (p .apart)
+
+  more-passed : r ≤ s .c → linkOk w s r ≡ true → Passed w s (nextCallAt w s r) (r ∷ past)
+  unfolding memb
+  more-passed hi h = record {
+    apart = more-apart;
+    within = more lo hi (p .within);
+    below = λ l x m. let up = next-rises w s r h l in elim (ℕ-discrete x r) [
+      | yes e ↦ rw e up
+      | no e ↦ omega (arith, p .below lo x (rw (ne-eqb x r e) at m))
+    ];
+  }
+
+-- a good chain is linked where as many steps are left as the records passed lack to C: there is no place for one more
+linked-from : (w : List ℤ) (s : Sizes) (k r : ℕ) (reached past : List ℕ) → r ≤ s .c → Passed w s r past → length past + k ≡ s .c → goodChain w s reached (chainFrom w s k r) ≡ true → Linked w s r (chainFrom w s k r)
 unfolding chainFrom goodChain
-linked-from w s zero zero past top fuel g = ends
-linked-from w s zero (suc r) past top fuel g = let l : s .c < suc r + 0 = fuel (omega arith) in absurd (omega arith)
-linked-from w s (suc k) zero past top fuel g = ends
-linked-from w s (suc k) (suc r) past top fuel g =
+linked-from w s zero zero l past top p n g = ends
+linked-from w s zero (suc r) l past top p n g =
+    absurd (omega (arith, pigeon (s .c) (suc r ∷ past) (more-apart (omega arith) p) (more (omega arith) top (p .within))))
+linked-from w s (suc k) zero l past top p n g = ends
+linked-from w s (suc k) (suc r) l past top p n g =
     let e = chain-on w s k (suc r) (omega arith) top in
     let t = nextCallAt w s (suc r) in
-    let a = both (not (memb (suc r) past)) (linkOk w s (suc r) && goodChain w s (suc r ∷ past) (chainFrom w s k t)) (rw e at g) in
-    let b = both (linkOk w s (suc r)) (goodChain w s (suc r ∷ past) (chainFrom w s k t)) (a .1) in
-    let enough : s .c < suc r + suc k = fuel (omega arith) in
-    let more : 1 ≤ t → s .c < t + k = λ l. let up : suc r < t = next-above w s (suc r) (b .0) l in omega arith in
-    rw e (goes {r = suc r} (omega arith) top (b .0) (linked-from w s k t (suc r ∷ past) (link-top (s .c) (suc r) t _ _ (b .0)) more (b .1)))
+    let a = both (not (memb (suc r) l)) (linkOk w s (suc r) && goodChain w s (suc r ∷ l) (chainFrom w s k t)) (rw e at g) in
+    let b = both (linkOk w s (suc r)) (goodChain w s (suc r ∷ l) (chainFrom w s k t)) (a .1) in
+    rw e (goes {r = suc r} (omega arith) top (b .0) (linked-from w s k t (suc r ∷ l) (suc r ∷ past) (link-top (s .c) (suc r) t _ _ (b .0)) (more-passed (omega arith) p top (b .0)) (omega arith) (b .1)))
+
+-- k steps give k records at most
+chain-short : (w : List ℤ) (s : Sizes) (k r : ℕ) → length (chainFrom w s k r) ≤ k
+unfolding chainFrom
+chain-short w s zero r = omega arith
+chain-short w s (suc k) r = go (isRecord s r) (chain-short w s k (nextCallAt w s r))
+  where
+    go : (t : Bool) → length (chainFrom w s k (nextCallAt w s r)) ≤ k → length (cond t (r ∷ chainFrom w s k (nextCallAt w s r)) []) ≤ suc k
+    go true h = omega arith
+    go false h = omega arith
 
 -- ---- a linked chain
 -- where a walk stands after k steps from r
@@ -84,14 +119,6 @@ module _ {w : List ℤ} {s : Sizes} where
   linked-some : {r : ℕ} {rs : List ℕ} → Linked w s r rs → (j : ℕ) → j < length rs → 1 ≤ r
   linked-some ends j m = absurd (omega arith)
   linked-some (goes lo hi h l) j m = lo
-
-  -- no more records than there are from r on
-  pub linked-length : {r : ℕ} {rs : List ℕ} → Linked w s r rs → r + length rs ≤ suc (s .c)
-  linked-length ends = omega arith
-  linked-length (goes {r} {rs} lo hi h l) = elim (decLt 0 (length rs)) [
-    | yes m ↦ omega (arith, linked-length l, next-above w s r h (linked-some l 0 m))
-    | no m ↦ omega arith
-  ]
 
   -- each is a record of the case
   pub linked-in : {r : ℕ} {rs : List ℕ} → Linked w s r rs → (i : ℕ) → i < length rs → (1 ≤ getD rs i 0) × (getD rs i 0 ≤ s .c)
@@ -128,19 +155,21 @@ all-at p (x ∷ xs) h (suc k) m = all-at p xs (both (p x) (allb p xs) h .1) k (o
 
 -- ---- an accepted fragment's chain
 module _ {w : List ℤ} {s : Sizes} {f : ℕ} (i : FragmentIn w s f) where
+  none-passed : Passed w s (firstCallAt w s f) []
+  unfolding distinct memb
+  none-passed = record { apart = refl; within = none; below = λ l x m. let z : _≡_ {A = ℕ} 0 1 = cc in absurd (omega arith) }
+
   pub chain-linked : Linked w s (firstCallAt w s f) (chainOf w s f)
   unfolding chainOf
-  chain-linked = linked-from w s (s .c) (firstCallAt w s f) (reached w s f) (i .first-in) (λ l. omega arith) (i .right)
+  chain-linked = linked-from w s (s .c) (firstCallAt w s f) (reached w s f) [] (i .first-in) none-passed (omega arith) (i .right)
 
   -- its walk meets zero after the last of at most C records, and more steps change nothing
   pub chain-ends : walkBy w s (length (chainOf w s f)) (firstCallAt w s f) ≡ 0
   chain-ends = linked-ends chain-linked
 
   pub chain-length : length (chainOf w s f) ≤ s .c
-  chain-length = elim (decLt 0 (length (chainOf w s f))) [
-    | yes m ↦ omega (arith, linked-length chain-linked, linked-some chain-linked 0 m)
-    | no m ↦ omega arith
-  ]
+  unfolding chainOf
+  chain-length = chain-short w s (s .c) (firstCallAt w s f)
 
   pub chain-fuel : (k : ℕ) → s .c ≤ k → chainFrom w s k (firstCallAt w s f) ≡ chainOf w s f
   chain-fuel k l = linked-fuel chain-linked k (omega (arith, chain-length))
@@ -152,16 +181,13 @@ module _ {w : List ℤ} {s : Sizes} {f : ℕ} (i : FragmentIn w s f) where
   pub chain-call : (j : ℕ) → j < length (chainOf w s f) → CallIn w s (getD (chainOf w s f) j 0)
   chain-call j l = call-facts w s (getD (chainOf w s f) j 0) (all-at (callOk w s) (chainOf w s f) (i .calls) j l)
 
-  -- its records rise, and so do its variants
-  pub records-rise : (j k : ℕ) → j < k → k < length (chainOf w s f) → getD (chainOf w s f) j 0 < getD (chainOf w s f) k 0
-  records-rise = linked-rise (λ r. r) (next-above w s) chain-linked
-
+  -- its variants rise
   pub variants-rise : (j k : ℕ) → j < k → k < length (chainOf w s f) → callVariantAt w s (getD (chainOf w s f) j 0) < callVariantAt w s (getD (chainOf w s f) k 0)
   variants-rise = linked-rise (callVariantAt w s) (next-rises w s) chain-linked
 
-  -- so no record comes twice, and no variant has two calls
-  pub no-double : (j k : ℕ) → j < length (chainOf w s f) → k < length (chainOf w s f) → getD (chainOf w s f) j 0 ≡ getD (chainOf w s f) k 0 → j ≡ k
-  no-double = same (λ j. getD (chainOf w s f) j 0) (length (chainOf w s f)) records-rise
-
+  -- so no variant has two calls, and no record comes twice
   pub one-call-at : (j k : ℕ) → j < length (chainOf w s f) → k < length (chainOf w s f) → callVariantAt w s (getD (chainOf w s f) j 0) ≡ callVariantAt w s (getD (chainOf w s f) k 0) → j ≡ k
   one-call-at = same (λ j. callVariantAt w s (getD (chainOf w s f) j 0)) (length (chainOf w s f)) variants-rise
+
+  pub no-double : (j k : ℕ) → j < length (chainOf w s f) → k < length (chainOf w s f) → getD (chainOf w s f) j 0 ≡ getD (chainOf w s f) k 0 → j ≡ k
+  no-double j k l m e = one-call-at j k l m (ap (callVariantAt w s) e)

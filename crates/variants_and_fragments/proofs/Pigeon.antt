@@ -17,7 +17,8 @@ use Rattle.variants_and_fragments.specs.Accepted.{CaseIn}
 use Rattle.variants_and_fragments.proofs.Bools.{both, or-off, or-right, not-on}
 use Rattle.variants_and_fragments.specs.ChainCalls.{callsFrom}
 
-distinct : List ℕ → Bool
+-- no number comes twice
+unfoldable pub distinct : List ℕ → Bool
 distinct [] = true
 distinct (x ∷ xs) = not (memb x xs) && distinct xs
 
@@ -71,7 +72,7 @@ distinct-out x (y ∷ ys) h =
     ]
 
 -- all of l are in 1..c
-data Within (c : ℕ) : List ℕ → Type 0 where
+pub data Within (c : ℕ) : List ℕ → Type 0 where
   none : Within c []
   more : {x : ℕ} {xs : List ℕ} → 1 ≤ x → x ≤ c → Within c xs → Within c (x ∷ xs)
 
@@ -87,7 +88,7 @@ within-zero : (l : List ℕ) → Within 0 l → length l ≤ 0
 within-zero [] none = le-refl 0
 within-zero (y ∷ ys) (more a b r) = absurd (omega arith)
 
-pigeon : (c : ℕ) (l : List ℕ) → distinct l ≡ true → Within c l → length l ≤ c
+pub pigeon : (c : ℕ) (l : List ℕ) → distinct l ≡ true → Within c l → length l ≤ c
 pigeon zero l d w = within-zero l w
 pigeon (suc c) l d w = omega (arith, one-out (suc c) l d, pigeon c (without (suc c) l) (distinct-out (suc c) l d) (within-out c l w))
 

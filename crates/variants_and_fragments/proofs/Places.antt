@@ -6,24 +6,25 @@ use Prim.Native.Nat.{ℕ}
 use lib.IntN.{ℤ, pos, negsuc, negℤ}
 use Rattle.variants_and_fragments.specs.First.{firstFail, firstFailFrom, firstFalse}
 use Rattle.variants_and_fragments.specs.Words.{within}
-use Rattle.variants_and_fragments.specs.Layout.{headFault, variantOk, callOk}
+use Rattle.variants_and_fragments.specs.Layout.{headWords, fragmentWords, callWords, variantsField, fragmentsField, callsField, cutoffField, firstField, strandField, variantField, alleleField, qualField, oneMinusQualField, nextField, headFault, variantOk, callOk}
 use Rattle.variants_and_fragments.specs.Chain.{chainFrom, chainOf, memb, pushAll, reached, linkTest, goodChain, fragmentTest, isReached, chainFaultAt}
 use Rattle.variants_and_fragments.specs.Alleles.{allelesStart, allelesOk, allelesFaultAt}
 use Rattle.variants_and_fragments.specs.Refusals.{refused, done, stop}
 use Rattle.variants_and_fragments.specs.Check.{caseOf}
+use Rattle.variants_and_fragments.specs.Encode.{laid, variantRecord}
 
 head : ℕ → ℕ → ℕ → ℕ → List ℤ
-head n f c cut = pos n ∷ pos f ∷ pos c ∷ negℤ (pos cut) ∷ []
+head n f c cut = laid headWords ((variantsField, pos n) ∷ (fragmentsField, pos f) ∷ (callsField, pos c) ∷ (cutoffField, negℤ (pos cut)) ∷ [])
 
 -- an A/G variant at a position, called (0,1)
 snv : ℕ → List ℤ
-snv p = pos p ∷ pos 5 ∷ pos 0 ∷ pos 1 ∷ pos 2 ∷ pos 1 ∷ pos 1 ∷ pos 0 ∷ []
+snv p = variantRecord (record { pos0 = p; dp = 5; genotype0 = 0; genotype1 = 1; alleles = (65 ∷ []) ∷ (71 ∷ []) ∷ [] })
 
 fragment : ℕ → ℕ → List ℤ
-fragment first strand = pos first ∷ pos strand ∷ []
+fragment first strand = laid fragmentWords ((firstField, pos first) ∷ (strandField, pos strand) ∷ [])
 
 call : ℕ → ℕ → ℕ → List ℤ
-call variant allele next = pos variant ∷ pos allele ∷ negℤ (pos 5796) ∷ negℤ (pos 1700) ∷ pos next ∷ []
+call variant allele next = laid callWords ((variantField, pos variant) ∷ (alleleField, pos allele) ∷ (qualField, negℤ (pos 5796)) ∷ (oneMinusQualField, negℤ (pos 1700)) ∷ (nextField, pos next) ∷ [])
 
 ag : List ℕ
 ag = 65 ∷ 71 ∷ []
@@ -32,7 +33,7 @@ record Places : Type 0 where
   accepted : caseOf (head 1 1 1 2000 ++ snv 10 ++ fragment 1 0 ++ call 0 1 0) ag ≡ done (record { n = 1; f = 1; c = 1; cut = 2000 })
   -- 1: under four words; a negative count; a cutoff one too low; a word too many
   few-words : caseOf (pos 0 ∷ pos 0 ∷ pos 0 ∷ []) [] ≡ refused 1 0
-  negative-count : caseOf (pos 0 ∷ negsuc 0 ∷ pos 0 ∷ pos 0 ∷ []) [] ≡ refused 1 1
+  negative-count : caseOf (laid headWords ((fragmentsField, negsuc 0) ∷ [])) [] ≡ refused 1 1
   low-cutoff : caseOf (head 0 0 0 262145) [] ≡ refused 1 3
   long-case : caseOf (head 0 0 0 0 ++ (pos 0 ∷ [])) [] ≡ refused 1 4
   -- 2: pos0 falls at the later one
@@ -52,7 +53,7 @@ record Places : Type 0 where
   no-fragment : caseOf (head 1 0 1 0 ++ snv 10 ++ call 0 1 0) ag ≡ refused 5 0
 
 places : Places
-unfolding head snv fragment call ag caseOf stop headFault firstFalse within firstFail firstFailFrom variantOk callOk allelesStart allelesOk allelesFaultAt chainFrom chainOf memb pushAll reached linkTest goodChain fragmentTest isReached chainFaultAt
+unfolding head snv fragment call ag laid variantRecord caseOf stop headFault firstFalse within firstFail firstFailFrom variantOk callOk allelesStart allelesOk allelesFaultAt chainFrom chainOf memb pushAll reached linkTest goodChain fragmentTest isReached chainFaultAt
 places = record {
   accepted = refl;
   few-words = refl;

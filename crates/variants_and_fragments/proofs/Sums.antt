@@ -1,14 +1,17 @@
--- Sums over a list: along an append and a map, of equal terms, of numbers below 0, and as what a walk gathers.
+-- Sums over a list: along an append and a map, of equal terms, of numbers below 0, and as what a walk gathers; and sums over the
+-- numbers below one.
 -- Assumes nothing.
 use mathlib.Core.Path.{_≡_, refl, sym, ap, _∙_}
 use mathlib.Core.List.{List, [], _∷_, _++_, map}
-use Prim.Native.Nat.{ℕ, zero, suc, _+_, _*_, _≤_, _<_}
+use Prim.Native.Nat.{ℕ, zero, suc, _+_, _*_, _-_, _≤_, _<_}
+use native.Mathlib.Nat.{le-refl}
+use native.Mathlib.Numerals.{add-one}
 use native.Mathlib.Omega.{arith}
 use lib.IntN.{ℤ, pos, negℤ, _+ℤ_, +ℤ-idl, +ℤ-idr, +ℤ-assoc, negℤ-+ℤ}
 use lib.ListN.{length, getD}
 use Rattle.variants_and_fragments.specs.Case.{All, end, also}
 use Rattle.variants_and_fragments.specs.Fold.{fold}
-use Rattle.variants_and_fragments.specs.Sums.{sumOver, countOver}
+use Rattle.variants_and_fragments.specs.Sums.{sumOver, countOver, sumTo, countTo}
 
 -- ---- of integers
 pub sum-append : {X : Type 0} (xs ys : List X) (g : X → ℤ) → sumOver (xs ++ ys) g ≡ sumOver xs g +ℤ sumOver ys g
@@ -74,3 +77,41 @@ pub count-le : {X : Type 0} (xs : List X) (n m : X → ℕ) → ((x : X) → n x
 unfolding countOver
 count-le [] n m h = omega arith
 count-le (x ∷ xs) n m h = omega (arith, h x, count-le xs n m h)
+
+-- ---- over the numbers below n
+pub sumTo-cong : (n : ℕ) (f g : ℕ → ℤ) → ((i : ℕ) → i < n → f i ≡ g i) → sumTo n f ≡ sumTo n g
+unfolding sumTo
+sumTo-cong zero f g e = refl
+sumTo-cong (suc n) f g e = cc (sumTo-cong n f g (λ i l. e i (omega arith)), e n (omega arith))
+
+pub countTo-cong : (n : ℕ) (f g : ℕ → ℕ) → ((i : ℕ) → i < n → f i ≡ g i) → countTo n f ≡ countTo n g
+unfolding countTo
+countTo-cong zero f g e = refl
+countTo-cong (suc n) f g e = cc (countTo-cong n f g (λ i l. e i (omega arith)), e n (omega arith))
+
+pub countTo-on : (n : ℕ) (f : ℕ → ℕ) → countTo n f + f n ≡ countTo (n + 1) f
+unfolding countTo
+countTo-on n f = rw add-one
+
+countTo-add : (n d : ℕ) (f : ℕ → ℕ) → countTo n f ≤ countTo (n + d) f
+unfolding countTo
+countTo-add n zero f = let e : n + 0 ≡ n = omega arith in rw e (le-refl _)
+countTo-add n (suc d) f = let e : n + suc d ≡ suc (n + d) = omega arith in rw e (omega (arith, countTo-add n d f))
+
+pub countTo-grows : (m n : ℕ) (f : ℕ → ℕ) → m ≤ n → countTo m f ≤ countTo n f
+countTo-grows m n f h = let e : m + (n - m) ≡ n = omega arith in rw e at (countTo-add m (n - m) f)
+
+pub countTo-plus : (n : ℕ) (f g : ℕ → ℕ) → countTo n (λ i. f i + g i) ≡ countTo n f + countTo n g
+unfolding countTo
+countTo-plus zero f g = refl
+countTo-plus (suc n) f g = omega (arith, countTo-plus n f g)
+
+pub countTo-zero : (n : ℕ) → countTo n (λ _. 0) ≡ 0
+unfolding countTo
+countTo-zero zero = refl
+countTo-zero (suc n) = omega (arith, countTo-zero n)
+
+pub countTo-top : (n m : ℕ) (f : ℕ → ℕ) → ((i : ℕ) → i < n → f i ≤ m) → countTo n f ≤ m * n
+unfolding countTo
+countTo-top zero m f h = omega arith
+countTo-top (suc n) m f h = omega (arith, countTo-top n m f (λ i l. h i (omega arith)), h n (omega arith))

@@ -10,28 +10,11 @@ use lib.Dec.{leb}
 use lib.IntN.{ℤ}
 use lib.ListN.{length}
 use Rattle.variants_and_fragments.proofs.Bools.{both}
-use Rattle.variants_and_fragments.specs.Case.{Variant, Fragment, Call, usable, risingFrom, rising, All, end, also, GoodCall, GoodFragment}
+use Rattle.variants_and_fragments.proofs.Only.{only-length, only-all}
+use Rattle.variants_and_fragments.specs.Case.{Variant, Fragment, Call, usable, risingFrom, rising, All, GoodCall, GoodFragment}
 use Rattle.variants_and_fragments.specs.Pileup.{only, usableCalls}
 
--- ---- some of a list
-pub only-all : {X : Type 0} {P : X → Type 0} (p : X → Bool) (xs : List X) → All P xs → All P (only p xs)
-unfolding only
-only-all p [] end = end
-only-all {P = P} p (x ∷ xs) (also h hs) = go (p x) (only-all p xs hs)
-  where
-    go : (t : Bool) → All P (only p xs) → All P (cond t (x ∷ only p xs) (only p xs))
-    go true a = also h a
-    go false a = a
-
-pub only-length : {X : Type 0} (p : X → Bool) (xs : List X) → length (only p xs) ≤ length xs
-unfolding only
-only-length p [] = omega arith
-only-length p (x ∷ xs) = go (p x) (only-length p xs)
-  where
-    go : (t : Bool) → length (only p xs) ≤ length xs → length (cond t (x ∷ only p xs) (only p xs)) ≤ suc (length xs)
-    go true a = omega arith
-    go false a = omega arith
-
+-- ---- some of them still rise
 rising-down : (a b : ℕ) (calls : List Call) → a ≤ b → risingFrom b calls ≡ true → risingFrom a calls ≡ true
 unfolding risingFrom
 rising-down a b [] h r = refl

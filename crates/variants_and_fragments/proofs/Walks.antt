@@ -13,8 +13,8 @@ use lib.Seq.{getD-set-same, getD-set-other}
 use lib.IntN.{ℤ}
 use lib.Dec.{eqb}
 use Rattle.variants_and_fragments.specs.declared.Sizes.{Sizes}
-use Rattle.variants_and_fragments.specs.Chain.{firstCallAt, nextCallAt, Walked, linkTest, linkOk, chainFrom, chainOf, memb, pushAll, reached, goodChain, flag, Marked, markedAt, isReached}
-use Rattle.variants_and_fragments.proofs.Chain.{link-over}
+use Rattle.variants_and_fragments.specs.Chain.{nextCallAt, firstRecordAt, Walked, linkTest, linkOk, chainFrom, chainOf, memb, pushAll, reached, goodChain, flag, Marked, markedAt, isReached}
+use Rattle.variants_and_fragments.proofs.Chain.{link-over, first-top, first-chain}
 use Rattle.variants_and_fragments.specs.First.{firstFail}
 use Rattle.variants_and_fragments.proofs.First.{first-cong}
 
@@ -83,15 +83,15 @@ pub record Walking (w : List ℤ) (s : Sizes) (f : ℕ) (seen : List ℕ) (r k :
   pub good : goodChain w s (reached w s f) (chainOf w s f) ≡ goodChain w s acc (chainFrom w s (s .c - k) r)
   pub pushed : reached w s (suc f) ≡ pushAll (chainFrom w s (s .c - k) r) acc
 
-pub walk-start : (w : List ℤ) (s : Sizes) (f : ℕ) (seen : List ℕ) (r : ℕ) → r ≡ firstCallAt w s f → firstCallAt w s f ≤ s .c → Marked seen (reached w s f) → Walking w s f seen r 0
+pub walk-start : (w : List ℤ) (s : Sizes) (f : ℕ) (seen : List ℕ) (r : ℕ) → r ≡ firstRecordAt w s f → Marked seen (reached w s f) → Walking w s f seen r 0
 unfolding chainOf reached
-walk-start w s f seen r e h m = record {
+walk-start w s f seen r e m = record {
   acc = reached w s f;
-  r-top = omega arith;
+  r-top = omega (arith, first-top w s f);
   k-top = omega arith;
   now-marked = m;
-  good = rw (e, sub-zero);
-  pushed = rw (e, sub-zero);
+  good = rw (e, sub-zero, first-chain);
+  pushed = rw (e, sub-zero, first-chain);
 }
 
 module _ {w : List ℤ} {s : Sizes} {f : ℕ} {seen : List ℕ} {r k : ℕ} (c-top : s .c ≤ 16384) (i : Walking w s f seen r k) where

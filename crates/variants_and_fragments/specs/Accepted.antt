@@ -7,13 +7,13 @@ use Prim.Native.Nat.{ℕ, _+_, _≤_, _<_}
 use lib.ListN.{length, getD}
 use lib.IntN.{ℤ, pos}
 use Rattle.variants_and_fragments.specs.declared.Sizes.{Sizes}
-use Rattle.variants_and_fragments.specs.Words.{within, debtAt}
-use Rattle.variants_and_fragments.specs.Layout.{Sized, sizesOf, cutoffAt, lowestQuality, callAt, alleleCountAt, callVariantAt, calledAlleleAt, qualAt, oneMinusQualAt, callOk}
+use Rattle.variants_and_fragments.specs.Words.{within, debtOf}
+use Rattle.variants_and_fragments.specs.Layout.{Sized, sizesOf, cutoffAt, lowestQuality, alleleCountAt, callVariantAt, calledAlleleAt, qualAt, oneMinusQualAt, callOk}
 use Rattle.variants_and_fragments.specs.Chain.{firstCallAt, strandAt, chainOf, goodChain, reached}
 use Rattle.variants_and_fragments.specs.Alleles.{VariantsIn, allelesStart, isBase}
 
 -- p holds of each
-unfoldable pub allb : (ℕ → Bool) → List ℕ → Bool
+unfoldable pub allb : {X : Type 0} → (X → Bool) → List X → Bool
 allb p [] = true
 allb p (x ∷ xs) = p x && allb p xs
 
@@ -21,8 +21,8 @@ allb p (x ∷ xs) = p x && allb p xs
 pub record CallIn (w : List ℤ) (s : Sizes) (r : ℕ) : Type 0 where
   pub variant-in : callVariantAt w s r < s .n
   pub allele-in : calledAlleleAt w s r < alleleCountAt w (callVariantAt w s r)
-  pub qual-in : debtAt w (callAt s r + 2) ≤ 262144
-  pub other-in : debtAt w (callAt s r + 3) ≤ 262144
+  pub qual-in : debtOf (qualAt w s r) ≤ 262144
+  pub other-in : debtOf (oneMinusQualAt w s r) ≤ 262144
   pub qual-range : within lowestQuality (pos 0) (qualAt w s r) ≡ true
   pub other-range : within lowestQuality (pos 0) (oneMinusQualAt w s r) ≡ true
 

@@ -17,12 +17,16 @@ pub use Rattle.variants_and_fragments.specs.Layout.{firstCallAt, strandA
 abbrev pub isRecord : Sizes → ℕ → Bool
 isRecord s r = leb 1 r && leb r (s .c)
 
+-- where fragment f's chain starts: its first call, and 0 where that is no record (absent, −1, or past C)
+unfoldable pub firstRecordAt : List ℤ → Sizes → ℕ → ℕ
+firstRecordAt w s f = cond (isRecord s (firstCallAt w s f)) (firstCallAt w s f) 0
+
 -- the records from r on, k at most; what is no record ends the chain
 unfoldable pub chainFrom : List ℤ → Sizes → ℕ → ℕ → List ℕ
 chainFrom w s zero r = []
 chainFrom w s (suc k) r = cond (isRecord s r) (r ∷ chainFrom w s k (nextCallAt w s r)) []
 
--- fragment f's records; since a next is larger than its record, C steps reach the end of a good chain (proofs/Linked)
+-- fragment f's records; variants rise along a good chain, so that no record comes twice and C steps reach its end (proofs/Linked)
 unfoldable pub chainOf : List ℤ → Sizes → ℕ → List ℕ
 unfolding chainFrom
 chainOf w s f = chainFrom w s (s .c) (firstCallAt w s f)

@@ -2,17 +2,16 @@
 -- and a fragment's chain goes through consecutive records. Samples and theorems make their words here.
 -- Assumes nothing.
 use mathlib.Core.List.{List, [], _∷_, _++_, map}
-use Prim.Native.Nat.{ℕ, zero, suc, _+_}
+use Prim.Native.Nat.{ℕ, suc, _+_}
 use lib.IntN.{ℤ, pos}
-use lib.ListN.{length}
+use lib.ListN.{length, set, replicate}
 use Rattle.variants_and_fragments.specs.Case.{Case, Variant, Fragment, Call, alleleCount, callCount}
-use Rattle.variants_and_fragments.specs.Layout.{headWords, variantWords, fragmentWords, callWords}
+use Rattle.variants_and_fragments.specs.Layout.{headWords, variantWords, fragmentWords, callWords, variantsField, fragmentsField, callsField, cutoffField, pos0Field, depthField, genotypeField, alleleCountField, lengthField, firstField, strandField, variantField, alleleField, qualField, oneMinusQualField, nextField}
 
--- a record of n words: its fields, and 0 in each word that none of them fills
-unfoldable pub laid : ℕ → List ℤ → List ℤ
-laid zero fields = []
-laid (suc n) [] = pos 0 ∷ laid n []
-laid (suc n) (x ∷ fields) = x ∷ laid n fields
+-- a record of n words: each field at its place, and 0 in each word that none of them fills
+unfoldable pub laid : ℕ → List (ℕ × ℤ) → List ℤ
+laid n [] = replicate n (pos 0)
+laid n (field ∷ fields) = set (laid n fields) (field .0) (field .1)
 
 -- lists one after the other
 unfoldable pub joined : {X : Type 0} → List (List X) → List X
@@ -22,12 +21,30 @@ joined (xs ∷ rest) = xs ++ joined rest
 -- N, F, C, cutoff
 unfoldable pub headOf : Case → List ℤ
 unfolding laid
-headOf case = laid headWords (pos (length (case .variants)) ∷ pos (length (case .fragments)) ∷ pos (callCount case) ∷ case .cutoff ∷ [])
+headOf case =
+    laid headWords
+    ((variantsField, pos (length (case .variants)))
+    ∷ (fragmentsField, pos (length (case .fragments)))
+    ∷ (callsField, pos (callCount case))
+    ∷ (cutoffField, case .cutoff)
+    ∷ [])
+
+-- the lengths of alleles, from place i on
+unfoldable pub lengthsFrom : ℕ → List (List ℕ) → List (ℕ × ℤ)
+lengthsFrom i [] = []
+lengthsFrom i (allele ∷ alleles) = (i, pos (length allele)) ∷ lengthsFrom (suc i) alleles
 
 -- pos0, dp, genotype a and b, allele count, allele lengths
 unfoldable pub variantRecord : Variant → List ℤ
-unfolding laid
-variantRecord v = laid variantWords (pos (v .pos0) ∷ pos (v .dp) ∷ pos (v .genotype0) ∷ pos (v .genotype1) ∷ pos (alleleCount v) ∷ map (λ allele. pos (length allele)) (v .alleles))
+unfolding laid lengthsFrom
+variantRecord v =
+    laid variantWords
+    ((pos0Field, pos (v .pos0))
+    ∷ (depthField, pos (v .dp))
+    ∷ (genotypeField, pos (v .genotype0))
+    ∷ (suc genotypeField, pos (v .genotype1))
+    ∷ (alleleCountField, pos (alleleCount v))
+    ∷ lengthsFrom lengthField (v .alleles))
 
 -- the record of the first of these calls, which are numbered from r on; 0 where there is none
 unfoldable pub firstOf : ℕ → List Call → ℕ
@@ -38,13 +55,23 @@ firstOf r (call ∷ calls) = r
 unfoldable pub fragmentRecords : ℕ → List Fragment → List ℤ
 unfolding laid firstOf
 fragmentRecords r [] = []
-fragmentRecords r (fragment ∷ rest) = laid fragmentWords (pos (firstOf r (fragment .calls)) ∷ pos (fragment .strand) ∷ []) ++ fragmentRecords (r + length (fragment .calls)) rest
+fragmentRecords r (fragment ∷ rest) =
+    laid fragmentWords ((firstField, pos (firstOf r (fragment .calls))) ∷ (strandField, pos (fragment .strand)) ∷ [])
+    ++ fragmentRecords (r + length (fragment .calls)) rest
 
 -- variant, allele, qual, one_minus_qual, next; the calls of one fragment, numbered from r on
 unfoldable pub callRecords : ℕ → List Call → List ℤ
 unfolding laid firstOf
 callRecords r [] = []
-callRecords r (call ∷ calls) = laid callWords (pos (call .variant) ∷ pos (call .allele) ∷ call .qual ∷ call .one-minus-qual ∷ pos (firstOf (suc r) calls) ∷ []) ++ callRecords (suc r) calls
+callRecords r (call ∷ calls) =
+    laid callWords
+    ((variantField, pos (call .variant))
+    ∷ (alleleField, pos (call .allele))
+    ∷ (qualField, call .qual)
+    ∷ (oneMinusQualField, call .one-minus-qual)
+    ∷ (nextField, pos (firstOf (suc r) calls))
+    ∷ [])
+    ++ callRecords (suc r) calls
 
 unfoldable pub chainRecords : ℕ → List Fragment → List ℤ
 unfolding callRecords

@@ -10,7 +10,7 @@ use lib.IntN.{ℤ, pos, negℤ}
 use lib.Signed.{leZ}
 use lib.Dec.{leb, ltb, eqb}
 use Rattle.variants_and_fragments.specs.declared.Sizes.{Sizes}
-use Rattle.variants_and_fragments.specs.Words.{word, within, natAt, debtAt}
+use Rattle.variants_and_fragments.specs.Words.{word, within, natOf, debtOf, natAt}
 use Rattle.variants_and_fragments.specs.First.{firstFalse}
 
 -- ---- the numbers of section 2
@@ -48,13 +48,66 @@ maxAlleleLength = 64
 abbrev pub lowestQuality : ℤ
 lowestQuality = negℤ (pos 262144)
 
+-- ---- the fields, each by its place in its record
+-- of the head: N, F, C, the cutoff
+abbrev pub variantsField : ℕ
+variantsField = 0
+
+abbrev pub fragmentsField : ℕ
+fragmentsField = 1
+
+abbrev pub callsField : ℕ
+callsField = 2
+
+abbrev pub cutoffField : ℕ
+cutoffField = 3
+
+-- of a variant; the genotype has 2 words, the lengths have 3
+abbrev pub pos0Field : ℕ
+pos0Field = 0
+
+abbrev pub depthField : ℕ
+depthField = 1
+
+abbrev pub genotypeField : ℕ
+genotypeField = 2
+
+abbrev pub alleleCountField : ℕ
+alleleCountField = 4
+
+abbrev pub lengthField : ℕ
+lengthField = 5
+
+-- of a fragment
+abbrev pub firstField : ℕ
+firstField = 0
+
+abbrev pub strandField : ℕ
+strandField = 1
+
+-- of a call
+abbrev pub variantField : ℕ
+variantField = 0
+
+abbrev pub alleleField : ℕ
+alleleField = 1
+
+abbrev pub qualField : ℕ
+qualField = 2
+
+abbrev pub oneMinusQualField : ℕ
+oneMinusQualField = 3
+
+abbrev pub nextField : ℕ
+nextField = 4
+
 -- ---- where things stand
 -- what the head says: N, F, C, and how far the cutoff lies below 0
-abbrev pub sizesOf : List ℤ → Sizes
-sizesOf w = record { n = natAt w 0; f = natAt w 1; c = natAt w 2; cut = debtAt w 3 }
-
 abbrev pub cutoffAt : List ℤ → ℤ
-cutoffAt w = word w 3
+cutoffAt w = word w cutoffField
+
+abbrev pub sizesOf : List ℤ → Sizes
+sizesOf w = record { n = natAt w variantsField; f = natAt w fragmentsField; c = natAt w callsField; cut = debtOf (cutoffAt w) }
 
 abbrev pub totalWords : Sizes → ℕ
 totalWords s = headWords + variantWords * (s .n) + fragmentWords * (s .f) + callWords * (s .c)
@@ -69,44 +122,51 @@ fragmentAt s f = headWords + variantWords * (s .n) + fragmentWords * f
 abbrev pub callAt : Sizes → ℕ → ℕ
 callAt s r = headWords + variantWords * (s .n) + fragmentWords * (s .f) + callWords * (r - 1)
 
--- the fields of variant v; the genotype's two alleles are i = 0 and 1, the allele lengths j = 0, 1 and 2
+-- the fields of variant v: pos0 and dp as they stand, and each as a number; the genotype's two alleles are i = 0 and 1, the allele
+-- lengths j = 0, 1 and 2
+abbrev pub pos0WordAt : List ℤ → ℕ → ℤ
+pos0WordAt w v = word w (variantAt v + pos0Field)
+
+abbrev pub depthWordAt : List ℤ → ℕ → ℤ
+depthWordAt w v = word w (variantAt v + depthField)
+
 abbrev pub pos0At : List ℤ → ℕ → ℕ
-pos0At w v = natAt w (variantAt v)
+pos0At w v = natOf (pos0WordAt w v)
 
 abbrev pub depthAt : List ℤ → ℕ → ℕ
-depthAt w v = natAt w (variantAt v + 1)
+depthAt w v = natOf (depthWordAt w v)
 
 abbrev pub genotypeAt : List ℤ → ℕ → ℕ → ℕ
-genotypeAt w v i = natAt w (variantAt v + (2 + i))
+genotypeAt w v i = natAt w (variantAt v + (genotypeField + i))
 
 abbrev pub alleleCountAt : List ℤ → ℕ → ℕ
-alleleCountAt w v = natAt w (variantAt v + 4)
+alleleCountAt w v = natAt w (variantAt v + alleleCountField)
 
 abbrev pub lengthAt : List ℤ → ℕ → ℕ → ℕ
-lengthAt w v j = natAt w (variantAt v + (5 + j))
+lengthAt w v j = natAt w (variantAt v + (lengthField + j))
 
 -- the fields of fragment f
 abbrev pub firstCallAt : List ℤ → Sizes → ℕ → ℕ
-firstCallAt w s f = natAt w (fragmentAt s f)
+firstCallAt w s f = natAt w (fragmentAt s f + firstField)
 
 abbrev pub strandAt : List ℤ → Sizes → ℕ → ℕ
-strandAt w s f = natAt w (fragmentAt s f + 1)
+strandAt w s f = natAt w (fragmentAt s f + strandField)
 
 -- the fields of call r
 abbrev pub callVariantAt : List ℤ → Sizes → ℕ → ℕ
-callVariantAt w s r = natAt w (callAt s r)
+callVariantAt w s r = natAt w (callAt s r + variantField)
 
 abbrev pub calledAlleleAt : List ℤ → Sizes → ℕ → ℕ
-calledAlleleAt w s r = natAt w (callAt s r + 1)
+calledAlleleAt w s r = natAt w (callAt s r + alleleField)
 
 abbrev pub qualAt : List ℤ → Sizes → ℕ → ℤ
-qualAt w s r = word w (callAt s r + 2)
+qualAt w s r = word w (callAt s r + qualField)
 
 abbrev pub oneMinusQualAt : List ℤ → Sizes → ℕ → ℤ
-oneMinusQualAt w s r = word w (callAt s r + 3)
+oneMinusQualAt w s r = word w (callAt s r + oneMinusQualField)
 
 abbrev pub nextCallAt : List ℤ → Sizes → ℕ → ℕ
-nextCallAt w s r = natAt w (callAt s r + 4)
+nextCallAt w s r = natAt w (callAt s r + nextField)
 
 -- the words of w are laid out by s
 pub record Sized (w : List ℤ) (s : Sizes) : Type 0 where
@@ -148,9 +208,9 @@ allOf (b ∷ c ∷ bs) = b && allOf (c ∷ bs)
 -- pos0 ≥ 0, not falling; dp ≥ 0; k in 1..3; genotype a, b, each in 0..k−1; three allele lengths
 abbrev pub variantTests : List ℤ → ℕ → List Bool
 variantTests w v =
-    leZ (pos 0) (word w (variantAt v))
+    leZ (pos 0) (pos0WordAt w v)
     ∷ leb (priorPos0At w v) (pos0At w v)
-    ∷ leZ (pos 0) (word w (variantAt v + 1))
+    ∷ leZ (pos 0) (depthWordAt w v)
     ∷ leb 1 (alleleCountAt w v)
     ∷ leb (alleleCountAt w v) maxAlleles
     ∷ ltb (genotypeAt w v 0) (alleleCountAt w v)
@@ -165,9 +225,9 @@ variantOk w v = allOf (variantTests w v)
 
 -- what the tests say; the lengths of alleles that are present are at least 1, the others 0
 pub record VariantIn (w : List ℤ) (v : ℕ) : Type 0 where
-  pub pos-in : leZ (pos 0) (word w (variantAt v)) ≡ true
+  pub pos-in : leZ (pos 0) (pos0WordAt w v) ≡ true
   pub rises : priorPos0At w v ≤ pos0At w v
-  pub dp-in : leZ (pos 0) (word w (variantAt v + 1)) ≡ true
+  pub dp-in : leZ (pos 0) (depthWordAt w v) ≡ true
   pub k-low : 1 ≤ alleleCountAt w v
   pub k-high : alleleCountAt w v ≤ maxAlleles
   pub a-in : genotypeAt w v 0 < alleleCountAt w v

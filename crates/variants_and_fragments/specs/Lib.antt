@@ -13,7 +13,4 @@ pub mod Alleles
 pub mod Written
 pub mod Decode
 pub mod Encode
-pub mod Filter
 pub mod Pileup
-pub mod FilterWindow
-pub mod Filtered

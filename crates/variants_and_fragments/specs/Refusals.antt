@@ -2,7 +2,7 @@
 -- Assumes nothing.
 use mathlib.Core.Bool.{Bool, true, false, cond}
 use Prim.Native.Nat.{ℕ}
-use lib.Dec.{ltb}
+use lib.Dec.{eqb, leb, ltb}
 use Rattle.variants_and_fragments.specs.declared.Refusal.{Refusal}
 use Rattle.variants_and_fragments.specs.declared.Refusal.the-variants.{Head, Variant, Alleles, Call, Chain, Rates, Phase, Orders, Limit, Short, DensityQual, Normalize}
 
@@ -59,3 +59,12 @@ unless false n p rest = refused n p
 -- p is the place of the first fault, or the end e where there is none: a fault is refused with the number and its place; else what follows
 unfoldable pub stop : {X : Type 0} → ℕ → ℕ → ℕ → Outcome X → Outcome X
 stop n p e rest = cond (ltb p e) (refused n p) rest
+
+-- ---- 10, elements needed: the smallest needed count among the slices that are too short, where 0 is none
+-- what a slice of `long` elements needs, where that is too short; else 0
+unfoldable pub shortOf : ℕ → ℕ → ℕ
+shortOf need long = cond (leb need long) 0 need
+
+-- the smaller of two numbers; 0, which is none, gives the other one
+unfoldable pub earlier : ℕ → ℕ → ℕ
+earlier a b = cond (eqb a 0) b (cond (eqb b 0) a (cond (leb a b) a b))

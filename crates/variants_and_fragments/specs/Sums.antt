@@ -1,9 +1,9 @@
--- Sums over a list, and the range in which log probabilities and their sums lie. Every total of 01's sections 4 and 6 is such a sum.
+-- Sums over a list and over the numbers below one, and the range in which log probabilities and their sums lie. Every total of 01's sections 4 and 6 is such a sum.
 -- Assumes nothing.
 use mathlib.Core.Path.{_≡_}
 use mathlib.Core.Bool.{true}
 use mathlib.Core.List.{List, [], _∷_}
-use Prim.Native.Nat.{ℕ, _+_}
+use Prim.Native.Nat.{ℕ, zero, suc, _+_}
 use lib.IntN.{ℤ, pos, negℤ, _+ℤ_}
 use lib.Signed.{leZ}
 
@@ -16,6 +16,16 @@ sumOver (x ∷ xs) g = g x +ℤ sumOver xs g
 unfoldable pub countOver : {X : Type 0} → List X → (X → ℕ) → ℕ
 countOver [] g = 0
 countOver (x ∷ xs) g = g x + countOver xs g
+
+-- f 0 + .. + f (n − 1)
+unfoldable pub sumTo : ℕ → (ℕ → ℤ) → ℤ
+sumTo zero f = pos 0
+sumTo (suc n) f = sumTo n f +ℤ f n
+
+-- the same for whole numbers from 0 on
+unfoldable pub countTo : ℕ → (ℕ → ℕ) → ℕ
+countTo zero f = 0
+countTo (suc n) f = countTo n f + f n
 
 -- z lies in −n..0
 pub record DownTo (n : ℕ) (z : ℤ) : Type 0 where

@@ -1,3 +1,4 @@
+// The check of the allele bytes: number 3 of document 01's table.
 ghost use mathlib.Core.Path.{_≡_};
 ghost use Prim.Native.Nat.{_+_, _<_, _≤_};
 ghost use lib.ListN.{length};
@@ -5,9 +6,7 @@ ghost use Rattle.variants_and_fragments.specs.First.{firstFail};
 ghost use Rattle.variants_and_fragments.specs.Layout.{Sized};
 ghost use Rattle.variants_and_fragments.specs.Alleles.{allelesLength, allelesStart, isBase, baseOkAt, allelesOk, allelesFault, VariantsIn};
 use crate::Sizes;
-use crate::layout::HEAD_WORDS;
-use crate::layout::VARIANT_WORDS;
-use crate::layout::nat_at;
+use crate::layout::allele_length;
 
 // How many bytes variant v's alleles have: at most 3 times 64.
 pub fn alleles_length(words: &[i32], s: Sizes, v: usize) -> usize
@@ -16,10 +15,9 @@ pub fn alleles_length(words: &[i32], s: Sizes, v: usize) -> usize
     requires { ⌜ v < s .n ⌝ }
     ensures { λ r. ⌜ (r ≡ allelesLength (now (words .entry)) v) × (r ≤ 192) ⌝ }
 {
-    let at = HEAD_WORDS + VARIANT_WORDS * v;
-    let a = nat_at(words, at + 5);
-    let b = nat_at(words, at + 6);
-    let c = nat_at(words, at + 7);
+    let a = allele_length(words, s, v, 0);
+    let b = allele_length(words, s, v, 1);
+    let c = allele_length(words, s, v, 2);
     a + b + c
 }
 

@@ -1,13 +1,14 @@
+// The check of the call records: number 4 of document 01's table.
 ghost use mathlib.Core.Path.{_≡_};
 ghost use Prim.Native.Nat.{_≤_};
 ghost use Rattle.variants_and_fragments.specs.First.{firstFail};
 ghost use Rattle.variants_and_fragments.specs.Layout.{Sized, callOk, callsOk};
 use crate::Sizes;
 use crate::layout::allele_count;
-use crate::layout::call_at;
 use crate::layout::call_variant;
-use crate::layout::nat_at;
-use crate::layout::quality_ok;
+use crate::layout::called_allele;
+use crate::layout::one_minus_qual_ok;
+use crate::layout::qual_ok;
 
 // Call r's record is right: its variant, its allele and both qualities are in range.
 pub fn call_ok(words: &[i32], s: Sizes, r: usize) -> bool
@@ -21,10 +22,9 @@ pub fn call_ok(words: &[i32], s: Sizes, r: usize) -> bool
         return false;
     }
     let k = allele_count(words, s, v);
-    let at = call_at(s, r);
-    let a = nat_at(words, at + 1);
-    let qual = quality_ok(words, at + 2);
-    let one_minus_qual = quality_ok(words, at + 3);
+    let a = called_allele(words, s, r);
+    let qual = qual_ok(words, s, r);
+    let one_minus_qual = one_minus_qual_ok(words, s, r);
     (a < k) & (qual & one_minus_qual)
 }
 

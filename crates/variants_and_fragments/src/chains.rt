@@ -1,13 +1,15 @@
+// The check of the chains: number 5 of document 01's table.
 ghost use mathlib.Core.Path.{_≡_};
 ghost use Prim.Native.Nat.{_+_, _<_, _≤_};
 ghost use lib.ListN.{length};
 ghost use Rattle.variants_and_fragments.specs.First.{firstFail};
 ghost use Rattle.variants_and_fragments.specs.Layout.{Sized};
-ghost use Rattle.variants_and_fragments.specs.Chain.{firstCallAt, nextCallAt, linkOk, reached, Walked, FragmentChecked, FragmentsChecked, markedAt, chainFault, Marked};
+ghost use Rattle.variants_and_fragments.specs.Chain.{nextCallAt, linkOk, reached, Walked, FragmentChecked, FragmentsChecked, markedAt, chainFault, Marked};
 ghost use mathlib.Core.List.{[]};
 use crate::Sizes;
 use crate::layout::call_variant;
 use crate::layout::first_call;
+use crate::layout::first_word;
 use crate::layout::next_call;
 use crate::layout::strand_of;
 
@@ -46,13 +48,12 @@ fn after_ok(words: &[i32], s: Sizes, r: usize) -> bool
     v < u
 }
 
-// Fragment f's chain is right, where its first call is in 0..C; then seen marks its records too. At the loop's head the k records
+// Fragment f's chain is right; then seen marks its records too. At the loop's head the k records
 // before r are right and marked. A chain mostly goes on at the record after: the arm of its own lets the machine guess that and run
 // ahead, where `r = next` waits for the word.
 pub fn walk_chain(words: &[i32], s: Sizes, f: usize, seen: &mut [u8]) -> bool
     requires { ⌜ Sized (now words) s ⌝ }
     requires { ⌜ f < s .f ⌝ }
-    requires { ⌜ firstCallAt (now words) s f ≤ s .c ⌝ }
     requires { ⌜ Marked (now seen) (reached (now words) s f) ⌝ }
     ensures { λ r. ⌜ Walked (now (words .entry)) s f (now (seen .exit)) r ⌝ }
 {
@@ -98,7 +99,7 @@ pub fn fragment_ok(words: &[i32], s: Sizes, f: usize, seen: &mut [u8]) -> bool
     if 1 < strand {
         return false;
     }
-    let first = first_call(words, s, f);
+    let first = first_word(words, s, f);
     if c < first {
         return false;
     }

@@ -1,14 +1,13 @@
+// The check of the head: number 1 of document 01's table.
 ghost use mathlib.Core.Path.{_≡_};
 ghost use Rattle.variants_and_fragments.specs.Layout.{headFault};
-use crate::layout::CALL_WORDS;
-use crate::layout::FRAGMENT_WORDS;
 use crate::layout::HEAD_WORDS;
 use crate::layout::MAX_CALLS;
 use crate::layout::MAX_FRAGMENTS;
 use crate::layout::MAX_VARIANTS;
-use crate::layout::VARIANT_WORDS;
-use crate::layout::nat_at;
-use crate::layout::quality_ok;
+use crate::layout::cutoff_ok;
+use crate::layout::read_sizes;
+use crate::layout::total_words;
 
 // The place of the head's fault: a word 0 to 3, 4 for the length, 0 under four words; 5 where there is none.
 pub fn head_fault(words: &[i32]) -> usize
@@ -17,22 +16,21 @@ pub fn head_fault(words: &[i32]) -> usize
     if words.len() < HEAD_WORDS {
         return 0;
     }
-    let n = nat_at(words, 0);
-    if MAX_VARIANTS < n {
+    let s = read_sizes(words);
+    if MAX_VARIANTS < s.n {
         return 0;
     }
-    let f = nat_at(words, 1);
-    if MAX_FRAGMENTS < f {
+    if MAX_FRAGMENTS < s.f {
         return 1;
     }
-    let c = nat_at(words, 2);
-    if MAX_CALLS < c {
+    if MAX_CALLS < s.c {
         return 2;
     }
-    if !quality_ok(words, 3) {
+    if !cutoff_ok(words) {
         return 3;
     }
-    if words.len() == HEAD_WORDS + VARIANT_WORDS * n + FRAGMENT_WORDS * f + CALL_WORDS * c {
+    let all = total_words(s);
+    if words.len() == all {
         return 5;
     }
     4

@@ -1,10 +1,12 @@
+// The layout of a case, the one file that knows where a word stands: the numbers of section 2, the readings of a word, a reader for each field.
 ghost use mathlib.Core.Path.{_≡_};
 ghost use Prim.Native.Nat.{_+_, _<_, _≤_};
 ghost use lib.ListN.{length};
 ghost use lib.IntN.{pos};
 ghost use lib.Signed.{leZ};
 ghost use Rattle.variants_and_fragments.specs.Words.{natOf, debtOf, word, within, natAt, debtAt};
-ghost use Rattle.variants_and_fragments.specs.Layout.{Sized, sizesOf, lowestQuality, maxVariants, maxFragments, maxCalls, callAt, cutoffAt, qualAt, oneMinusQualAt, pos0At, depthAt, genotypeAt, alleleCountAt, lengthAt, callVariantAt, calledAlleleAt, firstCallAt, strandAt, nextCallAt};
+ghost use Rattle.variants_and_fragments.specs.Layout.{Sized, sizesOf, lowestQuality, headWords, variantWords, fragmentWords, callWords, totalWords, maxVariants, maxFragments, maxCalls, variantAt, fragmentAt, callAt, cutoffAt, qualAt, oneMinusQualAt, pos0WordAt, depthWordAt, pos0At, depthAt, genotypeAt, alleleCountAt, lengthAt, callVariantAt, calledAlleleAt, firstCallAt, strandAt, nextCallAt};
+ghost use Rattle.variants_and_fragments.specs.Chain.{firstRecordAt};
 ghost use Rattle.variants_and_fragments.specs.Alleles.{VariantsIn};
 ghost use mathlib.Core.Bool.{true};
 use crate::Sizes;
@@ -12,7 +14,7 @@ use crate::Sizes;
 // What a word that passes no range reads as.
 pub const NONE: usize = 4294967296;
 
-// The numbers of section 2: words of the head and of each record, the most of each, the lowest cutoff and quality.
+// The numbers of section 2: words of the head and of each record.
 pub const HEAD_WORDS: usize = 4;
 
 pub const VARIANT_WORDS: usize = 8;
@@ -21,42 +23,43 @@ pub const FRAGMENT_WORDS: usize = 2;
 
 pub const CALL_WORDS: usize = 5;
 
-// The words of the head.
-pub const VARIANTS: usize = 0;
+// The fields, each by its place in its record: of the head.
+const VARIANTS: usize = 0;
 
-pub const FRAGMENTS: usize = 1;
+const FRAGMENTS: usize = 1;
 
-pub const CALLS: usize = 2;
+const CALLS: usize = 2;
 
-pub const CUTOFF: usize = 3;
+const CUTOFF: usize = 3;
 
-// The fields of a variant record; the genotype has 2 words, the lengths 3.
-pub const POS0: usize = 0;
+// Of a variant; the genotype has 2 words, the lengths have 3.
+const POS0: usize = 0;
 
-pub const DEPTH: usize = 1;
+const DEPTH: usize = 1;
 
-pub const GENOTYPE: usize = 2;
+const GENOTYPE: usize = 2;
 
-pub const ALLELE_COUNT: usize = 4;
+const ALLELE_COUNT: usize = 4;
 
-pub const LENGTHS: usize = 5;
+const LENGTHS: usize = 5;
 
-// The fields of a fragment record.
-pub const FIRST: usize = 0;
+// Of a fragment.
+const FIRST: usize = 0;
 
-pub const STRAND: usize = 1;
+const STRAND: usize = 1;
 
-// The fields of a call record.
-pub const VARIANT: usize = 0;
+// Of a call.
+const VARIANT: usize = 0;
 
-pub const ALLELE: usize = 1;
+const ALLELE: usize = 1;
 
-pub const QUAL: usize = 2;
+const QUAL: usize = 2;
 
-pub const ONE_MINUS_QUAL: usize = 3;
+const ONE_MINUS_QUAL: usize = 3;
 
-pub const NEXT: usize = 4;
+const NEXT: usize = 4;
 
+// The most of each, and the lowest cutoff and quality.
 pub const MAX_VARIANTS: usize = 1024;
 
 pub const MAX_FRAGMENTS: usize = 4096;
@@ -132,9 +135,19 @@ pub fn low_at(words: &[i32], i: usize) -> usize
     nat_of(words[i])
 }
 
+// Word i as it stands.
+pub fn word_at(words: &[i32], i: usize) -> i32
+    requires { ⌜ i < length (now words) ⌝ }
+    ensures { λ r. ⌜ r ≡ word (now (words .entry)) i ⌝ }
+{
+    words[i]
+}
+
+// ---- the head
+
 // What the head says: N, F, C and the cutoff.
 pub fn read_sizes(words: &[i32]) -> Sizes
-    requires { ⌜ 4 ≤ length (now words) ⌝ }
+    requires { ⌜ headWords ≤ length (now words) ⌝ }
     ensures { λ r. ⌜ r ≡ sizesOf (now (words .entry)) ⌝ }
 {
     Sizes {
@@ -145,133 +158,12 @@ pub fn read_sizes(words: &[i32]) -> Sizes
     }
 }
 
-// Where call r's record starts.
-pub fn call_at(s: Sizes, r: usize) -> usize
-    requires { ⌜ (s .n ≤ maxVariants) × ((s .f ≤ maxFragments) × ((1 ≤ r) × (r ≤ maxCalls))) ⌝ }
-    ensures { λ i. ⌜ i ≡ callAt s r ⌝ }
+// The cutoff is in its range.
+pub fn cutoff_ok(words: &[i32]) -> bool
+    requires { ⌜ headWords ≤ length (now words) ⌝ }
+    ensures { λ r. ⌜ r ≡ within lowestQuality (pos 0) (cutoffAt (now (words .entry))) ⌝ }
 {
-    HEAD_WORDS + VARIANT_WORDS * s.n + FRAGMENT_WORDS * s.f + CALL_WORDS * (r - 1)
-}
-
-// Variant v's number of alleles.
-pub fn allele_count(words: &[i32], s: Sizes, v: usize) -> usize
-    requires { ⌜ Sized (now words) s ⌝ }
-    requires { ⌜ v < s .n ⌝ }
-    ensures { λ k. ⌜ k ≡ alleleCountAt (now (words .entry)) v ⌝ }
-{
-    nat_at(words, HEAD_WORDS + VARIANT_WORDS * v + 4)
-}
-
-// The variant of call r.
-pub fn call_variant(words: &[i32], s: Sizes, r: usize) -> usize
-    requires { ⌜ Sized (now words) s ⌝ }
-    requires { ⌜ (1 ≤ r) × (r ≤ s .c) ⌝ }
-    ensures { λ v. ⌜ v ≡ callVariantAt (now (words .entry)) s r ⌝ }
-{
-    nat_at(
-        words,
-        HEAD_WORDS + VARIANT_WORDS * s.n + FRAGMENT_WORDS * s.f + CALL_WORDS * (r - 1),
-    )
-}
-
-// The record after call r in its chain, or 0.
-pub fn next_call(words: &[i32], s: Sizes, r: usize) -> usize
-    requires { ⌜ Sized (now words) s ⌝ }
-    requires { ⌜ (1 ≤ r) × (r ≤ s .c) ⌝ }
-    ensures { λ t. ⌜ t ≡ nextCallAt (now (words .entry)) s r ⌝ }
-{
-    nat_at(
-        words,
-        HEAD_WORDS + VARIANT_WORDS * s.n + FRAGMENT_WORDS * s.f + CALL_WORDS * (r - 1) + 4,
-    )
-}
-
-// The first record of fragment f's chain, or 0.
-pub fn first_call(words: &[i32], s: Sizes, f: usize) -> usize
-    requires { ⌜ Sized (now words) s ⌝ }
-    requires { ⌜ f < s .f ⌝ }
-    ensures { λ t. ⌜ t ≡ firstCallAt (now (words .entry)) s f ⌝ }
-{
-    nat_at(words, HEAD_WORDS + VARIANT_WORDS * s.n + FRAGMENT_WORDS * f)
-}
-
-// Fragment f's strand.
-pub fn strand_of(words: &[i32], s: Sizes, f: usize) -> usize
-    requires { ⌜ Sized (now words) s ⌝ }
-    requires { ⌜ f < s .f ⌝ }
-    ensures { λ t. ⌜ t ≡ strandAt (now (words .entry)) s f ⌝ }
-{
-    nat_at(
-        words,
-        HEAD_WORDS + VARIANT_WORDS * s.n + FRAGMENT_WORDS * f + 1,
-    )
-}
-
-// Variant v's position and its depth.
-pub fn pos0_of(words: &[i32], s: Sizes, v: usize) -> usize
-    requires { ⌜ Sized (now words) s ⌝ }
-    requires { ⌜ VariantsIn (now words) s ⌝ }
-    requires { ⌜ v < s .n ⌝ }
-    ensures { λ r. ⌜ (r ≡ pos0At (now (words .entry)) v) × (r < 2147483648) ⌝ }
-{
-    low_at(words, HEAD_WORDS + VARIANT_WORDS * v)
-}
-
-pub fn depth_of(words: &[i32], s: Sizes, v: usize) -> usize
-    requires { ⌜ Sized (now words) s ⌝ }
-    requires { ⌜ VariantsIn (now words) s ⌝ }
-    requires { ⌜ v < s .n ⌝ }
-    ensures { λ r. ⌜ (r ≡ depthAt (now (words .entry)) v) × (r < 2147483648) ⌝ }
-{
-    low_at(words, HEAD_WORDS + VARIANT_WORDS * v + 1)
-}
-
-// The length of allele j of variant v.
-pub fn allele_length(words: &[i32], s: Sizes, v: usize, j: usize) -> usize
-    requires { ⌜ Sized (now words) s × (v < s .n) × (j < 3) ⌝ }
-    ensures { λ r. ⌜ r ≡ lengthAt (now (words .entry)) v j ⌝ }
-{
-    nat_at(words, HEAD_WORDS + VARIANT_WORDS * v + (5 + j))
-}
-
-// Allele i of variant v's genotype, i being 0 or 1.
-pub fn genotype_of(words: &[i32], s: Sizes, v: usize, i: usize) -> usize
-    requires { ⌜ Sized (now words) s × (v < s .n) × (i < 2) ⌝ }
-    ensures { λ r. ⌜ r ≡ genotypeAt (now (words .entry)) v i ⌝ }
-{
-    nat_at(words, HEAD_WORDS + VARIANT_WORDS * v + (2 + i))
-}
-
-// The allele that record r shows.
-pub fn called_allele(words: &[i32], s: Sizes, r: usize) -> usize
-    requires { ⌜ Sized (now words) s ⌝ }
-    requires { ⌜ (1 ≤ r) × (r ≤ s .c) ⌝ }
-    ensures { λ a. ⌜ a ≡ calledAlleleAt (now (words .entry)) s r ⌝ }
-{
-    nat_at(
-        words,
-        HEAD_WORDS + VARIANT_WORDS * s.n + FRAGMENT_WORDS * s.f + CALL_WORDS * (r - 1) + 1,
-    )
-}
-
-// How far the quality of record r lies below 0.
-pub fn qual_debt(words: &[i32], s: Sizes, r: usize) -> usize
-    requires { ⌜ Sized (now words) s ⌝ }
-    requires { ⌜ (1 ≤ r) × (r ≤ s .c) ⌝ }
-    ensures { λ d. ⌜ d ≡ debtAt (now (words .entry)) (callAt s r + 2) ⌝ }
-{
-    debt_at(
-        words,
-        HEAD_WORDS + VARIANT_WORDS * s.n + FRAGMENT_WORDS * s.f + CALL_WORDS * (r - 1) + 2,
-    )
-}
-
-// Word i as it stands.
-pub fn word_at(words: &[i32], i: usize) -> i32
-    requires { ⌜ i < length (now words) ⌝ }
-    ensures { λ r. ⌜ r ≡ word (now (words .entry)) i ⌝ }
-{
-    words[i]
+    quality_ok(words, CUTOFF)
 }
 
 // The cutoff.
@@ -280,6 +172,219 @@ pub fn cutoff_of(words: &[i32], s: Sizes) -> i32
     ensures { λ r. ⌜ r ≡ cutoffAt (now (words .entry)) ⌝ }
 {
     word_at(words, CUTOFF)
+}
+
+// How many words a case of these sizes has.
+pub fn total_words(s: Sizes) -> usize
+    requires { ⌜ (s .n ≤ maxVariants) × (s .f ≤ maxFragments) × (s .c ≤ maxCalls) ⌝ }
+    ensures { λ r. ⌜ r ≡ totalWords s ⌝ }
+{
+    HEAD_WORDS + VARIANT_WORDS * s.n + FRAGMENT_WORDS * s.f + CALL_WORDS * s.c
+}
+
+// ---- a variant
+
+// Where variant v's record starts.
+pub fn variant_at(v: usize) -> usize
+    requires { ⌜ v ≤ maxVariants ⌝ }
+    ensures { λ i. ⌜ i ≡ variantAt v ⌝ }
+{
+    HEAD_WORDS + VARIANT_WORDS * v
+}
+
+// Field k of variant v, as a number.
+fn variant_field(words: &[i32], s: Sizes, v: usize, k: usize) -> usize
+    requires { ⌜ Sized (now words) s × (v < s .n) × (k < variantWords) ⌝ }
+    ensures { λ r. ⌜ r ≡ natAt (now (words .entry)) (variantAt v + k) ⌝ }
+{
+    nat_at(words, variant_at(v) + k)
+}
+
+// Field k of variant v is not negative.
+fn variant_field_ok(words: &[i32], s: Sizes, v: usize, k: usize) -> bool
+    requires { ⌜ Sized (now words) s × (v < s .n) × (k < variantWords) ⌝ }
+    ensures { λ r. ⌜ r ≡ leZ (pos 0) (word (now (words .entry)) (variantAt v + k)) ⌝ }
+{
+    not_negative(words, variant_at(v) + k)
+}
+
+// Variant v's position is not negative.
+pub fn pos0_ok(words: &[i32], s: Sizes, v: usize) -> bool
+    requires { ⌜ Sized (now words) s × (v < s .n) ⌝ }
+    ensures { λ r. ⌜ r ≡ leZ (pos 0) (pos0WordAt (now (words .entry)) v) ⌝ }
+{
+    variant_field_ok(words, s, v, POS0)
+}
+
+// Variant v's depth is not negative.
+pub fn depth_ok(words: &[i32], s: Sizes, v: usize) -> bool
+    requires { ⌜ Sized (now words) s × (v < s .n) ⌝ }
+    ensures { λ r. ⌜ r ≡ leZ (pos 0) (depthWordAt (now (words .entry)) v) ⌝ }
+{
+    variant_field_ok(words, s, v, DEPTH)
+}
+
+// Variant v's position, NONE where it is negative.
+pub fn pos0_at(words: &[i32], s: Sizes, v: usize) -> usize
+    requires { ⌜ Sized (now words) s × (v < s .n) ⌝ }
+    ensures { λ r. ⌜ r ≡ pos0At (now (words .entry)) v ⌝ }
+{
+    variant_field(words, s, v, POS0)
+}
+
+// The position of a variant v that is checked.
+pub fn pos0_of(words: &[i32], s: Sizes, v: usize) -> usize
+    requires { ⌜ Sized (now words) s ⌝ }
+    requires { ⌜ VariantsIn (now words) s ⌝ }
+    requires { ⌜ v < s .n ⌝ }
+    ensures { λ r. ⌜ (r ≡ pos0At (now (words .entry)) v) × (r < 2147483648) ⌝ }
+{
+    low_at(words, variant_at(v) + POS0)
+}
+
+// The depth of a variant v that is checked.
+pub fn depth_of(words: &[i32], s: Sizes, v: usize) -> usize
+    requires { ⌜ Sized (now words) s ⌝ }
+    requires { ⌜ VariantsIn (now words) s ⌝ }
+    requires { ⌜ v < s .n ⌝ }
+    ensures { λ r. ⌜ (r ≡ depthAt (now (words .entry)) v) × (r < 2147483648) ⌝ }
+{
+    low_at(words, variant_at(v) + DEPTH)
+}
+
+// Allele i of variant v's genotype, i being 0 or 1.
+pub fn genotype_of(words: &[i32], s: Sizes, v: usize, i: usize) -> usize
+    requires { ⌜ Sized (now words) s × (v < s .n) × (i < 2) ⌝ }
+    ensures { λ r. ⌜ r ≡ genotypeAt (now (words .entry)) v i ⌝ }
+{
+    variant_field(words, s, v, GENOTYPE + i)
+}
+
+// Variant v's number of alleles.
+pub fn allele_count(words: &[i32], s: Sizes, v: usize) -> usize
+    requires { ⌜ Sized (now words) s ⌝ }
+    requires { ⌜ v < s .n ⌝ }
+    ensures { λ k. ⌜ k ≡ alleleCountAt (now (words .entry)) v ⌝ }
+{
+    variant_field(words, s, v, ALLELE_COUNT)
+}
+
+// The length of allele j of variant v.
+pub fn allele_length(words: &[i32], s: Sizes, v: usize, j: usize) -> usize
+    requires { ⌜ Sized (now words) s × (v < s .n) × (j < 3) ⌝ }
+    ensures { λ r. ⌜ r ≡ lengthAt (now (words .entry)) v j ⌝ }
+{
+    variant_field(words, s, v, LENGTHS + j)
+}
+
+// ---- a fragment
+
+// Where fragment f's record starts.
+pub fn fragment_at(s: Sizes, f: usize) -> usize
+    requires { ⌜ (s .n ≤ maxVariants) × (f ≤ maxFragments) ⌝ }
+    ensures { λ i. ⌜ i ≡ fragmentAt s f ⌝ }
+{
+    HEAD_WORDS + VARIANT_WORDS * s.n + FRAGMENT_WORDS * f
+}
+
+// Field k of fragment f, as a number.
+fn fragment_field(words: &[i32], s: Sizes, f: usize, k: usize) -> usize
+    requires { ⌜ Sized (now words) s × (f < s .f) × (k < fragmentWords) ⌝ }
+    ensures { λ r. ⌜ r ≡ natAt (now (words .entry)) (fragmentAt s f + k) ⌝ }
+{
+    nat_at(words, fragment_at(s, f) + k)
+}
+
+// Fragment f's first call as its word has it: 0, a record, or what the check refuses.
+pub fn first_word(words: &[i32], s: Sizes, f: usize) -> usize
+    requires { ⌜ Sized (now words) s ⌝ }
+    requires { ⌜ f < s .f ⌝ }
+    ensures { λ t. ⌜ t ≡ firstCallAt (now (words .entry)) s f ⌝ }
+{
+    fragment_field(words, s, f, FIRST)
+}
+
+// The first record of fragment f's chain, or 0 where its word names none.
+pub fn first_call(words: &[i32], s: Sizes, f: usize) -> usize
+    requires { ⌜ Sized (now words) s ⌝ }
+    requires { ⌜ f < s .f ⌝ }
+    ensures { λ t. ⌜ t ≡ firstRecordAt (now (words .entry)) s f ⌝ }
+{
+    let c = s.c;
+    let t = first_word(words, s, f);
+    if c < t {
+        return 0;
+    }
+    t
+}
+
+// Fragment f's strand.
+pub fn strand_of(words: &[i32], s: Sizes, f: usize) -> usize
+    requires { ⌜ Sized (now words) s ⌝ }
+    requires { ⌜ f < s .f ⌝ }
+    ensures { λ t. ⌜ t ≡ strandAt (now (words .entry)) s f ⌝ }
+{
+    fragment_field(words, s, f, STRAND)
+}
+
+// ---- a call
+
+// Where call r's record starts.
+pub fn call_at(s: Sizes, r: usize) -> usize
+    requires { ⌜ (s .n ≤ maxVariants) × ((s .f ≤ maxFragments) × ((1 ≤ r) × (r ≤ maxCalls))) ⌝ }
+    ensures { λ i. ⌜ i ≡ callAt s r ⌝ }
+{
+    HEAD_WORDS + VARIANT_WORDS * s.n + FRAGMENT_WORDS * s.f + CALL_WORDS * (r - 1)
+}
+
+// Field k of call r, as a number.
+fn call_field(words: &[i32], s: Sizes, r: usize, k: usize) -> usize
+    requires { ⌜ Sized (now words) s × (1 ≤ r) × (r ≤ s .c) × (k < callWords) ⌝ }
+    ensures { λ t. ⌜ t ≡ natAt (now (words .entry)) (callAt s r + k) ⌝ }
+{
+    nat_at(words, call_at(s, r) + k)
+}
+
+// Field k of call r is in a quality's range.
+fn call_field_ok(words: &[i32], s: Sizes, r: usize, k: usize) -> bool
+    requires { ⌜ Sized (now words) s × (1 ≤ r) × (r ≤ s .c) × (k < callWords) ⌝ }
+    ensures { λ t. ⌜ t ≡ within lowestQuality (pos 0) (word (now (words .entry)) (callAt s r + k)) ⌝ }
+{
+    quality_ok(words, call_at(s, r) + k)
+}
+
+// The variant of call r.
+pub fn call_variant(words: &[i32], s: Sizes, r: usize) -> usize
+    requires { ⌜ Sized (now words) s ⌝ }
+    requires { ⌜ (1 ≤ r) × (r ≤ s .c) ⌝ }
+    ensures { λ v. ⌜ v ≡ callVariantAt (now (words .entry)) s r ⌝ }
+{
+    call_field(words, s, r, VARIANT)
+}
+
+// The allele that record r shows.
+pub fn called_allele(words: &[i32], s: Sizes, r: usize) -> usize
+    requires { ⌜ Sized (now words) s ⌝ }
+    requires { ⌜ (1 ≤ r) × (r ≤ s .c) ⌝ }
+    ensures { λ a. ⌜ a ≡ calledAlleleAt (now (words .entry)) s r ⌝ }
+{
+    call_field(words, s, r, ALLELE)
+}
+
+// The quality of record r is in its range.
+pub fn qual_ok(words: &[i32], s: Sizes, r: usize) -> bool
+    requires { ⌜ Sized (now words) s × (1 ≤ r) × (r ≤ s .c) ⌝ }
+    ensures { λ t. ⌜ t ≡ within lowestQuality (pos 0) (qualAt (now (words .entry)) s r) ⌝ }
+{
+    call_field_ok(words, s, r, QUAL)
+}
+
+// The other quality of record r, one_minus_qual, is in its range.
+pub fn one_minus_qual_ok(words: &[i32], s: Sizes, r: usize) -> bool
+    requires { ⌜ Sized (now words) s × (1 ≤ r) × (r ≤ s .c) ⌝ }
+    ensures { λ t. ⌜ t ≡ within lowestQuality (pos 0) (oneMinusQualAt (now (words .entry)) s r) ⌝ }
+{
+    call_field_ok(words, s, r, ONE_MINUS_QUAL)
 }
 
 // The quality of record r.
@@ -298,4 +403,22 @@ pub fn one_minus_qual_of(words: &[i32], s: Sizes, r: usize) -> i32
     ensures { λ q. ⌜ q ≡ oneMinusQualAt (now (words .entry)) s r ⌝ }
 {
     word_at(words, call_at(s, r) + ONE_MINUS_QUAL)
+}
+
+// How far the quality of record r lies below 0.
+pub fn qual_debt(words: &[i32], s: Sizes, r: usize) -> usize
+    requires { ⌜ Sized (now words) s ⌝ }
+    requires { ⌜ (1 ≤ r) × (r ≤ s .c) ⌝ }
+    ensures { λ d. ⌜ d ≡ debtOf (qualAt (now (words .entry)) s r) ⌝ }
+{
+    debt_at(words, call_at(s, r) + QUAL)
+}
+
+// The record after call r in its chain, or 0.
+pub fn next_call(words: &[i32], s: Sizes, r: usize) -> usize
+    requires { ⌜ Sized (now words) s ⌝ }
+    requires { ⌜ (1 ≤ r) × (r ≤ s .c) ⌝ }
+    ensures { λ t. ⌜ t ≡ nextCallAt (now (words .entry)) s r ⌝ }
+{
+    call_field(words, s, r, NEXT)
 }

@@ -1,3 +1,4 @@
+// A case of variants and fragments: its check, and the types that every crate over it shares.
 ghost use mathlib.Core.Path.{_≡_};
 ghost use Rattle.variants_and_fragments.specs.Check.{outcomeOf, caseOf};
 use crate::alleles::alleles_fault;
@@ -6,18 +7,18 @@ use crate::chains::chain_fault;
 use crate::head::head_fault;
 use crate::layout::read_sizes;
 use crate::variants::first_bad_variant;
-pub use filter::var_filter;
+pub use refusals::earlier;
 pub use refusals::number;
 pub use refusals::place;
+pub use refusals::short_of;
 
 pub mod alleles;
-pub mod calls;
-pub mod chains;
-pub mod filter;
-pub mod head;
+mod calls;
+mod chains;
+mod head;
 pub mod layout;
 pub mod refusals;
-pub mod variants;
+mod variants;
 
 // What the head says: N, F, C, and how far the cutoff lies below 0.
 pub struct Sizes {
@@ -49,13 +50,6 @@ pub enum Checked {
     Refused(Refusal),
 }
 
-// When variants stand too close: more than n others of quality gq or more within len bases.
-pub struct DensityParameters {
-    pub n: u32,
-    pub len: u32,
-    pub gq: f64,
-}
-
 // The filters that a variant fails.
 pub enum VarFilter {
     Pass,
@@ -66,12 +60,6 @@ pub enum VarFilter {
     DensityAndStrandBias,
     DepthAndStrandBias,
     DensityAndDepthAndStrandBias,
-}
-
-// The answer of var_filter.
-pub enum Filtered {
-    Done,
-    Refused(Refusal),
 }
 
 // The check of a case: numbers 1 to 5 of document 01's table, in order, or the sizes that the head gives.

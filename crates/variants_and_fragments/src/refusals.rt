@@ -1,3 +1,4 @@
+// A refusal's number and place, and what number 10 says of slices that are too short.
 ghost use mathlib.Core.Path.{_≡_};
 ghost use Rattle.variants_and_fragments.specs.Refusals as refusals;
 use crate::Refusal;
@@ -40,4 +41,30 @@ pub fn place(r: Refusal) -> usize
         Refusal::DensityQual(p) => p,
         Refusal::Normalize(p) => p,
     }
+}
+
+// What a slice of `long` elements needs, where that is too short; else 0.
+pub fn short_of(need: usize, long: usize) -> usize
+    ensures { λ r. ⌜ r ≡ refusals.shortOf need long ⌝ }
+{
+    if need <= long {
+        return 0;
+    }
+    need
+}
+
+// The smaller of two numbers; 0, which is none, gives the other one.
+pub fn earlier(a: usize, b: usize) -> usize
+    ensures { λ r. ⌜ r ≡ refusals.earlier a b ⌝ }
+{
+    if a == 0 {
+        return b;
+    }
+    if b == 0 {
+        return a;
+    }
+    if a <= b {
+        return a;
+    }
+    b
 }

@@ -1,14 +1,17 @@
+// The check of the variant records: number 2 of document 01's table.
 ghost use mathlib.Core.Path.{_≡_};
 ghost use Prim.Native.Nat.{_<_};
 ghost use Rattle.variants_and_fragments.specs.First.{firstFail};
 ghost use Rattle.variants_and_fragments.specs.Layout.{Sized, priorPos0At, lengthOk, variantOk};
 use crate::Sizes;
-use crate::layout::HEAD_WORDS;
 use crate::layout::MAX_ALLELE_LENGTH;
 use crate::layout::MAX_ALLELES;
-use crate::layout::VARIANT_WORDS;
-use crate::layout::nat_at;
-use crate::layout::not_negative;
+use crate::layout::allele_count;
+use crate::layout::allele_length;
+use crate::layout::depth_ok;
+use crate::layout::genotype_of;
+use crate::layout::pos0_at;
+use crate::layout::pos0_ok;
 
 // The position that variant v's may not fall below.
 pub fn prior_pos0(words: &[i32], s: Sizes, v: usize) -> usize
@@ -19,7 +22,7 @@ pub fn prior_pos0(words: &[i32], s: Sizes, v: usize) -> usize
     if v == 0 {
         return 0;
     }
-    nat_at(words, HEAD_WORDS + VARIANT_WORDS * (v - 1))
+    pos0_at(words, s, v - 1)
 }
 
 // The length x of allele j of k is right: 1..64 where present, 0 where absent.
@@ -38,17 +41,16 @@ pub fn variant_ok(words: &[i32], s: Sizes, v: usize) -> bool
     requires { ⌜ v < s .n ⌝ }
     ensures { λ r. ⌜ r ≡ variantOk (now (words .entry)) v ⌝ }
 {
-    let at = HEAD_WORDS + VARIANT_WORDS * v;
-    let p_low = not_negative(words, at);
-    let p = nat_at(words, at);
+    let p_low = pos0_ok(words, s, v);
+    let p = pos0_at(words, s, v);
     let q = prior_pos0(words, s, v);
-    let dp_low = not_negative(words, at + 1);
-    let a = nat_at(words, at + 2);
-    let b = nat_at(words, at + 3);
-    let k = nat_at(words, at + 4);
-    let l0 = length_ok(0, k, nat_at(words, at + 5));
-    let l1 = length_ok(1, k, nat_at(words, at + 6));
-    let l2 = length_ok(2, k, nat_at(words, at + 7));
+    let dp_low = depth_ok(words, s, v);
+    let a = genotype_of(words, s, v, 0);
+    let b = genotype_of(words, s, v, 1);
+    let k = allele_count(words, s, v);
+    let l0 = length_ok(0, k, allele_length(words, s, v, 0));
+    let l1 = length_ok(1, k, allele_length(words, s, v, 1));
+    let l2 = length_ok(2, k, allele_length(words, s, v, 2));
     p_low
         & ((q <= p)
             & (dp_low

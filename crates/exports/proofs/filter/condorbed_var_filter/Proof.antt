@@ -2,7 +2,7 @@
 -- Assumes nothing.
 use mathlib.Core.Path.{ap}
 use borrow.Author.Needs.{needs}
-use Rattle.variants_and_fragments.specs.Filtered.{filteredOutcome}
+use Rattle.var_filter.specs.Filtered.{filteredOutcome}
 use Rattle.exports.proofs.Numbers.{answered-done, answered-refused}
 use Rattle.exports.proofs.Promised.{var-filter}
 use Rattle.exports.proofs.filter.condorbed_var_filter.Statement.{statement}

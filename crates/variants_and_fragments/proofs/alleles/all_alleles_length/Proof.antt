@@ -4,7 +4,7 @@ use mathlib.Core.Path.{_≡_, refl, _∙_, ap}
 use Prim.Native.Nat.{ℕ, _+_, _*_, _-_, _≤_}
 use native.Mathlib.Omega.{arith}
 use denote.Ref.{now}
-use Rattle.variants_and_fragments.specs.Alleles.{allelesStart}
+use Rattle.variants_and_fragments.specs.Alleles.{allelesLength, allelesStart}
 use Rattle.variants_and_fragments.proofs.AlleleBytes.{off-on}
 use Rattle.variants_and_fragments.proofs.alleles.all_alleles_length.Statement.{statement}
 use Rattle.variants_and_fragments.proofs.alleles.all_alleles_length.Tie as tie
@@ -32,10 +32,18 @@ loop-less : tie.Need-loop-less Inv-loop μ-loop
 loop-less c = omega arith
 
 loop-again : tie.Need-loop-again Inv-loop μ-loop
-loop-again c = ((omega arith, omega arith), ap (λ (x : ℕ). x + c .alleles-length .result) (c .before .before .loop .inv .1) ∙ ap (λ (x : ℕ). allelesStart (now (c .before .before .before .args .words)) (c .before .before .loop .v) + x) (c .alleles-length .ensures .0) ∙ off-on _ _)
+loop-again c =
+    let l = c .before .before in
+    let w = now (l .before .args .words) in
+    let v = l .loop .v in
+    let start : l .loop .sum + c .alleles-length .result ≡ allelesStart w v + allelesLength w v = cc (l .loop .inv .1, c .alleles-length .ensures .0) in
+    ((omega arith, omega arith), start ∙ off-on _ _)
 
 returns : tie.Need-returns Inv-loop μ-loop
-returns c = let e : c .before .loop .v ≡ c .before .before .args .s .n = omega arith in c .before .loop .inv .1 ∙ ap (allelesStart (now (c .before .before .args .words))) e
+returns c =
+    let l = c .before in
+    let e : l .loop .v ≡ l .before .args .s .n = omega arith in
+    l .loop .inv .1 ∙ ap (allelesStart (now (l .before .args .words))) e
 
 pub all-alleles-length-spec : {M : Type 1} → statement M
 all-alleles-length-spec =

@@ -18,6 +18,10 @@ Inv-loop bases at n i₀ i = (i ≤ n) × ((j : ℕ) → j < i → baseOkAt base
 abbrev μ-loop : tie.MeasureT-loop
 μ-loop bases at n i₀ i = n - i
 
+-- the loop's head, from where the byte is tested
+abbrev lp : tie.After-is-base Inv-loop μ-loop → tie.At-loop Inv-loop μ-loop
+lp c = c .before .before .before
+
 loop-holds : tie.Need-loop-holds Inv-loop μ-loop
 loop-holds c = (omega arith, below-none _)
 
@@ -31,7 +35,7 @@ is-base-requires : tie.Need-is-base-requires Inv-loop μ-loop
 is-base-requires c κs = search needs
 
 returns : tie.Need-returns Inv-loop μ-loop
-returns c = first-at _ _ _ (c .before .before .before .before .loop .inv .1) (c .before .before .before .loop-test .taken) (sym (c .before .is-base .ensures) ∙ not-true _ (c .if1 .taken))
+returns c = first-at _ _ _ (lp (c .before) .loop .inv .1) (c .before .before .before .loop-test .taken) (sym (c .before .is-base .ensures) ∙ not-true _ (c .if1 .taken))
 
 add-i : tie.Need-add-i Inv-loop μ-loop
 add-i c = omega arith
@@ -40,7 +44,7 @@ loop-less : tie.Need-loop-less Inv-loop μ-loop
 loop-less c = omega arith
 
 loop-again : tie.Need-loop-again Inv-loop μ-loop
-loop-again c = (omega arith, below-more _ _ (c .before .before .before .before .loop .inv .1) (sym (c .before .is-base .ensures) ∙ not-false _ (c .if1 .left)))
+loop-again c = (omega arith, below-more _ _ (lp (c .before) .loop .inv .1) (sym (c .before .is-base .ensures) ∙ not-false _ (c .if1 .left)))
 
 returns-2 : tie.Need-returns-2 Inv-loop μ-loop
 returns-2 c = first-end _ _ _ (c .before .loop .inv .1) (omega arith)

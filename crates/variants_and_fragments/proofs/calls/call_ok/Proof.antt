@@ -1,9 +1,9 @@
 -- `calls::call_ok` meets its contract: past the test of the variant, each test of the code is one of the definition's.
 -- Assumes nothing.
-use borrow.Author.Needs.{needs}
 use borrow.Author.Tests.{lt-ltb, le-ltb}
 use mathlib.Core.Path.{sym}
 use Rattle.variants_and_fragments.specs.Layout.{callOk}
+use borrow.Author.Needs.{needs}
 use Rattle.variants_and_fragments.proofs.calls.call_ok.Statement.{statement}
 use Rattle.variants_and_fragments.proofs.calls.call_ok.Tie as tie
 
@@ -17,37 +17,22 @@ returns c = simp (sym (c .before .call-variant .ensures), le-ltb _ _ (c .if1 .ta
 allele-count-requires : tie.Need-allele-count-requires
 allele-count-requires c κs = search needs
 
-call-at-requires : tie.Need-call-at-requires
-call-at-requires c κs = search needs
+called-allele-requires : tie.Need-called-allele-requires
+called-allele-requires c κs = search needs
 
-add-nat-at : tie.Need-add-nat-at
-add-nat-at c = search needs
+qual-ok-requires : tie.Need-qual-ok-requires
+qual-ok-requires c κs = search needs
 
-nat-at-requires : tie.Need-nat-at-requires
-nat-at-requires c κs = search needs
-
-add-quality-ok : tie.Need-add-quality-ok
-add-quality-ok c = search needs
-
-quality-ok-requires : tie.Need-quality-ok-requires
-quality-ok-requires c κs = search needs
-
-add-quality-ok-2 : tie.Need-add-quality-ok-2
-add-quality-ok-2 c = search needs
-
-quality-ok-requires-2 : tie.Need-quality-ok-requires-2
-quality-ok-requires-2 c κs = search needs
+one-minus-qual-ok-requires : tie.Need-one-minus-qual-ok-requires
+one-minus-qual-ok-requires c κs = search needs
 
 returns-2 : tie.Need-returns-2
 unfolding callOk
 returns-2 c =
-    let at = c .before .before .before .call-at .ensures in
-    let v = c .before .before .before .before .before .before .call-variant .ensures in
-    let k = c .before .before .before .before .allele-count .ensures in
-    let a = rw at at (c .before .before .nat-at .ensures) in
-    let q = rw at at (c .before .quality-ok .ensures) in
-    let o = rw at at (c .quality-ok2 .ensures) in
-    simp (sym v, lt-ltb _ _ (c .before .before .before .before .before .if1 .left), sym k, sym a, sym q, sym o)
+    let count = c .before .before .before in
+    let kept = count .before in
+    let v = kept .before .call-variant .ensures in
+    simp (sym v, lt-ltb _ _ (kept .if1 .left), sym (count .allele-count .ensures), sym (c .before .before .called-allele .ensures), sym (c .before .qual-ok .ensures), sym (c .one-minus-qual-ok .ensures))
 
 pub call-ok-spec : {M : Type 1} → statement M
 call-ok-spec =
@@ -56,11 +41,7 @@ call-ok-spec =
     call-variant-requires
     returns
     allele-count-requires
-    call-at-requires
-    add-nat-at
-    nat-at-requires
-    add-quality-ok
-    quality-ok-requires
-    add-quality-ok-2
-    quality-ok-requires-2
+    called-allele-requires
+    qual-ok-requires
+    one-minus-qual-ok-requires
     returns-2)

@@ -21,6 +21,13 @@ Inv-loop words s seen₀ n f₀ seen f = (f ≤ n) × (((j : ℕ) → j < f → 
 abbrev μ-loop : tie.MeasureT-loop
 μ-loop words s seen₀ n f₀ seen f = n - f
 
+-- the places of a turn: the fragment's test, and the loop's head
+abbrev ok : tie.After-slice-known2 Inv-loop μ-loop → tie.After-fragment-ok Inv-loop μ-loop
+ok c = c .before .before
+
+abbrev lp : tie.After-fragment-ok Inv-loop μ-loop → tie.At-loop Inv-loop μ-loop
+lp c = c .before .before .before
+
 loop-holds : tie.Need-loop-holds Inv-loop μ-loop
 unfolding reached
 loop-holds c = (omega arith, (below-none _, (c .before .pre .1, refl)))
@@ -32,7 +39,10 @@ same-length : tie.Need-same-length Inv-loop μ-loop
 same-length c = search needs
 
 returns : tie.Need-returns Inv-loop μ-loop
-returns c = record { at = first-at _ _ _ (c .before .before .before .before .before .before .loop .inv .1 .0) (c .before .before .before .before .before .loop-test .taken) (sym (c .before .before .before .fragment-ok .ensures .ok) ∙ not-true _ (c .if1 .taken)); marked = λ e. absurd (omega (arith, c .before .before .before .before .before .loop-test .taken)) }
+returns c =
+    let k = ok (c .before) in
+    let more = k .before .before .loop-test .taken in
+    record { at = first-at _ _ _ (lp k .loop .inv .1 .0) more (sym (k .fragment-ok .ensures .ok) ∙ not-true _ (c .if1 .taken)); marked = λ e. absurd (omega (arith, more)) }
 
 add-f : tie.Need-add-f Inv-loop μ-loop
 add-f c = search needs
@@ -41,8 +51,11 @@ loop-less : tie.Need-loop-less Inv-loop μ-loop
 loop-less c = search needs
 
 loop-again : tie.Need-loop-again Inv-loop μ-loop
-loop-again c = let on : c .before .before .before .fragment-ok .result ≡ true = not-false _ (c .if1 .left) in
-    (omega arith, (below-more _ _ (c .before .before .before .before .before .before .loop .inv .1 .0) (sym (c .before .before .before .fragment-ok .ensures .ok) ∙ on), (rw add-one (c .before .before .before .fragment-ok .ensures .marked on), c .before .before .before .fragment-ok .kept .1 .1 .1 .0 ∙ c .before .before .before .before .before .before .loop .inv .1 .1 .1)))
+loop-again c =
+    let k = ok (c .before) in
+    let on : k .fragment-ok .result ≡ true = not-false _ (c .if1 .left) in
+    let inv = lp k .loop .inv .1 in
+    (omega arith, (below-more _ _ (inv .0) (sym (k .fragment-ok .ensures .ok) ∙ on), (rw add-one (k .fragment-ok .ensures .marked on), k .fragment-ok .kept .1 .1 .1 .0 ∙ inv .1 .1)))
 
 same-length-2 : tie.Need-same-length-2 Inv-loop μ-loop
 same-length-2 c = search needs

@@ -39,7 +39,7 @@ first-call-requires : tie.Need-first-call-requires Inv-loop μ-loop
 first-call-requires c κs = search needs
 
 loop-holds : tie.Need-loop-holds Inv-loop μ-loop
-loop-holds c = (walk-start _ _ _ _ _ (c .first-call .ensures) (c .before .before .pre .1 .1 .0) (c .before .before .pre .1 .1 .1), refl)
+loop-holds c = (walk-start _ _ _ _ _ (c .first-call .ensures) (c .before .before .pre .1 .1), refl)
 
 add-k : tie.Need-add-k Inv-loop μ-loop
 add-k c = search needs

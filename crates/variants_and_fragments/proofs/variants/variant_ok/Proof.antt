@@ -1,104 +1,91 @@
 -- `variants::variant_ok` meets its contract: each test of the code is one of the definition's.
 -- Assumes nothing.
-use borrow.Author.Needs.{needs}
 use Rattle.variants_and_fragments.specs.Layout.{variantOk}
+use borrow.Author.Needs.{needs}
 use Rattle.variants_and_fragments.proofs.variants.variant_ok.Statement.{statement}
 use Rattle.variants_and_fragments.proofs.variants.variant_ok.Tie as tie
 
-mul-at : tie.Need-mul-at
-mul-at c = search needs
+pos0-ok-requires : tie.Need-pos0-ok-requires
+pos0-ok-requires c κs = search needs
 
-add-at : tie.Need-add-at
-add-at c = search needs
-
-not-negative-requires : tie.Need-not-negative-requires
-not-negative-requires c κs = search needs
-
-nat-at-requires : tie.Need-nat-at-requires
-nat-at-requires c κs = search needs
+pos0-at-requires : tie.Need-pos0-at-requires
+pos0-at-requires c κs = search needs
 
 prior-pos0-requires : tie.Need-prior-pos0-requires
 prior-pos0-requires c κs = search needs
 
-add-not-negative : tie.Need-add-not-negative
-add-not-negative c = search needs
+depth-ok-requires : tie.Need-depth-ok-requires
+depth-ok-requires c κs = search needs
 
-not-negative-requires-2 : tie.Need-not-negative-requires-2
-not-negative-requires-2 c κs = search needs
+genotype-of-requires : tie.Need-genotype-of-requires
+genotype-of-requires c κs = search needs
 
-add-nat-at : tie.Need-add-nat-at
-add-nat-at c = search needs
+genotype-of-requires-2 : tie.Need-genotype-of-requires-2
+genotype-of-requires-2 c κs = search needs
 
-nat-at-requires-2 : tie.Need-nat-at-requires-2
-nat-at-requires-2 c κs = search needs
+allele-count-requires : tie.Need-allele-count-requires
+allele-count-requires c κs = search needs
 
-add-nat-at-2 : tie.Need-add-nat-at-2
-add-nat-at-2 c = search needs
-
-nat-at-requires-3 : tie.Need-nat-at-requires-3
-nat-at-requires-3 c κs = search needs
-
-add-nat-at-3 : tie.Need-add-nat-at-3
-add-nat-at-3 c = search needs
-
-nat-at-requires-4 : tie.Need-nat-at-requires-4
-nat-at-requires-4 c κs = search needs
-
-add-nat-at-4 : tie.Need-add-nat-at-4
-add-nat-at-4 c = search needs
-
-nat-at-requires-5 : tie.Need-nat-at-requires-5
-nat-at-requires-5 c κs = search needs
+allele-length-requires : tie.Need-allele-length-requires
+allele-length-requires c κs = search needs
 
 length-ok-requires : tie.Need-length-ok-requires
 length-ok-requires c κs = search needs
 
-add-nat-at-5 : tie.Need-add-nat-at-5
-add-nat-at-5 c = search needs
-
-nat-at-requires-6 : tie.Need-nat-at-requires-6
-nat-at-requires-6 c κs = search needs
+allele-length-requires-2 : tie.Need-allele-length-requires-2
+allele-length-requires-2 c κs = search needs
 
 length-ok-requires-2 : tie.Need-length-ok-requires-2
 length-ok-requires-2 c κs = search needs
 
-add-nat-at-6 : tie.Need-add-nat-at-6
-add-nat-at-6 c = search needs
-
-nat-at-requires-7 : tie.Need-nat-at-requires-7
-nat-at-requires-7 c κs = search needs
+allele-length-requires-3 : tie.Need-allele-length-requires-3
+allele-length-requires-3 c κs = search needs
 
 length-ok-requires-3 : tie.Need-length-ok-requires-3
 length-ok-requires-3 c κs = search needs
 
 returns : tie.Need-returns
 unfolding variantOk
-returns c = cc
+returns c =
+    let l2 = c .before .before in
+    let l1 = l2 .before .before in
+    let k = l1 .before .before in
+    let b = k .before in
+    let a = b .before in
+    let dp = a .before in
+    let q = dp .before in
+    let p = q .before in
+    rw (
+      p .before .pos0-ok .ensures,
+      p .pos0-at .ensures,
+      q .prior-pos0 .ensures,
+      dp .depth-ok .ensures,
+      a .genotype-of .ensures,
+      b .genotype-of2 .ensures,
+      l1 .length-ok .ensures,
+      l2 .length-ok2 .ensures,
+      c .length-ok3 .ensures,
+      k .allele-count .ensures,
+      l1 .before .allele-length .ensures,
+      l2 .before .allele-length2 .ensures,
+      c .before .allele-length3 .ensures,
+    )
 
 pub variant-ok-spec : {M : Type 1} → statement M
 variant-ok-spec =
     tie.close
     (tie.spec
-    mul-at
-    add-at
-    not-negative-requires
-    nat-at-requires
+    pos0-ok-requires
+    pos0-at-requires
     prior-pos0-requires
-    add-not-negative
-    not-negative-requires-2
-    add-nat-at
-    nat-at-requires-2
-    add-nat-at-2
-    nat-at-requires-3
-    add-nat-at-3
-    nat-at-requires-4
-    add-nat-at-4
-    nat-at-requires-5
+    depth-ok-requires
+    genotype-of-requires
+    genotype-of-requires-2
+    allele-count-requires
+    allele-length-requires
     length-ok-requires
-    add-nat-at-5
-    nat-at-requires-6
+    allele-length-requires-2
     length-ok-requires-2
-    add-nat-at-6
-    nat-at-requires-7
+    allele-length-requires-3
     length-ok-requires-3
     returns)
