@@ -1,9 +1,5 @@
 pub mod CallShares
 pub mod CallsHeld
-pub mod HeldCases
-pub mod LikelihoodsHeld
 pub mod RunningSums
 pub mod SweepCases
-pub mod TableParts
 pub mod TotalParts
-pub mod TotalsHeld

@@ -1,4 +1,4 @@
--- `call_genotypes::sweep_case::write_allele_counts` meets its contract. The loop's invariant: the counts of the first v variants are written.
+-- `likelihoods::sweep_case::write_allele_counts` meets its contract. The loop's invariant: the counts of the first v variants are written.
 -- Assumes nothing.
 use mathlib.Core.Path.{_≡_, refl, ap, _∙_}
 use Prim.Native.Nat.{ℕ, _-_, _≤_}

@@ -1,4 +1,4 @@
--- `call_genotypes::totals::prior_share` meets its contract: the pair's prior is one of the variant's nine.
+-- `likelihoods::totals::prior_share` meets its contract: the pair's prior is one of the variant's nine.
 -- Assumes nothing.
 use mathlib.Core.Path.{_≡_, ap, _∙_}
 use Prim.Native.Nat.{ℕ, _+_, _*_, _<_}
