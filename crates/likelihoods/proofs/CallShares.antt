@@ -1,5 +1,5 @@
 -- What a row's call adds to a likelihood, at a flagged variant and elsewhere. Assumes nothing.
-use mathlib.Core.Path.{_≡_, refl, _∙_}
+use mathlib.Core.Path.{_≡_, refl, ap, _∙_}
 use mathlib.Core.Bool.{Bool, true, false, cond}
 use mathlib.Core.List.{List}
 use Prim.Native.Nat.{ℕ, zero, suc, _+_, _*_, _-_, _/_, _%_, _≤_, _<_}
@@ -13,7 +13,8 @@ use lib.ListN.{getD}
 use Rattle.variants_and_fragments.specs.Case.{Call}
 use Rattle.variants_and_fragments.proofs.Sums.{sum-map}
 use Rattle.pileup.specs.Packed.{rowAt, rowsAt, groupStart}
-use Rattle.sweeps.specs.Sweeps.{sumTo, callTerm, likelihood}
+use Rattle.sweeps.specs.Sweeps.{allele0, sumTo, callTerm, likelihood}
+use Rattle.sweeps.proofs.Basics.{lik-cong}
 use Rattle.likelihoods.specs.Likelihoods.{rowCall, callAt, callsBetween, callsOf, likelihoodAt, flagged, alleleOn, callShare, CallsIn}
 use Rattle.likelihoods.proofs.RunningSums.{table-sum}
 use Rattle.likelihoods.proofs.SweepCases.{likelihood-sum}
@@ -49,6 +50,10 @@ between-sum rows hap mask h a e =
     likelihood-sum (flagged mask) (alleleOn hap h) (callsBetween rows a e)
     ∙ sum-map rowCall (rowsAt rows a e) (callShare (flagged mask) (alleleOn hap h))
     ∙ table-sum (rowAt rows) (λ row. callShare (flagged mask) (alleleOn hap h) (rowCall row)) a (e - a)
+
+-- haplotype 0 has the first alleles
+pub on-first : (counts : ℕ → Bool) (hap : List ℕ) (cs : List Call) → likelihood counts (alleleOn hap 0) cs ≡ likelihood counts (allele0 hap) cs
+on-first counts hap cs = lik-cong counts counts (alleleOn hap 0) (allele0 hap) cs (λ v t. refl) (λ v t u. ap (λ (i : ℕ). getD hap i 0) (omega arith))
 
 -- the likelihoods of fragment f stand at 2f and 2f + 1
 module _ (rows ends hap mask : List ℕ) (f : ℕ) where

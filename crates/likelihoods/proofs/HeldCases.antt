@@ -26,11 +26,11 @@ use Rattle.genotype_probs.specs.declared.Rates.{Rates}
 use Rattle.genotype_probs.specs.Rates.{ratesFault}
 use Rattle.genotype_probs.specs.Priors.{priorTable, getPrior, allPriors, priorAt}
 use Rattle.genotype_probs.proofs.AlleleLaws.{nine}
+use Rattle.genotype_probs.proofs.PriorSizes.{prior-small}
 use Rattle.sweeps.specs.Sweeps.{SweepCase}
 use Rattle.sweeps.specs.Incremental.{pileupFrom}
 use Rattle.likelihoods.specs.Held.{sweepReads, Held}
 use Rattle.likelihoods.specs.SweepCaseOf.{sweepCaseOf}
-use Rattle.genotype_probs.proofs.PriorSizes.{prior-small}
 use Rattle.likelihoods.proofs.SweepCases as cases
 
 -- the prior at place p of variant v

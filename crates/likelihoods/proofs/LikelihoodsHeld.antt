@@ -29,7 +29,7 @@ use Rattle.sweeps.proofs.Basics.{or-cases, lik-cong}
 use Rattle.likelihoods.specs.Held.{Liks}
 use Rattle.likelihoods.specs.SweepCaseOf.{sweepCaseOf}
 use Rattle.likelihoods.specs.Likelihoods.{callsOf, flagged, alleleOn, likelihoodAt}
-use Rattle.likelihoods.proofs.CallShares.{likelihood-first, likelihood-second}
+use Rattle.likelihoods.proofs.CallShares.{on-first, likelihood-first, likelihood-second}
 use Rattle.likelihoods.proofs.SweepCases as cases
 use Rattle.likelihoods.proofs.CallsHeld.{calls-are}
 use Rattle.likelihoods.proofs.HeldCases.{frags-counted}
@@ -87,15 +87,16 @@ module _
     unfolding flagged
     mask-is v t = flag-is (counts v) (getD mask v 0) (flags v (frag-in f h v t))
 
+    on-either : (i : ℕ) → likelihood (flagged mask) (alleleOn hap i) (callsOf rows ends f) ≡ likelihood counts (alleleOn hap i) (getD (C .frags) f [])
+    on-either i =
+        ap (likelihood (flagged mask) (alleleOn hap i)) (frag-held f h)
+        ∙ lik-cong (flagged mask) counts (alleleOn hap i) (alleleOn hap i) (getD (C .frags) f []) mask-is (λ v t u. refl)
+
     pub likelihood0-is : likelihood (flagged mask) (alleleOn hap 0) (callsOf rows ends f) ≡ likelihood counts (allele0 hap) (getD (C .frags) f [])
-    likelihood0-is =
-        ap (likelihood (flagged mask) (alleleOn hap 0)) (frag-held f h)
-        ∙ lik-cong (flagged mask) counts (alleleOn hap 0) (allele0 hap) (getD (C .frags) f []) mask-is (λ v t u. ap (λ (i : ℕ). getD hap i 0) (omega arith))
+    likelihood0-is = on-either 0 ∙ on-first counts hap (getD (C .frags) f [])
 
     pub likelihood1-is : likelihood (flagged mask) (alleleOn hap 1) (callsOf rows ends f) ≡ likelihood counts (allele1 hap) (getD (C .frags) f [])
-    likelihood1-is =
-        ap (likelihood (flagged mask) (alleleOn hap 1)) (frag-held f h)
-        ∙ lik-cong (flagged mask) counts (alleleOn hap 1) (allele1 hap) (getD (C .frags) f []) mask-is (λ v t u. refl)
+    likelihood1-is = on-either 1
 
   -- the likelihoods as they are written are those that the sweeps start from
   module _

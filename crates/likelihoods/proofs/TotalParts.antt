@@ -1,6 +1,6 @@
 -- The parts of a total: what a variant and a fragment add, how far from 0 each is, and that they make up the total of the case that the
 -- slices hold. Assumes nothing.
-use mathlib.Core.Path.{_≡_, refl, sym, ap, _∙_}
+use mathlib.Core.Path.{_≡_, sym, ap, _∙_}
 use mathlib.Core.List.{List}
 use Prim.Native.Nat.{ℕ, _+_, _≤_}
 use native.Mathlib.Omega.{arith}
@@ -11,11 +11,12 @@ use Rattle.steps.proofs.Signed.{minus-abs}
 use Rattle.steps.proofs.AddExp.{add-size}
 use Rattle.variants_and_fragments.specs.Sums.{sumOver}
 use Rattle.variants_and_fragments.specs.Decode.{tabulate}
-use Rattle.sweeps.specs.Sweeps.{SweepCase, allele0, allele1, sumTo, likelihood, readShare, totalOf, mixOf}
-use Rattle.sweeps.proofs.Basics.{sumTo-cong, lik-cong}
-use Rattle.likelihoods.specs.Likelihoods.{callsOf, flagged, alleleOn}
+use Rattle.sweeps.specs.Sweeps.{SweepCase, allele0, allele1, sumTo, readShare, totalOf, mixOf}
+use Rattle.sweeps.proofs.Basics.{sumTo-cong}
+use Rattle.likelihoods.specs.Likelihoods.{callsOf, flagged}
 use Rattle.likelihoods.specs.Totals.{pairPrior, heldCase, priorShare, fragmentShare, PriorsIn}
 use Rattle.likelihoods.proofs.RunningSums.{table-sum}
+use Rattle.likelihoods.proofs.CallShares.{on-first}
 
 -- two sums of equal parts
 pub same-sum : {a b m n : ℤ} → a ≡ b → m ≡ n → a +ℤ m ≡ b +ℤ n
@@ -58,9 +59,7 @@ module _ (n f : ℕ) (ks : List ℕ) (pri : List ℤ) (rows ends hap mask : List
 
   read-share : (g : ℕ) → readShare H (flagged mask) hap (callsOf rows ends g) ≡ fragmentShare rows ends hap mask g
   unfolding heldCase readShare fragmentShare
-  read-share g =
-      ap (λ (z : ℤ). mixOf z (likelihood (flagged mask) (allele1 hap) (callsOf rows ends g)))
-      (lik-cong (flagged mask) (flagged mask) (allele0 hap) (alleleOn hap 0) (callsOf rows ends g) (λ w t. refl) (λ w t u. ap (λ (i : ℕ). getD hap i 0) (omega arith)))
+  read-share g = rw (on-first (flagged mask) hap (callsOf rows ends g))
 
   fragments-sum : sumOver (tabulate f (callsOf rows ends)) (readShare H (flagged mask) hap) ≡ sumTo f (fragmentShare rows ends hap mask)
   fragments-sum =

@@ -4,9 +4,9 @@
 use mathlib.Core.Path.{_≡_, sym, ap, _∙_}
 use mathlib.Core.Bool.{Bool, true, cond}
 use mathlib.Core.List.{List, []}
-use Prim.Native.Nat.{ℕ, _+_, _*_, _/_, _%_, _^_, _≤_, _<_}
+use Prim.Native.Nat.{ℕ, _+_, _*_, _^_, _≤_, _<_}
 use native.Mathlib.Omega.{arith}
-use native.Mathlib.Nat.{add-zero, mul-add-div-right, div-eq-of-lt, mul-add-mod-self-right, mod-eq-of-lt}
+use lib.Arith.{digits-div, digits-mod}
 use lib.IntN.{ℤ, pos, natAbs, _+ℤ_}
 use lib.ListN.{length, getD}
 use lib.Seq.{ext-getD}
@@ -33,13 +33,6 @@ use Rattle.likelihoods.proofs.HeldCases.{counted, frags-counted}
 use Rattle.likelihoods.proofs.SweepCases as cases
 use Rattle.likelihoods.proofs.TotalParts.{total-parts}
 
--- ---- the pair of a place
-pair-first : (i j k : ℕ) → j < k → (i * k + j) / k ≡ i
-pair-first i j k h = mul-add-div-right {m = k} (omega arith) i j ∙ ap (λ (z : ℕ). i + z) (div-eq-of-lt h) ∙ add-zero i
-
-pair-second : (i j k : ℕ) → j < k → (i * k + j) % k ≡ j
-pair-second i j k h = mul-add-mod-self-right i k j ∙ mod-eq-of-lt h
-
 -- ---- the priors of a pair of haplotypes
 module _ {C : SweepCase} {reads : SweepReads} {hap : List ℕ} (held : Held C reads) (haps : GoodHaps C hap) (v : ℕ) (h : v < C .n) where
   -- the place of v's pair
@@ -57,7 +50,7 @@ module _ {C : SweepCase} {reads : SweepReads} {hap : List ℕ} (held : Held C re
   pair-prior =
       place-is
       ∙ held .pri-are v place h inside
-      ∙ rw (pair-first (allele0 hap v) (allele1 hap v) (C .k v) (haps .high v h), pair-second (allele0 hap v) (allele1 hap v) (C .k v) (haps .high v h))
+      ∙ rw (digits-div (allele0 hap v) (haps .high v h), digits-mod (allele0 hap v) (haps .high v h))
 
   pair-small : natAbs (pairPrior (reads .ks) (reads .pri) v (allele0 hap v) (allele1 hap v)) ≤ 2 ^ 21
   pair-small = rw place-is (held .pri-small v place h inside)
@@ -94,6 +87,12 @@ module _
   abbrev C : SweepCase
   C = sweepCaseOf rates phased (decode w b)
 
+  variants : C .n ≡ s .n
+  variants = counted rates phased w b s accepted
+
+  fragments : length (C .frags) ≡ s .f
+  fragments = frags-counted rates phased w b s accepted
+
   -- the case that the slices hold, with the variants of a mask
   abbrev heldWith : List ℕ → SweepCase
   heldWith mask = heldCase (s .n) (s .f) (reads .ks) (reads .pri) rows ends mask
@@ -101,15 +100,15 @@ module _
   frags-are : C .frags ≡ tabulate (s .f) (callsOf rows ends)
   frags-are =
       ext-getD [] (C .frags) (tabulate (s .f) (callsOf rows ends))
-      (frags-counted rates phased w b s accepted ∙ sym (tabulate-length (s .f) (callsOf rows ends)))
-      (λ f h. let l : f < s .f = omega (arith, frags-counted rates phased w b s accepted) in
+      (fragments ∙ sym (tabulate-length (s .f) (callsOf rows ends)))
+      (λ f h. let l : f < s .f = omega (arith, fragments) in
       sym (frag-held rates phased w b s accepted made f l) ∙ sym (tabulate-at (s .f) (callsOf rows ends) f [] l))
 
   module _ (counts : ℕ → Bool) (mask : List ℕ) (flags : (v : ℕ) → v < s .n → getD mask v 0 ≡ cond (counts v) 1 0) where
     prior-is : (v : ℕ) → v < s .n → priorShare (reads .ks) (reads .pri) hap mask v ≡ cond (counts v) (C .prior v (allele0 hap v) (allele1 hap v)) (pos 0)
     unfolding priorShare flagged
     prior-is v h =
-        rw (flag-is (counts v) (getD mask v 0) (flags v h), pair-prior held haps v (omega (arith, counted rates phased w b s accepted)))
+        rw (flag-is (counts v) (getD mask v 0) (flags v h), pair-prior held haps v (omega (arith, variants)))
 
     share-is : (f : ℕ) → f < s .f → readShare C counts hap (callsOf rows ends f) ≡ fragmentShare rows ends hap mask f
     unfolding readShare fragmentShare
@@ -121,7 +120,7 @@ module _
     priors-sum : sumTo (s .n) (priorShare (reads .ks) (reads .pri) hap mask) ≡ sumTo (C .n) (λ v. cond (counts v) (C .prior v (allele0 hap v) (allele1 hap v)) (pos 0))
     priors-sum =
         sumTo-cong (s .n) (priorShare (reads .ks) (reads .pri) hap mask) (λ v. cond (counts v) (C .prior v (allele0 hap v) (allele1 hap v)) (pos 0)) prior-is
-        ∙ ap (λ (n : ℕ). sumTo n (λ v. cond (counts v) (C .prior v (allele0 hap v) (allele1 hap v)) (pos 0))) (sym (counted rates phased w b s accepted))
+        ∙ ap (λ (n : ℕ). sumTo n (λ v. cond (counts v) (C .prior v (allele0 hap v) (allele1 hap v)) (pos 0))) (sym (variants))
 
     fragments-sum : sumTo (s .f) (fragmentShare rows ends hap mask) ≡ sumOver (C .frags) (readShare C counts hap)
     fragments-sum =
@@ -135,7 +134,7 @@ module _
     total-held = sym (total-parts (s .n) (s .f) (reads .ks) (reads .pri) rows ends hap mask) ∙ cc (priors-sum, fragments-sum)
 
   flags-held : (v : ℕ) → v < s .n → getD (reads .ph) v 0 ≡ cond (C .phased v) 1 0
-  flags-held v h = held .ph-are v (omega (arith, counted rates phased w b s accepted))
+  flags-held v h = held .ph-are v (omega (arith, variants))
 
   -- with the flags of the phased variants it is the phased total
   phased-total-held : totalOf (heldWith (reads .ph)) (flagged (reads .ph)) hap ≡ phasedTotal C hap
@@ -146,7 +145,7 @@ module _
     standing-is : (f : ℕ) → f < s .f → standingShare lik f ≡ fragmentShare rows ends hap (reads .ph) f
     unfolding standingShare fragmentShare
     standing-is f h =
-        let l : f < length (C .frags) = omega (arith, frags-counted rates phased w b s accepted) in
+        let l : f < length (C .frags) = omega (arith, fragments) in
         cc (liks .firsts f l, liks .seconds f l, likelihood0-is rates phased w b s accepted made (C .phased) hap (reads .ph) flags-held f h, likelihood1-is rates phased w b s accepted made (C .phased) hap (reads .ph) flags-held f h)
 
     pub standing-total-held : standingTotal (s .n) (s .f) (reads .ks) (reads .pri) lik hap (reads .ph) ≡ phasedTotal C hap

@@ -8,7 +8,6 @@ ghost use lib.ListN.{length};
 ghost use Rattle.pileup.specs.Packed.{groupStart};
 ghost use Rattle.variants_and_fragments.specs.Written.{written};
 ghost use Rattle.likelihoods.specs.Likelihoods.{CallsIn, EndsIn, LikelihoodsAre, callAt, flagged, alleleOn, callShare, likelihoodAt};
-
 use pileup::row::unpack;
 
 // A read's likelihoods on the two haplotypes.
@@ -21,17 +20,15 @@ pub struct ReadLikelihoods {
 fn call_term(allele: usize, own: u8, qual: i64, one_minus_qual: i64) -> i64
     ensures { λ r. ⌜ r ≡ cond (eqb allele own) «one_minus_qual» qual ⌝ }
 {
-    if allele == own as usize { one_minus_qual } else { qual }
+    if allele == own as usize {
+        one_minus_qual
+    } else {
+        qual
+    }
 }
 
 // What the call of row i adds to its read's likelihood on haplotype h: nothing at a variant whose flag is not 1.
-fn call_share(
-    rows: &[u64],
-    hap: &[u8],
-    mask: &[u8],
-    i: usize,
-    h: usize,
-) -> i64
+fn call_share(rows: &[u64], hap: &[u8], mask: &[u8], i: usize, h: usize) -> i64
     requires { ⌜ CallsIn (now rows) (i + 1) (now hap) (now mask) × (h < 2) ⌝ }
     ensures { λ r. ⌜ (r ≡ callShare (flagged (now (mask .entry))) (alleleOn (now (hap .entry)) h) (callAt (now (rows .entry)) i)) × (natAbs r ≤ 262144) ⌝ }
 {

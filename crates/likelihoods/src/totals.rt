@@ -92,14 +92,7 @@ pub fn total(
     ensures { λ r. ⌜ (r ≡ totalOf (heldCase (s .n) (s .f) (now (ks .entry)) (now (pri .entry)) (now (rows .entry)) (now (ends .entry)) (now (mask .entry))) (flagged (now (mask .entry))) (now (hap .entry))) × (natAbs r ≤ 2 ^ 40) ⌝ }
 {
     let x = priors_total(ks, pri, hap, mask, s.n);
-    let y = fragments_total(
-        t,
-        rows,
-        ends,
-        hap,
-        mask,
-        s.f,
-    );
+    let y = fragments_total(t, rows, ends, hap, mask, s.f);
     x + y
 }
 

@@ -1,12 +1,12 @@
 -- `likelihoods::likelihoods::call_share` meets its contract: a row that is there has its pair and its flag.
 -- Assumes nothing.
 use mathlib.Core.Path.{_≡_, ap, _∙_}
-use Prim.Native.Nat.{ℕ, _+_, _*_, _<_, _≤_}
+use Prim.Native.Nat.{_+_, _*_, _<_, _≤_}
 use native.Mathlib.Omega.{arith}
 use borrow.Author.Needs.{needs}
 use denote.Ref.{now}
 use lib.IntN.{ℤ, natAbs}
-use lib.ListN.{length, getD}
+use lib.ListN.{length}
 use mir.Syntax.{w64}
 use mir.Val.{toZ, ofZ}
 use Rattle.steps.proofs.Signed.{read-back, read-small}
@@ -17,10 +17,6 @@ use Rattle.likelihoods.specs.Likelihoods.{callAt, alleleOn}
 use Rattle.likelihoods.proofs.CallShares.{term-small, share-flagged, share-unflagged}
 use Rattle.likelihoods.proofs.likelihoods.call_share.Statement.{statement}
 use Rattle.likelihoods.proofs.likelihoods.call_share.Tie as tie
-use Rattle.likelihoods.proofs.likelihoods.call_share.Reads as reads
-use Rattle.likelihoods.proofs.likelihoods.call_share.Lts as lts
-use Rattle.likelihoods.proofs.likelihoods.call_term.Reads as call-term-reads
-use Rattle.pileup.proofs.row.unpack.Reads as unpack-reads
 
 -- the call of row i
 abbrev call : tie.Start → Call

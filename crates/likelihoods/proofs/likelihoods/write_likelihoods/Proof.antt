@@ -82,44 +82,48 @@ second-is c =
 there : (c : tie.In-loop Inv-loop μ-loop) → 2 * c .before .loop .f + 1 < length (now (start (c .before) .args .lik))
 there c = omega (arith, c .loop-test .taken, start (c .before) .pre .2)
 
+-- this turn of the loop
+abbrev turn : tie.After-struct-told2 Inv-loop μ-loop → tie.In-loop Inv-loop μ-loop
+turn c = c .before .before .before .before
+
 mul-x : tie.Need-mul-x Inv-loop μ-loop
-mul-x c = omega (arith, there (c .before .before .before .before))
+mul-x c = omega (arith, there (turn c))
 
 mul-x-2 : tie.Need-mul-x-2 Inv-loop μ-loop
-mul-x-2 c = omega (arith, there (c .before .before .before .before))
+mul-x-2 c = omega (arith, there (turn c))
 
 slice-set-from-x : tie.Need-slice-set-from-x Inv-loop μ-loop
 slice-set-from-x c =
-    omega (arith, there (c .before .before .before .before), as-long (c .before .before .before .before .before))
+    omega (arith, there (turn c), as-long (turn c .before))
 
 mul-y : tie.Need-mul-y Inv-loop μ-loop
-mul-y c = omega (arith, there (c .before .before .before .before))
+mul-y c = omega (arith, there (turn c))
 
 add-y : tie.Need-add-y Inv-loop μ-loop
-add-y c = omega (arith, there (c .before .before .before .before))
+add-y c = omega (arith, there (turn c))
 
 mul-y-2 : tie.Need-mul-y-2 Inv-loop μ-loop
-mul-y-2 c = omega (arith, there (c .before .before .before .before))
+mul-y-2 c = omega (arith, there (turn c))
 
 slice-set-from-y : tie.Need-slice-set-from-y Inv-loop μ-loop
 slice-set-from-y c =
-    rw length-set (omega (arith, there (c .before .before .before .before), as-long (c .before .before .before .before .before)))
+    rw length-set (omega (arith, there (turn c), as-long (turn c .before)))
 
 add-f : tie.Need-add-f Inv-loop μ-loop
-add-f c = omega (arith, there (c .before .before .before .before))
+add-f c = omega (arith, there (turn c))
 
 loop-less : tie.Need-loop-less Inv-loop μ-loop
-loop-less c = omega (arith, c .before .before .before .before .loop-test .taken)
+loop-less c = omega (arith, turn c .loop-test .taken)
 
 loop-again : tie.Need-loop-again Inv-loop μ-loop
 loop-again c =
     let d = c .before .before in
-    let l = d .before .before .before in
+    let l = turn c .before in
     let s = start l in
     let f = l .loop .f in
     let lik₀ = now (s .args .lik) in
     let e : 2 * f + 1 + 1 ≡ 2 * (f + 1) = omega arith in (
-      omega (arith, d .before .before .loop-test .taken),
+      omega (arith, turn c .loop-test .taken),
       sym (start-next (now (s .args .ends)) f),
       written-on (values s) (2 * f + 1) lik₀ _ _ (written-on (values s) (2 * f) lik₀ _ _ (l .loop .inv .2) (first-is d)) (second-is d)
           ∙ ap (λ (m : ℕ). written (values s) m lik₀) e,

@@ -98,9 +98,12 @@ mixed-requires c κs =
       omega (arith, ap natAbs (second-read r), r .read-likelihoods .ensures .second-small, few (r .before .before)),
     )
 
--- the loop's head of this turn
+-- this turn of the loop, and its head
+abbrev turn : tie.After-mixed Inv-loop μ-loop → tie.In-loop Inv-loop μ-loop
+turn c = c .before .before .before .before .before
+
 abbrev at : tie.After-mixed Inv-loop μ-loop → tie.At-loop Inv-loop μ-loop
-at c = c .before .before .before .before .before .before
+at c = turn c .before
 
 -- what is added, read back, and how far from 0 it is
 share-is : (c : tie.After-mixed Inv-loop μ-loop) → c .mixed .result ≡ shares (start (at c)) (at c .loop .f)
@@ -124,11 +127,11 @@ small c =
 within : (c : tie.After-mixed Inv-loop μ-loop) → top (now (start (at c) .args .ends)) (at c .loop .f) + natAbs (shares (start (at c)) (at c .loop .f)) ≤ top (now (start (at c) .args .ends)) (at c .loop .f + 1)
 within c =
     let l = at c in
-    omega (arith, small c, l .loop .inv .0, start-next (now (start l .args .ends)) (l .loop .f), rises (c .before .before .before .before .before))
+    omega (arith, small c, l .loop .inv .0, start-next (now (start l .args .ends)) (l .loop .f), rises (turn c))
 
 fits : (c : tie.After-mixed Inv-loop μ-loop) → natAbs (toZ w64 (at c .loop .sum)) + natAbs (shares (start (at c)) (at c .loop .f)) < 2 ^ 63
 fits c =
-    let i = c .before .before .before .before .before in
+    let i = turn c in
     let l = at c in
     omega (arith, l .loop .inv .1 .small, within c, start-next (now (start l .args .ends)) (l .loop .f), few i, few-fragments i)
 
@@ -136,17 +139,17 @@ add-sum : tie.Need-add-sum Inv-loop μ-loop
 add-sum c = added-fits (toZ w64 (at c .loop .sum)) (c .mixed .result) _ (added c) (fits c)
 
 add-f : tie.Need-add-f Inv-loop μ-loop
-add-f c = omega (arith, few-fragments (c .before .before .before .before .before))
+add-f c = omega (arith, few-fragments (turn c))
 
 loop-less : tie.Need-loop-less Inv-loop μ-loop
-loop-less c = omega (arith, c .before .before .before .before .before .loop-test .taken)
+loop-less c = omega (arith, turn c .loop-test .taken)
 
 loop-again : tie.Need-loop-again Inv-loop μ-loop
 loop-again c =
     let l = at c in
     let s = start l in (
       sym (start-next (now (s .args .ends)) (l .loop .f)),
-      running-more (shares s) (top (now (s .args .ends))) (s .args .n) (toZ w64 (l .loop .sum)) _ (l .loop .f) (l .loop .inv .1) (c .before .before .before .before .before .loop-test .taken)
+      running-more (shares s) (top (now (s .args .ends))) (s .args .n) (toZ w64 (l .loop .sum)) _ (l .loop .f) (l .loop .inv .1) (turn c .loop-test .taken)
           (added-read (toZ w64 (l .loop .sum)) (c .mixed .result) _ (added c) (fits c))
           (within c),
     )
