@@ -1,91 +1,67 @@
 -- The rows of an accepted case, read by fragment, are its usable calls; and their ranges.
 -- Assumes nothing.
-use mathlib.Core.Path.{_≡_, refl, sym, ap, _∙_}
+use mathlib.Core.Path.{_≡_, refl, ap, _∙_}
 use mathlib.Core.List.{List, [], _∷_, map}
-use Prim.Native.Nat.{ℕ, zero, suc, _*_, _-_, _≤_, _<_}
+use Prim.Native.Nat.{ℕ, zero, suc, _*_, _≤_, _<_}
 use native.Mathlib.Omega.{arith}
-use lib.IntN.{ℤ, pos, negsuc, natAbs}
-use lib.ListN.{length, getD}
-use lib.Seq.{slice}
+use lib.IntN.{ℤ, natAbs, pos}
+use lib.ListN.{length}
+use Rattle.steps.proofs.Signed.{zlin, cases, up-pos, dn-pos, neg-up, neg-dn, natAbs-parts, by-sign}
 use Rattle.variants_and_fragments.specs.declared.Sizes.{Sizes}
-use Rattle.variants_and_fragments.specs.Words.{debtOf}
-use Rattle.variants_and_fragments.specs.Case.{Case, Call, fragmentOf}
+use Rattle.variants_and_fragments.specs.Case.{Call, fragmentOf}
 use Rattle.variants_and_fragments.specs.Accepted.{CaseIn}
 use Rattle.variants_and_fragments.specs.Decode.{decode}
-use Rattle.variants_and_fragments.specs.Pileup.{Row, rowOf, noRow, usableCalls, rowsOf}
-use Rattle.pileup.specs.Piles.{pileStart, rowAt}
-use Rattle.pileup.specs.Rows.{RowSlices, RowsHeld, RowsMade, rowQual, rowOneMinusQual}
-use Rattle.variants_and_fragments.proofs.Decoded.{fragments-are}
-use Rattle.pileup.proofs.HeldRows.{rows-are, ends-start, ends-in}
-use Rattle.pileup.proofs.RowFacts.{RowIn, rows-in, each-at}
-use Rattle.pileup.proofs.RowParts.{rows-of-fragment, before-on}
-use Rattle.pileup.proofs.RowRuns.{held-at}
-use Rattle.likelihoods.specs.Likelihoods.{CallSlices, callSlices, callHeld, callsBetween, callsOf, CallsIn, EndsIn}
-use Rattle.likelihoods.proofs.TableParts.{slice-table, map-from}
+use Rattle.variants_and_fragments.specs.Pileup.{Row, rowOf, usableCalls, fragmentRows}
+use Rattle.variants_and_fragments.specs.Sums.{DownTo}
+use Rattle.pileup.specs.Packed.{RowsIn, groupStart, Grouped}
+use Rattle.pileup.specs.Rows.{RowsMade}
+use Rattle.pileup.proofs.Groups.{group-rows, group-in}
+use Rattle.likelihoods.specs.Likelihoods.{rowCall, callsBetween, callsOf, CallsIn, EndsIn}
 
-abbrev rowCall : Row → Call
-rowCall row = row .call
+-- ---- ranges
+-- a number in −n..0
+pub down-abs : (n : ℕ) (z : ℤ) → DownTo n z → natAbs z ≤ n
+down-abs n z d =
+    let l = d .low in
+    let h = d .high in
+    let u = neg-up (pos n) in
+    let v = neg-dn (pos n) in
+    by-sign z (λ e. omega (zlin, natAbs-parts z, up-pos 0, dn-pos 0, up-pos n, dn-pos n)) (λ e. omega (zlin, natAbs-parts z, up-pos n, dn-pos n))
+
+-- the rows of the first g groups
+groups-in : {n f m : ℕ} {group : ℕ → List Row} {ends words : List ℕ} → Grouped n f m group ends words → n ≤ 1024 → f ≤ 4096 → (g : ℕ) → g ≤ m → RowsIn n f words 0 (groupStart ends g)
+unfolding groupStart
+groups-in r hn hf zero h = record { few = omega arith; long = omega arith; rows-in = λ p l u. absurd (omega arith) }
+groups-in {ends = ends} r hn hf (suc g) h = record {
+  few = r .few g h;
+  long = r .long g h;
+  rows-in = λ p l u. cases p (groupStart ends g) (λ k. groups-in r hn hf g (omega arith) .rows-in p l k) (λ k. group-in r hn hf g h .rows-in p k u);
+}
 
 row-calls : (f : ℕ) (cs : List Call) → map rowCall (map (rowOf f) cs) ≡ cs
 row-calls f [] = refl
 row-calls f (c ∷ cs) = ap (λ l. c ∷ l) (row-calls f cs)
 
--- the calls that the rows' slices hold
-abbrev pub callsOfRows : RowSlices → CallSlices
-callsOfRows slices = callSlices (slices .variants) (slices .alleles) (slices .quals) (slices .one-minus-quals)
+-- ---- the rows of an accepted case
+module _ {w : List ℤ} {s : Sizes} {rows ends ambiguous : List ℕ} {count : ℕ} (k : CaseIn w s) (made : RowsMade w s rows ends ambiguous count) where
+  -- the calls of each fragment are its usable calls
+  pub calls-are : (b : List ℕ) (f : ℕ) → f < s .f → callsOf rows ends f ≡ usableCalls (decode w b .cutoff) (fragmentOf (decode w b) f)
+  unfolding callsOf callsBetween fragmentRows
+  calls-are b f h =
+      ap (map rowCall) (group-rows (made .grouped b) (k .sized .n-top) (k .sized .f-top) f h)
+      ∙ row-calls f (usableCalls (decode w b .cutoff) (fragmentOf (decode w b) f))
 
--- ---- the calls of each fragment are its usable calls
-module _ {case : Case} {slices : RowSlices} {ends ambiguous : List ℕ} {count : ℕ} (r : RowsHeld case slices ends ambiguous count) where
-  -- the rows of f
-  fragment-rows : (f : ℕ) → f < length (case .fragments) → slice (pileStart ends f) (getD ends f 0) (rowsOf case) ≡ map (rowOf f) (usableCalls (case .cutoff) (fragmentOf case f))
-  fragment-rows f h = rw (ends-start r f (omega arith), r .ends-are f h) (rows-of-fragment case f h)
-
-  pub calls-are : (f : ℕ) → f < length (case .fragments) → callsOf (callsOfRows slices) ends f ≡ usableCalls (case .cutoff) (fragmentOf case f)
-  unfolding callsOf callsBetween callHeld rowAt
-  calls-are f h =
-      let a = pileStart ends f in
-      let e = getD ends f 0 in
-      sym (map-from rowCall (rowAt slices) a (e - a))
-      ∙ ap (map rowCall) (sym (slice-table (rowAt slices) a e count (ends-in r f h)) ∙ ap (slice a e) (rows-are r) ∙ fragment-rows f h)
-      ∙ row-calls f (usableCalls (case .cutoff) (fragmentOf case f))
-
-  pub ends-rise : (f : ℕ) → f < length (case .fragments) → pileStart ends f ≤ getD ends f 0
-  ends-rise f h = omega (arith, ends-start r f (omega arith), r .ends-are f h, before-on case f h)
-
-  pub last-end : (f : ℕ) → f ≤ length (case .fragments) → pileStart ends f ≤ count
-  unfolding pileStart
-  last-end zero h = omega arith
-  last-end (suc f) h = ends-in r f h
-
--- ---- the ranges
-debt-size : (q : ℤ) → debtOf q ≤ 262144 → natAbs q ≤ 262144
-debt-size (pos zero) h = omega arith
-debt-size (pos (suc n)) h = absurd (omega arith)
-debt-size (negsuc n) h = omega arith
-
-module _ {w : List ℤ} {s : Sizes} {slices : RowSlices} {ends ambiguous : List ℕ} {count : ℕ} (k : CaseIn w s) (made : RowsMade w s slices ends ambiguous count) where
-  held : RowsHeld (decode w []) slices ends ambiguous count
-  held = made .held []
-
-  row-here : (i : ℕ) → i < count → RowIn (decode w []) (getD (rowsOf (decode w [])) i noRow)
-  row-here i h = each-at noRow i (omega (arith, held .count-is)) (rows-in w s [] k)
-
-  -- the rows of all fragments
-  pub calls-in : (hap mask : List ℕ) → 2 * s .n ≤ length hap → s .n ≤ length mask → CallsIn (callsOfRows slices) (pileStart ends (s .f)) hap mask
+  pub calls-in : (hap mask : List ℕ) → 2 * s .n ≤ length hap → s .n ≤ length mask → CallsIn rows (groupStart ends (s .f)) hap mask
   calls-in hap mask l m =
-      let c : pileStart ends (s .f) ≤ count = last-end held (s .f) (omega (arith, fragments-are k [])) in
-      let in-case = made .within in
+      let r = groups-in (made .grouped []) (k .sized .n-top) (k .sized .f-top) (s .f) (omega arith) in
       record {
-        count-top = omega (arith, in-case .count-top);
-        variants-long = omega (arith, in-case .room .variants-long);
-        alleles-long = omega (arith, in-case .room .alleles-long);
-        quals-long = omega (arith, in-case .room .quals-long);
-        one-minus-quals-long = omega (arith, in-case .room .one-minus-quals-long);
-        pair-there = λ i h. omega (arith, in-case .variant-in i (omega arith));
-        flag-there = λ i h. omega (arith, in-case .variant-in i (omega arith));
-        qual-small = λ i h. let j : i < count = omega arith in let r = row-here i j in omega (arith, ap natAbs (held-at rowQual count (slices .quals) (rowsOf (decode w [])) i (held .quals-are) j), debt-size (rowQual (getD (rowsOf (decode w [])) i noRow)) (r .qual-in .debt));
-        one-minus-qual-small = λ i h. let j : i < count = omega arith in let r = row-here i j in omega (arith, ap natAbs (held-at rowOneMinusQual count (slices .one-minus-quals) (rowsOf (decode w [])) i (held .one-minus-quals-are) j), debt-size (rowOneMinusQual (getD (rowsOf (decode w [])) i noRow)) (r .one-minus-qual-in .debt));
+        count-top = r .few;
+        long = r .long;
+        pair-there = λ i h. omega (arith, r .rows-in i (omega arith) h .variant-in);
+        flag-there = λ i h. omega (arith, r .rows-in i (omega arith) h .variant-in);
+        qual-small = λ i h. down-abs 262144 _ (r .rows-in i (omega arith) h .qual-in);
+        one-minus-qual-small = λ i h. down-abs 262144 _ (r .rows-in i (omega arith) h .one-minus-qual-in);
       }
 
-  pub ends-in-order : s .f ≤ length ends → EndsIn ends (s .f)
-  ends-in-order l = record { long = l; rises = λ f h. ends-rise held f (omega (arith, fragments-are k [])) }
+  pub ends-in-order : EndsIn ends (s .f)
+  ends-in-order = record { long = made .grouped [] .ends-long; rises = made .grouped [] .rises }

@@ -6,51 +6,34 @@ use mathlib.Core.List.{List, map}
 use Prim.Native.Nat.{ℕ, _+_, _*_, _/_, _%_, _^_, _≤_, _<_}
 use native.Mathlib.Omega.{arith}
 use borrow.Author.Tests.{lt-ltb}
-use lib.Dec.{lit<}
 use lib.IntN.{ℤ, pos, natAbs}
 use lib.ListN.{length, getD}
 use Rattle.variants_and_fragments.specs.declared.Sizes.{Sizes}
-use Rattle.variants_and_fragments.specs.Case.{Case, variantOf, alleleCount, All, end, also, GoodCase}
+use Rattle.variants_and_fragments.specs.Case.{Case, variantOf, alleleCount, GoodCase}
 use Rattle.variants_and_fragments.specs.Layout.{alleleCountAt}
 use Rattle.variants_and_fragments.specs.Check.{caseOf}
 use Rattle.variants_and_fragments.specs.Refusals.{done}
 use Rattle.variants_and_fragments.specs.Accepted.{CaseIn}
 use Rattle.variants_and_fragments.specs.Decode.{decode}
-use Rattle.variants_and_fragments.specs.Pileup.{Row}
-use Rattle.pileup.specs.Rows.{RowSlices, rowQual, rowOneMinusQual}
-use Rattle.pileup.specs.Piles.{PilesRoom, PilesHeld, CallsPiled, whoOf}
+use Rattle.pileup.specs.Packed.{packed, Grouped}
+use Rattle.pileup.specs.Piles.{PilesMade}
 use Rattle.variants_and_fragments.specs.Written.{written}
 use Rattle.variants_and_fragments.proofs.Accepted.{case-in}
-use Rattle.variants_and_fragments.proofs.Decoded.{debt-down, variants-are, allele-count-is}
+use Rattle.variants_and_fragments.proofs.Decoded.{variants-are, fragments-are, allele-count-is}
 use Rattle.variants_and_fragments.proofs.GoodCases.{good-case}
-use Rattle.pileup.proofs.RowFacts.{Each, none-of, one-of, RowIn, pile-in}
 use Rattle.variants_and_fragments.proofs.Written.{written-at, written-length}
 use Rattle.genotype_probs.specs.declared.Rates.{Rates}
 use Rattle.genotype_probs.specs.Rates.{ratesFault}
 use Rattle.genotype_probs.specs.Priors.{priorTable, getPrior, allPriors, priorAt}
 use Rattle.genotype_probs.proofs.AlleleLaws.{nine}
+use Rattle.genotype_probs.proofs.PriorSizes.{prior-small}
 use Rattle.sweeps.specs.Sweeps.{SweepCase}
 use Rattle.sweeps.specs.Incremental.{pileupFrom}
-use Rattle.likelihoods.specs.Held.{GoodRow, Held}
+use Rattle.likelihoods.specs.Held.{sweepReads, Held}
 use Rattle.likelihoods.specs.SweepCaseOf.{sweepCaseOf}
-use Rattle.genotype_probs.proofs.PriorSizes.{prior-small}
 use Rattle.likelihoods.proofs.SweepCases as cases
 
--- ---- the rows of a pile
-row-good : {case : Case} (row : Row) → RowIn case row → GoodRow (length (case .fragments)) row
-row-good row r = record {
-  fragment-in = r .fragment-in;
-  allele-in = r .allele-top;
-  qual-in = debt-down 262144 (row .call .qual) (lit< tt) (r .qual-in .debt);
-  one-minus-qual-in = debt-down 262144 (row .call .one-minus-qual) (lit< tt) (r .one-minus-qual-in .debt);
-}
-
-rows-good : {case : Case} {rows : List Row} → Each (RowIn case) rows → All (GoodRow (length (case .fragments))) rows
-rows-good none-of = end
-rows-good (one-of {x} p r) = also (row-good x p) (rows-good r)
-
--- ---- the priors
--- place p of variant v
+-- the prior at place p of variant v
 place-is : (table : List ℤ) (case : Case) (v p : ℕ) → p < alleleCount (variantOf case v) * alleleCount (variantOf case v) → p < 9
     → priorAt table case (9 * v + p) ≡ getPrior table (variantOf case v) (p / alleleCount (variantOf case v)) (p % alleleCount (variantOf case v))
 unfolding priorAt allPriors
@@ -75,6 +58,9 @@ module _ (rates : Rates) (phased : ℕ → Bool) (w : List ℤ) (b : List ℕ) (
   pub counted : C .n ≡ s .n
   counted = cases.variants-are rates phased case ∙ variants-are known b
 
+  pub frags-counted : length (C .frags) ≡ s .f
+  frags-counted = cases.frags-length rates phased case ∙ fragments-are known b
+
   pub alleles-are : (v : ℕ) → v < s .n → C .k v ≡ alleleCountAt w v
   unfolding sweepCaseOf
   alleles-are v h = allele-count-is known b v h
@@ -91,19 +77,25 @@ module _ (rates : Rates) (phased : ℕ → Bool) (w : List ℤ) (b : List ℕ) (
   unfolding sweepCaseOf
   prior-in e v i j = prior-small rates e (variantOf case v) i j
 
-  pile-good : (v : ℕ) → All (GoodRow (length (C .frags))) (pileupFrom v 0 (C .frags))
-  pile-good v = rw (← cases.pile-is-pileup rates phased case v, cases.frags-length rates phased case) (rows-good (pile-in w s b v known))
+  -- the piles of the case are those of the sweeps' case
+  piles-held : {ends piles : List ℕ} → PilesMade w s ends piles → Grouped (C .n) (length (C .frags)) (C .n) (λ v. pileupFrom v 0 (C .frags)) ends piles
+  piles-held made =
+      let p = made .grouped b in
+      rw (counted, frags-counted) record {
+        ends-long = p .ends-long;
+        rises = p .rises;
+        few = p .few;
+        long = p .long;
+        are = λ v h. p .are v h ∙ ap (map packed) (cases.pile-is-pileup rates phased case v);
+        rows-in = λ v h. rw (← cases.pile-is-pileup rates phased case v) (p .rows-in v h);
+      }
 
   -- What an operation has of an accepted case before its first sweep: the slice of allele counts, the flags of the phased variants, the priors
   -- and the piles
   module _
       (ks₀ ks ph : List ℕ)
       (pri₀ pri : List ℤ)
-      {slices : RowSlices}
-      {row-ends ambiguous : List ℕ}
-      {count : ℕ}
-      {ends who : List ℕ}
-      {quals one-minus-quals : List ℤ}
+      {ends piles : List ℕ}
       (good-rates : ratesFault rates ≡ 7)
       (ks-room : s .n ≤ length ks₀)
       (ks-written : ks ≡ written (alleleCountAt w) (s .n) ks₀)
@@ -111,20 +103,9 @@ module _ (rates : Rates) (phased : ℕ → Bool) (w : List ℤ) (b : List ℕ) (
       (ph-written : (v : ℕ) → v < s .n → getD ph v 0 ≡ cond (phased v) 1 0)
       (pri-room : 9 * s .n ≤ length pri₀)
       (pri-written : pri ≡ written (priorAt (priorTable rates) case) (9 * s .n) pri₀)
-      (room : PilesRoom (s .n) (s .c) ends who quals one-minus-quals)
-      (piled : CallsPiled w s slices row-ends ambiguous count ends who quals one-minus-quals) where
-    piles : PilesHeld case ends who quals one-minus-quals
-    piles = piled .piles b
-
+      (made : PilesMade w s ends piles) where
     inside : (v : ℕ) → v < C .n → v < s .n
     inside v h = omega (arith, counted)
-
-    listed : (v : ℕ) → v < C .n → v < length (case .variants)
-    listed v h = omega (arith, cases.variants-are rates phased case)
-
-    -- each pile ends within the slices
-    ends-top : (v : ℕ) → v < C .n → getD ends v 0 ≤ s .c
-    ends-top v h = omega (arith, piles .within v (listed v h), piled .rows .held b .count-is, piled .rows .count-in)
 
     prior-here : (v p : ℕ) → v < C .n → p < C .k v * C .k v → getD pri (9 * v + p) (pos 0) ≡ C .prior v (p / C .k v) (p % C .k v)
     prior-here v p h l =
@@ -134,12 +115,12 @@ module _ (rates : Rates) (phased : ℕ → Bool) (w : List ℤ) (b : List ℕ) (
         ∙ written-at (priorAt (priorTable rates) case) (9 * s .n) pri₀ (pos 0) pri-room (9 * v + p) (omega arith)
         ∙ prior-is v p i l
 
-    pub held : Held C ks ph pri ends who quals one-minus-quals
+    pub held : Held C (sweepReads ks ph pri ends piles)
     held =
         let n = counted in
         record {
           variants-top = omega (arith, known .sized .n-top);
-          fragments-top = omega (arith, cases.frags-length rates phased case, good .fragments-top);
+          fragments-top = omega (arith, frags-counted, known .sized .f-top);
           mix-is = cases.mix-is rates phased case;
           good = cases.good-sweep-case rates phased case good;
           ks-long = omega (arith, ap length ks-written, written-length (alleleCountAt w) (s .n) ks₀);
@@ -149,15 +130,6 @@ module _ (rates : Rates) (phased : ℕ → Bool) (w : List ℤ) (b : List ℕ) (
           pri-long = omega (arith, ap length pri-written, written-length (priorAt (priorTable rates) case) (9 * s .n) pri₀);
           pri-are = prior-here;
           pri-small = λ v p h l. rw (prior-here v p h l) (prior-in good-rates v (p / C .k v) (p % C .k v));
-          ends-long = omega (arith, room .ends-long);
-          rises = λ v h. piles .rises v (listed v h);
-          rows-top = λ v h. omega (arith, ends-top v h, known .sized .c-top);
-          who-long = λ v h. omega (arith, ends-top v h, room .who-long);
-          quals-long = λ v h. omega (arith, ends-top v h, room .quals-long);
-          one-minus-quals-long = λ v h. omega (arith, ends-top v h, room .one-minus-quals-long);
-          who-are = λ v h. piles .who-are v (listed v h) ∙ ap (map whoOf) (cases.pile-is-pileup rates phased case v);
-          quals-are = λ v h. piles .quals-are v (listed v h) ∙ ap (map rowQual) (cases.pile-is-pileup rates phased case v);
-          one-minus-quals-are = λ v h. piles .one-minus-quals-are v (listed v h) ∙ ap (map rowOneMinusQual) (cases.pile-is-pileup rates phased case v);
-          rows-in = λ v h. pile-good v;
+          piles-are = piles-held made;
           likelihoods-in = cases.likelihood-in rates phased case good;
         }

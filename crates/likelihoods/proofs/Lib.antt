@@ -4,6 +4,5 @@ pub mod HeldCases
 pub mod LikelihoodsHeld
 pub mod RunningSums
 pub mod SweepCases
-pub mod TableParts
 pub mod TotalParts
 pub mod TotalsHeld

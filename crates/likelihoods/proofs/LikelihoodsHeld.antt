@@ -15,7 +15,7 @@ use Rattle.variants_and_fragments.specs.Check.{caseOf}
 use Rattle.variants_and_fragments.specs.Refusals.{done}
 use Rattle.variants_and_fragments.specs.Decode.{decode}
 use Rattle.variants_and_fragments.specs.Pileup.{usableCalls}
-use Rattle.pileup.specs.Rows.{RowSlices, RowsMade}
+use Rattle.pileup.specs.Rows.{RowsMade}
 use Rattle.variants_and_fragments.specs.Written.{written}
 use Rattle.variants_and_fragments.proofs.Accepted.{case-in}
 use Rattle.variants_and_fragments.proofs.Alls.{all-imp}
@@ -29,9 +29,10 @@ use Rattle.sweeps.proofs.Basics.{or-cases, lik-cong}
 use Rattle.likelihoods.specs.Held.{Liks}
 use Rattle.likelihoods.specs.SweepCaseOf.{sweepCaseOf}
 use Rattle.likelihoods.specs.Likelihoods.{callsOf, flagged, alleleOn, likelihoodAt}
-use Rattle.likelihoods.proofs.CallShares.{likelihood-first, likelihood-second}
+use Rattle.likelihoods.proofs.CallShares.{on-first, likelihood-first, likelihood-second}
 use Rattle.likelihoods.proofs.SweepCases as cases
-use Rattle.likelihoods.proofs.CallsHeld.{callsOfRows, calls-are}
+use Rattle.likelihoods.proofs.CallsHeld.{calls-are}
+use Rattle.likelihoods.proofs.HeldCases.{frags-counted}
 
 pub flag-is : (t : Bool) (x : ℕ) → x ≡ cond t 1 0 → eqb x 1 ≡ t
 flag-is true x e = rw e
@@ -52,11 +53,10 @@ module _
     (w : List ℤ)
     (b : List ℕ)
     (s : Sizes)
-    {slices : RowSlices}
-    {ends ambiguous : List ℕ}
+    {rows ends ambiguous : List ℕ}
     {count : ℕ}
     (accepted : caseOf w b ≡ done s)
-    (made : RowsMade w s slices ends ambiguous count) where
+    (made : RowsMade w s rows ends ambiguous count) where
   abbrev case : Case
   case = decode w b
 
@@ -66,11 +66,11 @@ module _
   known : CaseIn w s
   known = case-in w b s accepted
 
-  pub frags-counted : length (C .frags) ≡ s .f
-  frags-counted = cases.frags-length rates phased case ∙ fragments-are known b
+  fragments : length (C .frags) ≡ s .f
+  fragments = frags-counted rates phased w b s accepted
 
-  pub frag-held : (f : ℕ) → f < s .f → callsOf (callsOfRows slices) ends f ≡ getD (C .frags) f []
-  frag-held f h = calls-are (made .held b) f (omega (arith, fragments-are known b)) ∙ sym (cases.frag-is rates phased case f)
+  pub frag-held : (f : ℕ) → f < s .f → callsOf rows ends f ≡ getD (C .frags) f []
+  frag-held f h = calls-are known made b f h ∙ sym (cases.frag-is rates phased case f)
 
   -- the calls of a read are at variants of the case
   frag-in : (f : ℕ) → f < s .f → (v : ℕ) → T (hasCall v (getD (C .frags) f [])) → v < s .n
@@ -87,15 +87,16 @@ module _
     unfolding flagged
     mask-is v t = flag-is (counts v) (getD mask v 0) (flags v (frag-in f h v t))
 
-    pub likelihood0-is : likelihood (flagged mask) (alleleOn hap 0) (callsOf (callsOfRows slices) ends f) ≡ likelihood counts (allele0 hap) (getD (C .frags) f [])
-    likelihood0-is =
-        ap (likelihood (flagged mask) (alleleOn hap 0)) (frag-held f h)
-        ∙ lik-cong (flagged mask) counts (alleleOn hap 0) (allele0 hap) (getD (C .frags) f []) mask-is (λ v t u. ap (λ (i : ℕ). getD hap i 0) (omega arith))
+    on-either : (i : ℕ) → likelihood (flagged mask) (alleleOn hap i) (callsOf rows ends f) ≡ likelihood counts (alleleOn hap i) (getD (C .frags) f [])
+    on-either i =
+        ap (likelihood (flagged mask) (alleleOn hap i)) (frag-held f h)
+        ∙ lik-cong (flagged mask) counts (alleleOn hap i) (alleleOn hap i) (getD (C .frags) f []) mask-is (λ v t u. refl)
 
-    pub likelihood1-is : likelihood (flagged mask) (alleleOn hap 1) (callsOf (callsOfRows slices) ends f) ≡ likelihood counts (allele1 hap) (getD (C .frags) f [])
-    likelihood1-is =
-        ap (likelihood (flagged mask) (alleleOn hap 1)) (frag-held f h)
-        ∙ lik-cong (flagged mask) counts (alleleOn hap 1) (allele1 hap) (getD (C .frags) f []) mask-is (λ v t u. refl)
+    pub likelihood0-is : likelihood (flagged mask) (alleleOn hap 0) (callsOf rows ends f) ≡ likelihood counts (allele0 hap) (getD (C .frags) f [])
+    likelihood0-is = on-either 0 ∙ on-first counts hap (getD (C .frags) f [])
+
+    pub likelihood1-is : likelihood (flagged mask) (alleleOn hap 1) (callsOf rows ends f) ≡ likelihood counts (allele1 hap) (getD (C .frags) f [])
+    likelihood1-is = on-either 1
 
   -- the likelihoods as they are written are those that the sweeps start from
   module _
@@ -103,19 +104,19 @@ module _
       (lik₀ lik : List ℤ)
       (flags : (v : ℕ) → v < s .n → getD ph v 0 ≡ cond (phased v) 1 0)
       (long : length lik₀ ≡ 2 * s .f)
-      (lik-written : lik ≡ written (likelihoodAt (callsOfRows slices) ends hap ph) (2 * s .f) lik₀) where
-    written-here : (e : ℕ) → e < 2 * s .f → getD lik e (pos 0) ≡ likelihoodAt (callsOfRows slices) ends hap ph e
+      (lik-written : lik ≡ written (likelihoodAt rows ends hap ph) (2 * s .f) lik₀) where
+    written-here : (e : ℕ) → e < 2 * s .f → getD lik e (pos 0) ≡ likelihoodAt rows ends hap ph e
     written-here e h =
         ap (λ (l : List ℤ). getD l e (pos 0)) lik-written
-        ∙ written-at (likelihoodAt (callsOfRows slices) ends hap ph) (2 * s .f) lik₀ (pos 0) (omega arith) e h
+        ∙ written-at (likelihoodAt rows ends hap ph) (2 * s .f) lik₀ (pos 0) (omega arith) e h
 
     pub liks-held : Liks C hap lik
     unfolding callsOf
     liks-held =
-        let n = frags-counted in
+        let n = fragments in
         let flags-of : (v : ℕ) → v < s .n → getD ph v 0 ≡ cond (C .phased v) 1 0 = λ v h. rw (cases.phased-is rates phased case v) (flags v h) in
         record {
-          long = ap length lik-written ∙ written-length (likelihoodAt (callsOfRows slices) ends hap ph) (2 * s .f) lik₀ ∙ long ∙ ap (λ (m : ℕ). 2 * m) (sym frags-counted);
-          firsts = λ f h. let l : f < s .f = omega arith in written-here (2 * f) (omega arith) ∙ likelihood-first (callsOfRows slices) ends hap ph f ∙ likelihood0-is (C .phased) hap ph flags-of f l;
-          seconds = λ f h. let l : f < s .f = omega arith in written-here (2 * f + 1) (omega arith) ∙ likelihood-second (callsOfRows slices) ends hap ph f ∙ likelihood1-is (C .phased) hap ph flags-of f l;
+          long = ap length lik-written ∙ written-length (likelihoodAt rows ends hap ph) (2 * s .f) lik₀ ∙ long ∙ ap (λ (m : ℕ). 2 * m) (sym fragments);
+          firsts = λ f h. let l : f < s .f = omega arith in written-here (2 * f) (omega arith) ∙ likelihood-first rows ends hap ph f ∙ likelihood0-is (C .phased) hap ph flags-of f l;
+          seconds = λ f h. let l : f < s .f = omega arith in written-here (2 * f + 1) (omega arith) ∙ likelihood-second rows ends hap ph f ∙ likelihood1-is (C .phased) hap ph flags-of f l;
         }

@@ -1,6 +1,6 @@
 -- The parts of a total: what a variant and a fragment add, how far from 0 each is, and that they make up the total of the case that the
 -- slices hold. Assumes nothing.
-use mathlib.Core.Path.{_≡_, refl, sym, ap, _∙_}
+use mathlib.Core.Path.{_≡_, sym, ap, _∙_}
 use mathlib.Core.List.{List}
 use Prim.Native.Nat.{ℕ, _+_, _≤_}
 use native.Mathlib.Omega.{arith}
@@ -11,11 +11,12 @@ use Rattle.steps.proofs.Signed.{minus-abs}
 use Rattle.steps.proofs.AddExp.{add-size}
 use Rattle.variants_and_fragments.specs.Sums.{sumOver}
 use Rattle.variants_and_fragments.specs.Decode.{tabulate}
-use Rattle.sweeps.specs.Sweeps.{SweepCase, allele0, allele1, sumTo, likelihood, readShare, totalOf, mixOf}
-use Rattle.sweeps.proofs.Basics.{sumTo-cong, lik-cong}
-use Rattle.likelihoods.specs.Likelihoods.{CallSlices, callsOf, flagged, alleleOn}
+use Rattle.sweeps.specs.Sweeps.{SweepCase, allele0, allele1, sumTo, readShare, totalOf, mixOf}
+use Rattle.sweeps.proofs.Basics.{sumTo-cong}
+use Rattle.likelihoods.specs.Likelihoods.{callsOf, flagged}
 use Rattle.likelihoods.specs.Totals.{pairPrior, heldCase, priorShare, fragmentShare, PriorsIn}
 use Rattle.likelihoods.proofs.RunningSums.{table-sum}
+use Rattle.likelihoods.proofs.CallShares.{on-first}
 
 -- two sums of equal parts
 pub same-sum : {a b m n : ℤ} → a ≡ b → m ≡ n → a +ℤ m ≡ b +ℤ n
@@ -52,22 +53,20 @@ priors-fewer h p = record {
 }
 
 -- ---- the total of the case that the slices hold
-module _ (n f : ℕ) (ks : List ℕ) (pri : List ℤ) (calls : CallSlices) (ends hap mask : List ℕ) where
+module _ (n f : ℕ) (ks : List ℕ) (pri : List ℤ) (rows ends hap mask : List ℕ) where
   abbrev H : SweepCase
-  H = heldCase n f ks pri calls ends mask
+  H = heldCase n f ks pri rows ends mask
 
-  read-share : (g : ℕ) → readShare H (flagged mask) hap (callsOf calls ends g) ≡ fragmentShare calls ends hap mask g
+  read-share : (g : ℕ) → readShare H (flagged mask) hap (callsOf rows ends g) ≡ fragmentShare rows ends hap mask g
   unfolding heldCase readShare fragmentShare
-  read-share g =
-      ap (λ (z : ℤ). mixOf z (likelihood (flagged mask) (allele1 hap) (callsOf calls ends g)))
-      (lik-cong (flagged mask) (flagged mask) (allele0 hap) (alleleOn hap 0) (callsOf calls ends g) (λ w t. refl) (λ w t u. ap (λ (i : ℕ). getD hap i 0) (omega arith)))
+  read-share g = rw (on-first (flagged mask) hap (callsOf rows ends g))
 
-  fragments-sum : sumOver (tabulate f (callsOf calls ends)) (readShare H (flagged mask) hap) ≡ sumTo f (fragmentShare calls ends hap mask)
+  fragments-sum : sumOver (tabulate f (callsOf rows ends)) (readShare H (flagged mask) hap) ≡ sumTo f (fragmentShare rows ends hap mask)
   fragments-sum =
-      table-sum (callsOf calls ends) (readShare H (flagged mask) hap) 0 f
-      ∙ sumTo-cong f (λ j. readShare H (flagged mask) hap (callsOf calls ends (0 + j))) (fragmentShare calls ends hap mask)
+      table-sum (callsOf rows ends) (readShare H (flagged mask) hap) 0 f
+      ∙ sumTo-cong f (λ j. readShare H (flagged mask) hap (callsOf rows ends (0 + j))) (fragmentShare rows ends hap mask)
       (λ j h. let e : 0 + j ≡ j = omega arith in rw e (read-share j))
 
-  pub total-parts : sumTo n (priorShare ks pri hap mask) +ℤ sumTo f (fragmentShare calls ends hap mask) ≡ totalOf H (flagged mask) hap
+  pub total-parts : sumTo n (priorShare ks pri hap mask) +ℤ sumTo f (fragmentShare rows ends hap mask) ≡ totalOf H (flagged mask) hap
   unfolding totalOf heldCase priorShare
   total-parts = ap (λ (z : ℤ). sumTo n (priorShare ks pri hap mask) +ℤ z) (sym fragments-sum)

@@ -2,24 +2,28 @@
 -- Assumes nothing.
 use mathlib.Core.Path.{_≡_}
 use mathlib.Core.Bool.{Bool, cond}
-use mathlib.Core.List.{List}
+use mathlib.Core.List.{List, map}
 use Prim.Native.Nat.{ℕ, _+_, _*_, _-_, _/_, _%_, _≤_, _<_}
 use lib.Dec.{eqb}
 use lib.IntN.{ℤ, pos, natAbs}
 use lib.ListN.{length, getD}
 use Rattle.variants_and_fragments.specs.Case.{Call}
-use Rattle.variants_and_fragments.specs.Decode.{tabulateFrom}
-use Rattle.pileup.specs.Packed.{rowAt, groupStart}
+use Rattle.variants_and_fragments.specs.Pileup.{Row}
+use Rattle.pileup.specs.Packed.{rowAt, rowsAt, groupStart}
 use Rattle.sweeps.specs.Sweeps.{callTerm, likelihood}
 use Rattle.likelihoods.specs.declared.likelihoods.ReadLikelihoods.{ReadLikelihoods}
 
+-- a row's call
+abbrev pub rowCall : Row → Call
+rowCall row = row .call
+
 -- the call of row i
 abbrev pub callAt : List ℕ → ℕ → Call
-callAt rows i = rowAt rows i .call
+callAt rows i = rowCall (rowAt rows i)
 
 -- the calls of the rows from a to e
 unfoldable pub callsBetween : List ℕ → ℕ → ℕ → List Call
-callsBetween rows a e = tabulateFrom (callAt rows) a (e - a)
+callsBetween rows a e = map rowCall (rowsAt rows a e)
 
 -- the calls of fragment f, by where each fragment's rows end
 unfoldable pub callsOf : List ℕ → List ℕ → ℕ → List Call

@@ -9,7 +9,7 @@ use Rattle.variants_and_fragments.specs.Decode.{tabulate}
 use Rattle.sweeps.specs.Sweeps.{SweepCase, allele0, allele1, sumTo, likelihood, mixOf}
 use Rattle.likelihoods.specs.Likelihoods.{callsOf, flagged, alleleOn}
 
--- the prior of the pair (i, j) at v, nine places a variant
+-- the prior of the pair (i, j) at v, 9 places per variant
 unfoldable pub pairPrior : List ℕ → List ℤ → ℕ → ℕ → ℕ → ℤ
 pairPrior ks pri v i j = getD pri (9 * v + (i * getD ks v 0 + j)) (pos 0)
 
@@ -33,7 +33,7 @@ unfoldable pub fragmentShare : List ℕ → List ℕ → List ℕ → List ℕ �
 fragmentShare rows ends hap mask f =
     mixOf (likelihood (flagged mask) (alleleOn hap 0) (callsOf rows ends f)) (likelihood (flagged mask) (alleleOn hap 1) (callsOf rows ends f))
 
--- the same of the likelihoods that stand in lik, two a fragment
+-- the same of the likelihoods that stand in lik, 2 per fragment
 unfoldable pub standingShare : List ℤ → ℕ → ℤ
 standingShare lik f = mixOf (getD lik (2 * f) (pos 0)) (getD lik (2 * f + 1) (pos 0))
 

@@ -1,127 +1,110 @@
--- `call_genotypes::likelihoods::call_share` meets its contract: a row that is there has its pair and its flag.
+-- `likelihoods::likelihoods::call_share` meets its contract: a row that is there has its pair and its flag.
 -- Assumes nothing.
-use mathlib.Core.Path.{_≡_, _∙_}
-use mathlib.Core.Bool.{Bool, cond}
-use Prim.Native.Nat.{ℕ, _+_, _*_, _<_}
+use mathlib.Core.Path.{_≡_, ap, _∙_}
+use Prim.Native.Nat.{_+_, _*_, _<_, _≤_}
 use native.Mathlib.Omega.{arith}
 use borrow.Author.Needs.{needs}
 use denote.Ref.{now}
-use lib.Dec.{eqb}
-use lib.IntN.{ℤ, pos}
-use lib.ListN.{length, getD}
-use mir.Syntax.{w32, w64}
+use lib.IntN.{ℤ, natAbs}
+use lib.ListN.{length}
+use mir.Syntax.{w64}
 use mir.Val.{toZ, ofZ}
 use Rattle.steps.proofs.Signed.{read-back, read-small}
-use Rattle.likelihoods.specs.Likelihoods.{callSlices}
-use Rattle.likelihoods.proofs.CallShares.{either-small, share-flagged, share-unflagged}
+use Rattle.variants_and_fragments.specs.Case.{Call}
+use Rattle.pileup.specs.declared.row.Row.{Row}
+use Rattle.sweeps.specs.Sweeps.{callTerm}
+use Rattle.likelihoods.specs.Likelihoods.{callAt, alleleOn}
+use Rattle.likelihoods.proofs.CallShares.{term-small, share-flagged, share-unflagged}
 use Rattle.likelihoods.proofs.likelihoods.call_share.Statement.{statement}
 use Rattle.likelihoods.proofs.likelihoods.call_share.Tie as tie
 
--- the variant of row i
-abbrev variant : tie.Start → ℕ
-variant s = getD (now (s .args .variants)) (s .args .i) 0
+-- the call of row i
+abbrev call : tie.Start → Call
+call s = callAt (now (s .args .rows)) (s .args .i)
 
-pair-there : (s : tie.Start) → 2 * variant s + 1 < length (now (s .args .hap))
+pair-there : (s : tie.Start) → 2 * call s .variant + 1 < length (now (s .args .hap))
 pair-there s = s .pre .0 .pair-there (s .args .i) (omega arith)
 
-flag-there : (s : tie.Start) → variant s < length (now (s .args .mask))
+flag-there : (s : tie.Start) → call s .variant < length (now (s .args .mask))
 flag-there s = s .pre .0 .flag-there (s .args .i) (omega arith)
 
-mul-v : tie.Need-mul-v
-mul-v c = search needs
+mul-unpack : tie.Need-mul-unpack
+mul-unpack c = search needs
 
-shared-slice-read-v : tie.Need-shared-slice-read-v
-shared-slice-read-v c = search needs
+shared-slice-read-unpack : tie.Need-shared-slice-read-unpack
+shared-slice-read-unpack c = search needs
 
-cast-v : tie.Need-cast-v
-cast-v c = let s = c .before .before .before .before .before in omega (arith, flag-there s)
+unpack-requires : tie.Need-unpack-requires
+unpack-requires c κs = search needs
+
+abbrev start : tie.After-unpack → tie.Start
+start c = c .before .before .before .before .before
+
+variant-is : (c : tie.After-unpack) → c .unpack .result .variant ≡ call (start c) .variant
+variant-is c = ap (λ (r : Row). r .variant) (c .unpack .ensures)
 
 mul-call-term : tie.Need-mul-call-term
-mul-call-term c = search needs
-
-shared-slice-read-call-term : tie.Need-shared-slice-read-call-term
-shared-slice-read-call-term c = search needs
-
-mul-call-term-2 : tie.Need-mul-call-term-2
-mul-call-term-2 c = let s = c .before .before .before .before .before .before in omega (arith, pair-there s)
+mul-call-term c = omega (arith, variant-is c, pair-there (start c))
 
 add-call-term : tie.Need-add-call-term
-add-call-term c = let s = c .before .before .before .before .before .before in omega (arith, pair-there s, s .pre .1)
+add-call-term c = omega (arith, variant-is c, pair-there (start c), start c .pre .1)
 
-shared-slice-read-call-term-2 : tie.Need-shared-slice-read-call-term-2
-shared-slice-read-call-term-2 c =
-    let s = c .before .before .before .before .before .before .before in omega (arith, pair-there s, s .pre .1)
-
-mul-call-term-3 : tie.Need-mul-call-term-3
-mul-call-term-3 c = search needs
-
-shared-slice-copy-out-call-term : tie.Need-shared-slice-copy-out-call-term
-shared-slice-copy-out-call-term c = search needs
-
-mul-call-term-4 : tie.Need-mul-call-term-4
-mul-call-term-4 c = search needs
-
-shared-slice-copy-out-call-term-2 : tie.Need-shared-slice-copy-out-call-term-2
-shared-slice-copy-out-call-term-2 c = search needs
+shared-slice-read-call-term : tie.Need-shared-slice-read-call-term
+shared-slice-read-call-term c =
+    let u = c .before in omega (arith, variant-is u, pair-there (start u), start u .pre .1)
 
 call-term-requires : tie.Need-call-term-requires
 call-term-requires c κs = search needs
 
-abbrev start : tie.After-call-term → tie.Start
-start c = c .before .before .before .before .before .before .before .before .before .before
+-- where the row is unpacked
+abbrev unpacking : tie.After-call-term → tie.After-unpack
+unpacking c = c .before .before .before .before
 
 shared-slice-read-if1 : tie.Need-shared-slice-read-if1
-shared-slice-read-if1 c = flag-there (start (c .before))
+shared-slice-read-if1 c = let u = unpacking (c .before) in rw (variant-is u) (flag-there (start u))
 
--- the row's qualities
-abbrev qual : tie.Start → ℤ
-qual s = getD (now (s .args .quals)) (s .args .i) (pos 0)
+-- the term of the call, read back
+abbrev term : tie.Start → ℤ
+term s = callTerm (call s) (alleleOn (now (s .args .hap)) (s .args .h) (call s .variant))
 
-abbrev one-minus-qual : tie.Start → ℤ
-one-minus-qual s = getD (now (s .args .one-minus-quals)) (s .args .i) (pos 0)
+small : (s : tie.Start) → natAbs (term s) ≤ 262144
+small s = term-small 262144 (call s) _ (s .pre .0 .qual-small (s .args .i) (omega arith)) (s .pre .0 .one-minus-qual-small (s .args .i) (omega arith))
 
--- the test of its allele
-abbrev match : tie.Start → Bool
-match s = eqb (getD (now (s .args .alleles)) (s .args .i) 0) (getD (now (s .args .hap)) (2 * variant s + s .args .h) 0)
-
-result-is : (c : tie.After-call-term) → toZ w64 (ofZ w64 (c .call-term .result)) ≡ cond (match (start c)) (one-minus-qual (start c)) (qual (start c))
+result-is : (c : tie.After-call-term) → toZ w64 (ofZ w64 (c .call-term .result)) ≡ term (start (unpacking c))
+unfolding callTerm
 result-is c =
-    let s = start c in
-    let o = s .pre .0 .one-minus-qual-small (s .args .i) (omega arith) in
+    let u = unpacking c in
+    let s = start u in
     let q = s .pre .0 .qual-small (s .args .i) (omega arith) in
+    let o = s .pre .0 .one-minus-qual-small (s .args .i) (omega arith) in
     read-back w64 (c .call-term .result) (c .call-term .ok)
-    ∙ rw (read-small w32 (one-minus-qual s) (omega arith), read-small w32 (qual s) (omega arith)) at (c .call-term .ensures)
+    ∙ rw (u .unpack .ensures, read-small w64 (call s .qual) (omega arith), read-small w64 (call s .one-minus-qual) (omega arith)) at (c .call-term .ensures)
 
 returns : tie.Need-returns
 returns c =
     let r = c .before .before in
-    let s = start r in (
-      result-is r
-          ∙ share-flagged (callSlices (now (s .args .variants)) (now (s .args .alleles)) (now (s .args .quals)) (now (s .args .one-minus-quals))) (now (s .args .hap)) (now (s .args .mask)) (s .args .i) (s .args .h) (c .if1 .taken),
-      rw (result-is r) (either-small 262144 (match s) (one-minus-qual s) (qual s) (s .pre .0 .one-minus-qual-small (s .args .i) (omega arith)) (s .pre .0 .qual-small (s .args .i) (omega arith))),
+    let u = unpacking r in
+    let s = start u in (
+      result-is r ∙ share-flagged (now (s .args .rows)) (now (s .args .hap)) (now (s .args .mask)) (s .args .i) (s .args .h) (rw (variant-is u) at (c .if1 .taken)),
+      rw (result-is r) (small s),
     )
 
 returns-2 : tie.Need-returns-2
 returns-2 c =
-    let s = start (c .before .before) in
-    (share-unflagged (callSlices (now (s .args .variants)) (now (s .args .alleles)) (now (s .args .quals)) (now (s .args .one-minus-quals))) (now (s .args .hap)) (now (s .args .mask)) (s .args .i) (s .args .h) (c .if1 .left), omega arith)
+    let u = unpacking (c .before .before) in
+    let s = start u in
+    (share-unflagged (now (s .args .rows)) (now (s .args .hap)) (now (s .args .mask)) (s .args .i) (s .args .h) (rw (variant-is u) at (c .if1 .left)), omega arith)
 
 pub call-share-spec : {M : Type 1} → statement M
 call-share-spec =
     tie.close
     (tie.spec
-    mul-v
-    shared-slice-read-v
-    cast-v
+    mul-unpack
+    shared-slice-read-unpack
+    unpack-requires
     mul-call-term
-    shared-slice-read-call-term
-    mul-call-term-2
     add-call-term
-    shared-slice-read-call-term-2
-    mul-call-term-3
-    shared-slice-copy-out-call-term
-    mul-call-term-4
-    shared-slice-copy-out-call-term-2
+    shared-slice-read-call-term
     call-term-requires
     shared-slice-read-if1
     returns

@@ -1,4 +1,4 @@
--- `call_genotypes::likelihoods::read_likelihoods` meets its contract. The loop's invariant: `first` and `second` are the sums over the first j rows.
+-- `likelihoods::likelihoods::read_likelihoods` meets its contract. The loop's invariant: `first` and `second` are the sums over the first j rows.
 -- Assumes nothing.
 use mathlib.Core.Path.{_≡_, sym, ap, _∙_}
 use Prim.Native.Nat.{ℕ, _+_, _*_, _-_, _≤_, _<_}
@@ -8,7 +8,6 @@ use lib.IntN.{ℤ, natAbs}
 use mir.Syntax.{w64}
 use mir.Val.{toZ, ofZ}
 use Rattle.steps.proofs.Signed.{read-back}
-use Rattle.likelihoods.specs.Likelihoods.{callSlices}
 use Rattle.likelihoods.proofs.RunningSums.{Running, running-start, running-more, running-end, added-fits, added-read}
 use Rattle.likelihoods.proofs.CallShares.{rowShare, between-sum, calls-fewer}
 use Rattle.likelihoods.proofs.likelihoods.read_likelihoods.Statement.{statement}
@@ -19,28 +18,28 @@ abbrev top : ℕ → ℕ
 top j = 262144 * j
 
 abbrev Inv-loop : tie.InvT-loop
-Inv-loop variants alleles quals one-minus-quals hap mask a e n first₀ second₀ j₀ first second j =
-    Running (rowShare (callSlices variants alleles quals one-minus-quals) hap mask 0 a) top (e - a) (toZ w64 first) j
-    × Running (rowShare (callSlices variants alleles quals one-minus-quals) hap mask 1 a) top (e - a) (toZ w64 second) j
+Inv-loop rows hap mask a e n first₀ second₀ j₀ first second j =
+    Running (rowShare rows hap mask 0 a) top (e - a) (toZ w64 first) j
+    × Running (rowShare rows hap mask 1 a) top (e - a) (toZ w64 second) j
 
 abbrev μ-loop : tie.MeasureT-loop
-μ-loop variants alleles quals one-minus-quals hap mask a e n first₀ second₀ j₀ first second j = e - a - j
+μ-loop rows hap mask a e n first₀ second₀ j₀ first second j = e - a - j
 
 -- what each row adds on haplotype h
 abbrev shares : tie.Start Inv-loop μ-loop → ℕ → ℕ → ℤ
-shares s h = rowShare (callSlices (now (s .args .variants)) (now (s .args .alleles)) (now (s .args .quals)) (now (s .args .one-minus-quals))) (now (s .args .hap)) (now (s .args .mask)) h (s .args .a)
+shares s h = rowShare (now (s .args .rows)) (now (s .args .hap)) (now (s .args .mask)) h (s .args .a)
 
 sub-n : tie.Need-sub-n Inv-loop μ-loop
-sub-n c = c .before .before .before .before .pre .1
+sub-n c = c .before .before .before .pre .1
 
 loop-holds : tie.Need-loop-holds Inv-loop μ-loop
 loop-holds c =
-    let s = c .before .before .before .before in
+    let s = c .before .before .before in
     (running-start (shares s 0) top (s .args .e - s .args .a), running-start (shares s 1) top (s .args .e - s .args .a))
 
 -- the place of the row in hand
 abbrev start : tie.In-loop Inv-loop μ-loop → tie.Start Inv-loop μ-loop
-start c = c .before .before .before .before .before .before
+start c = c .before .before .before .before .before
 
 inside : (c : tie.In-loop Inv-loop μ-loop) → start c .args .a + c .before .loop .j + 1 ≤ start c .args .e
 inside c = omega (arith, c .loop-test .taken, start c .pre .1)
@@ -105,14 +104,13 @@ loop-again c =
 returns : tie.Need-returns Inv-loop μ-loop
 returns c =
     let l = c .before in
-    let s = l .before .before .before .before .before in
-    let calls = callSlices (now (s .args .variants)) (now (s .args .alleles)) (now (s .args .quals)) (now (s .args .one-minus-quals)) in
+    let s = l .before .before .before .before in
     let n = s .args .e - s .args .a in
     let x = running-end (shares s 0) top n (toZ w64 (l .loop .first)) (l .loop .j) (l .loop .inv .0) (c .loop-test .left) in
     let y = running-end (shares s 1) top n (toZ w64 (l .loop .second)) (l .loop .j) (l .loop .inv .1) (c .loop-test .left) in
     record {
-      first-is = x .0 ∙ sym (between-sum calls (now (s .args .hap)) (now (s .args .mask)) 0 (s .args .a) (s .args .e));
-      second-is = y .0 ∙ sym (between-sum calls (now (s .args .hap)) (now (s .args .mask)) 1 (s .args .a) (s .args .e));
+      first-is = x .0 ∙ sym (between-sum (now (s .args .rows)) (now (s .args .hap)) (now (s .args .mask)) 0 (s .args .a) (s .args .e));
+      second-is = y .0 ∙ sym (between-sum (now (s .args .rows)) (now (s .args .hap)) (now (s .args .mask)) 1 (s .args .a) (s .args .e));
       first-small = x .1;
       second-small = y .1;
     }

@@ -1,4 +1,4 @@
--- `call_genotypes::likelihoods::write_likelihoods` meets its contract. The loop's invariant: the likelihoods of the first f fragments are
+-- `likelihoods::likelihoods::write_likelihoods` meets its contract. The loop's invariant: the likelihoods of the first f fragments are
 -- written, and the rows of fragment f start at a. Assumes nothing.
 use mathlib.Core.Path.{_≡_, refl, sym, ap, _∙_}
 use Prim.Native.Nat.{ℕ, _+_, _*_, _-_, _≤_, _<_}
@@ -9,30 +9,27 @@ use lib.ListN.{length, getD, length-set}
 use mir.Syntax.{w64}
 use mir.Val.{toZ, ofZ}
 use Rattle.steps.proofs.Signed.{read-small}
-use Rattle.pileup.specs.Piles.{pileStart}
+use Rattle.pileup.specs.Packed.{groupStart}
 use Rattle.variants_and_fragments.specs.Written.{written}
 use Rattle.variants_and_fragments.proofs.Written.{written-on, written-length}
-use Rattle.likelihoods.specs.Likelihoods.{CallSlices, callSlices, likelihoodAt}
+use Rattle.likelihoods.specs.Likelihoods.{likelihoodAt}
 use Rattle.likelihoods.proofs.CallShares.{likelihood-first, likelihood-second, start-zero, start-next, ends-within, calls-fewer}
 use Rattle.likelihoods.proofs.likelihoods.write_likelihoods.Statement.{statement}
 use Rattle.likelihoods.proofs.likelihoods.write_likelihoods.Tie as tie
 
 abbrev Inv-loop : tie.InvT-loop
-Inv-loop variants alleles quals one-minus-quals ends hap mask lik₀ n a₀ f₀ lik a f =
-    (f ≤ n) × (a ≡ pileStart ends f) × (lik ≡ written (likelihoodAt (callSlices variants alleles quals one-minus-quals) ends hap mask) (2 * f) lik₀)
+Inv-loop rows ends hap mask lik₀ n a₀ f₀ lik a f =
+    (f ≤ n) × (a ≡ groupStart ends f) × (lik ≡ written (likelihoodAt rows ends hap mask) (2 * f) lik₀)
 
 abbrev μ-loop : tie.MeasureT-loop
-μ-loop variants alleles quals one-minus-quals ends hap mask lik₀ n a₀ f₀ lik a f = n - f
+μ-loop rows ends hap mask lik₀ n a₀ f₀ lik a f = n - f
 
--- the rows' calls, and what is written
-abbrev calls : tie.Start Inv-loop μ-loop → CallSlices
-calls s = callSlices (now (s .args .variants)) (now (s .args .alleles)) (now (s .args .quals)) (now (s .args .one-minus-quals))
-
+-- what is written
 abbrev values : tie.Start Inv-loop μ-loop → ℕ → ℤ
-values s = likelihoodAt (calls s) (now (s .args .ends)) (now (s .args .hap)) (now (s .args .mask))
+values s = likelihoodAt (now (s .args .rows)) (now (s .args .ends)) (now (s .args .hap)) (now (s .args .mask))
 
 abbrev start : tie.At-loop Inv-loop μ-loop → tie.Start Inv-loop μ-loop
-start l = l .before .before .before .before .before .before
+start l = l .before .before .before .before .before
 
 loop-holds : tie.Need-loop-holds Inv-loop μ-loop
 unfolding written
@@ -43,7 +40,7 @@ as-long : (l : tie.At-loop Inv-loop μ-loop) → length (l .loop .lik) ≡ lengt
 as-long l = ap length (l .loop .inv .2) ∙ written-length (values (start l)) (2 * l .loop .f) (now (start l .args .lik))
 
 -- the rows of fragment f
-end-in : (c : tie.In-loop Inv-loop μ-loop) → getD (now (start (c .before) .args .ends)) (c .before .loop .f) 0 ≤ pileStart (now (start (c .before) .args .ends)) (start (c .before) .args .n)
+end-in : (c : tie.In-loop Inv-loop μ-loop) → getD (now (start (c .before) .args .ends)) (c .before .loop .f) 0 ≤ groupStart (now (start (c .before) .args .ends)) (start (c .before) .args .n)
 end-in c = let s = start (c .before) in ends-within (now (s .args .ends)) (s .args .n) (s .pre .1 .rises) (c .before .loop .f) (c .loop-test .taken)
 
 mul-e : tie.Need-mul-e Inv-loop μ-loop
@@ -70,7 +67,7 @@ first-is c =
     let r = c .read-likelihoods .ensures in
     read-small w64 _ (omega (arith, r .first-small, few (c .before .before)))
     ∙ rw (l .loop .inv .1) at (r .first-is)
-    ∙ sym (likelihood-first (calls s) (now (s .args .ends)) (now (s .args .hap)) (now (s .args .mask)) (l .loop .f))
+    ∙ sym (likelihood-first (now (s .args .rows)) (now (s .args .ends)) (now (s .args .hap)) (now (s .args .mask)) (l .loop .f))
 
 second-is : (c : tie.After-read-likelihoods Inv-loop μ-loop) → toZ w64 (ofZ w64 (c .read-likelihoods .result .second)) ≡ values (start (c .before .before .before)) (2 * c .before .before .before .loop .f + 1)
 second-is c =
@@ -79,50 +76,54 @@ second-is c =
     let r = c .read-likelihoods .ensures in
     read-small w64 _ (omega (arith, r .second-small, few (c .before .before)))
     ∙ rw (l .loop .inv .1) at (r .second-is)
-    ∙ sym (likelihood-second (calls s) (now (s .args .ends)) (now (s .args .hap)) (now (s .args .mask)) (l .loop .f))
+    ∙ sym (likelihood-second (now (s .args .rows)) (now (s .args .ends)) (now (s .args .hap)) (now (s .args .mask)) (l .loop .f))
 
 -- both places are there
 there : (c : tie.In-loop Inv-loop μ-loop) → 2 * c .before .loop .f + 1 < length (now (start (c .before) .args .lik))
 there c = omega (arith, c .loop-test .taken, start (c .before) .pre .2)
 
+-- this turn of the loop
+abbrev turn : tie.After-struct-told2 Inv-loop μ-loop → tie.In-loop Inv-loop μ-loop
+turn c = c .before .before .before .before
+
 mul-x : tie.Need-mul-x Inv-loop μ-loop
-mul-x c = omega (arith, there (c .before .before .before .before))
+mul-x c = omega (arith, there (turn c))
 
 mul-x-2 : tie.Need-mul-x-2 Inv-loop μ-loop
-mul-x-2 c = omega (arith, there (c .before .before .before .before))
+mul-x-2 c = omega (arith, there (turn c))
 
 slice-set-from-x : tie.Need-slice-set-from-x Inv-loop μ-loop
 slice-set-from-x c =
-    omega (arith, there (c .before .before .before .before), as-long (c .before .before .before .before .before))
+    omega (arith, there (turn c), as-long (turn c .before))
 
 mul-y : tie.Need-mul-y Inv-loop μ-loop
-mul-y c = omega (arith, there (c .before .before .before .before))
+mul-y c = omega (arith, there (turn c))
 
 add-y : tie.Need-add-y Inv-loop μ-loop
-add-y c = omega (arith, there (c .before .before .before .before))
+add-y c = omega (arith, there (turn c))
 
 mul-y-2 : tie.Need-mul-y-2 Inv-loop μ-loop
-mul-y-2 c = omega (arith, there (c .before .before .before .before))
+mul-y-2 c = omega (arith, there (turn c))
 
 slice-set-from-y : tie.Need-slice-set-from-y Inv-loop μ-loop
 slice-set-from-y c =
-    rw length-set (omega (arith, there (c .before .before .before .before), as-long (c .before .before .before .before .before)))
+    rw length-set (omega (arith, there (turn c), as-long (turn c .before)))
 
 add-f : tie.Need-add-f Inv-loop μ-loop
-add-f c = omega (arith, there (c .before .before .before .before))
+add-f c = omega (arith, there (turn c))
 
 loop-less : tie.Need-loop-less Inv-loop μ-loop
-loop-less c = omega (arith, c .before .before .before .before .loop-test .taken)
+loop-less c = omega (arith, turn c .loop-test .taken)
 
 loop-again : tie.Need-loop-again Inv-loop μ-loop
 loop-again c =
     let d = c .before .before in
-    let l = d .before .before .before in
+    let l = turn c .before in
     let s = start l in
     let f = l .loop .f in
     let lik₀ = now (s .args .lik) in
     let e : 2 * f + 1 + 1 ≡ 2 * (f + 1) = omega arith in (
-      omega (arith, d .before .before .loop-test .taken),
+      omega (arith, turn c .loop-test .taken),
       sym (start-next (now (s .args .ends)) f),
       written-on (values s) (2 * f + 1) lik₀ _ _ (written-on (values s) (2 * f) lik₀ _ _ (l .loop .inv .2) (first-is d)) (second-is d)
           ∙ ap (λ (m : ℕ). written (values s) m lik₀) e,

@@ -1,4 +1,4 @@
--- `call_genotypes::totals::fragments_total` meets its contract. The loop's invariant: `sum` is that of the first f fragments, at most 262144
+-- `likelihoods::totals::fragments_total` meets its contract. The loop's invariant: `sum` is that of the first f fragments, at most 262144
 -- steps from 0 for each of their rows and 8192 for each of them, and the rows of fragment f start at a. Assumes nothing.
 use mathlib.Core.Path.{_≡_, sym, ap, _∙_}
 use mathlib.Core.List.{List}
@@ -10,9 +10,9 @@ use lib.ListN.{getD}
 use mir.Syntax.{w64}
 use mir.Val.{toZ, ofZ}
 use Rattle.steps.proofs.Signed.{read-back, read-small}
-use Rattle.pileup.specs.Piles.{pileStart}
+use Rattle.pileup.specs.Packed.{groupStart}
 use Rattle.sweeps.specs.Sweeps.{likelihood}
-use Rattle.likelihoods.specs.Likelihoods.{CallSlices, callSlices, callsOf, flagged, alleleOn}
+use Rattle.likelihoods.specs.Likelihoods.{callsOf, flagged, alleleOn}
 use Rattle.likelihoods.specs.Totals.{fragmentShare}
 use Rattle.likelihoods.proofs.RunningSums.{Running, running-start, running-more, running-end, added-fits, added-read}
 use Rattle.likelihoods.proofs.CallShares.{start-zero, start-next, ends-within, calls-fewer}
@@ -21,25 +21,22 @@ use Rattle.likelihoods.proofs.totals.fragments_total.Statement.{stateme
 use Rattle.likelihoods.proofs.totals.fragments_total.Tie as tie
 
 abbrev top : List ℕ → ℕ → ℕ
-top ends f = 262144 * pileStart ends f + 8192 * f
+top ends f = 262144 * groupStart ends f + 8192 * f
 
 abbrev Inv-loop : tie.InvT-loop
-Inv-loop t variants alleles quals one-minus-quals ends hap mask n sum₀ a₀ f₀ sum a f =
-    (a ≡ pileStart ends f)
-    × Running (fragmentShare (callSlices variants alleles quals one-minus-quals) ends hap mask) (top ends) n (toZ w64 sum) f
+Inv-loop t rows ends hap mask n sum₀ a₀ f₀ sum a f =
+    (a ≡ groupStart ends f)
+    × Running (fragmentShare rows ends hap mask) (top ends) n (toZ w64 sum) f
 
 abbrev μ-loop : tie.MeasureT-loop
-μ-loop t variants alleles quals one-minus-quals ends hap mask n sum₀ a₀ f₀ sum a f = n - f
+μ-loop t rows ends hap mask n sum₀ a₀ f₀ sum a f = n - f
 
--- where the function starts, the rows' calls, and what each fragment adds
+-- where the function starts, and what each fragment adds
 abbrev start : tie.At-loop Inv-loop μ-loop → tie.Start Inv-loop μ-loop
-start l = l .before .before .before .before .before .before
-
-abbrev calls : tie.Start Inv-loop μ-loop → CallSlices
-calls s = callSlices (now (s .args .variants)) (now (s .args .alleles)) (now (s .args .quals)) (now (s .args .one-minus-quals))
+start l = l .before .before .before .before .before
 
 abbrev shares : tie.Start Inv-loop μ-loop → ℕ → ℤ
-shares s = fragmentShare (calls s) (now (s .args .ends)) (now (s .args .hap)) (now (s .args .mask))
+shares s = fragmentShare (now (s .args .rows)) (now (s .args .ends)) (now (s .args .hap)) (now (s .args .mask))
 
 loop-holds : tie.Need-loop-holds Inv-loop μ-loop
 loop-holds c = (sym (start-zero _), running-start _ _ _)
@@ -48,7 +45,7 @@ loop-holds c = (sym (start-zero _), running-start _ _ _)
 abbrev end-of : tie.At-loop Inv-loop μ-loop → ℕ
 end-of l = getD (now (start l .args .ends)) (l .loop .f) 0
 
-end-in : (c : tie.In-loop Inv-loop μ-loop) → end-of (c .before) ≤ pileStart (now (start (c .before) .args .ends)) (start (c .before) .args .n)
+end-in : (c : tie.In-loop Inv-loop μ-loop) → end-of (c .before) ≤ groupStart (now (start (c .before) .args .ends)) (start (c .before) .args .n)
 end-in c =
     let s = start (c .before) in
     ends-within (now (s .args .ends)) (s .args .n) (s .pre .2 .rises) (c .before .loop .f) (c .loop-test .taken)
@@ -77,7 +74,7 @@ abbrev read : (c : tie.After-read-likelihoods Inv-loop μ-loop) → ℕ → ℤ
 read c h =
     let l = c .before .before .before in
     let s = start l in
-    likelihood (flagged (now (s .args .mask))) (alleleOn (now (s .args .hap)) h) (callsOf (calls s) (now (s .args .ends)) (l .loop .f))
+    likelihood (flagged (now (s .args .mask))) (alleleOn (now (s .args .hap)) h) (callsOf (now (s .args .rows)) (now (s .args .ends)) (l .loop .f))
 
 first-is : (c : tie.After-read-likelihoods Inv-loop μ-loop) → c .read-likelihoods .result .first ≡ read c 0
 unfolding callsOf
@@ -101,9 +98,12 @@ mixed-requires c κs =
       omega (arith, ap natAbs (second-read r), r .read-likelihoods .ensures .second-small, few (r .before .before)),
     )
 
--- the loop's head of this turn
+-- this turn of the loop, and its head
+abbrev turn : tie.After-mixed Inv-loop μ-loop → tie.In-loop Inv-loop μ-loop
+turn c = c .before .before .before .before .before
+
 abbrev at : tie.After-mixed Inv-loop μ-loop → tie.At-loop Inv-loop μ-loop
-at c = c .before .before .before .before .before .before
+at c = turn c .before
 
 -- what is added, read back, and how far from 0 it is
 share-is : (c : tie.After-mixed Inv-loop μ-loop) → c .mixed .result ≡ shares (start (at c)) (at c .loop .f)
@@ -127,11 +127,11 @@ small c =
 within : (c : tie.After-mixed Inv-loop μ-loop) → top (now (start (at c) .args .ends)) (at c .loop .f) + natAbs (shares (start (at c)) (at c .loop .f)) ≤ top (now (start (at c) .args .ends)) (at c .loop .f + 1)
 within c =
     let l = at c in
-    omega (arith, small c, l .loop .inv .0, start-next (now (start l .args .ends)) (l .loop .f), rises (c .before .before .before .before .before))
+    omega (arith, small c, l .loop .inv .0, start-next (now (start l .args .ends)) (l .loop .f), rises (turn c))
 
 fits : (c : tie.After-mixed Inv-loop μ-loop) → natAbs (toZ w64 (at c .loop .sum)) + natAbs (shares (start (at c)) (at c .loop .f)) < 2 ^ 63
 fits c =
-    let i = c .before .before .before .before .before in
+    let i = turn c in
     let l = at c in
     omega (arith, l .loop .inv .1 .small, within c, start-next (now (start l .args .ends)) (l .loop .f), few i, few-fragments i)
 
@@ -139,17 +139,17 @@ add-sum : tie.Need-add-sum Inv-loop μ-loop
 add-sum c = added-fits (toZ w64 (at c .loop .sum)) (c .mixed .result) _ (added c) (fits c)
 
 add-f : tie.Need-add-f Inv-loop μ-loop
-add-f c = omega (arith, few-fragments (c .before .before .before .before .before))
+add-f c = omega (arith, few-fragments (turn c))
 
 loop-less : tie.Need-loop-less Inv-loop μ-loop
-loop-less c = omega (arith, c .before .before .before .before .before .loop-test .taken)
+loop-less c = omega (arith, turn c .loop-test .taken)
 
 loop-again : tie.Need-loop-again Inv-loop μ-loop
 loop-again c =
     let l = at c in
     let s = start l in (
       sym (start-next (now (s .args .ends)) (l .loop .f)),
-      running-more (shares s) (top (now (s .args .ends))) (s .args .n) (toZ w64 (l .loop .sum)) _ (l .loop .f) (l .loop .inv .1) (c .before .before .before .before .before .loop-test .taken)
+      running-more (shares s) (top (now (s .args .ends))) (s .args .n) (toZ w64 (l .loop .sum)) _ (l .loop .f) (l .loop .inv .1) (turn c .loop-test .taken)
           (added-read (toZ w64 (l .loop .sum)) (c .mixed .result) _ (added c) (fits c))
           (within c),
     )

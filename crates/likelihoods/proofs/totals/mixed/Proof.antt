@@ -1,4 +1,4 @@
--- `call_genotypes::totals::mixed` meets its contract: neither difference wraps.
+-- `likelihoods::totals::mixed` meets its contract: neither difference wraps.
 -- Assumes nothing.
 use mathlib.Core.Path.{_≡_, _∙_}
 use Prim.Native.Nat.{_≤_, _^_}

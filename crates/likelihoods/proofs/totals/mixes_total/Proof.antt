@@ -1,4 +1,4 @@
--- `call_genotypes::totals::mixes_total` meets its contract. The loop's invariant: `sum` is that of the first f fragments.
+-- `likelihoods::totals::mixes_total` meets its contract. The loop's invariant: `sum` is that of the first f fragments.
 -- Assumes nothing.
 use mathlib.Core.Path.{_≡_, ap, _∙_}
 use Prim.Native.Nat.{ℕ, _+_, _*_, _-_, _≤_, _<_, _^_}

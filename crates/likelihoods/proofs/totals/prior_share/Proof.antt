@@ -1,4 +1,4 @@
--- `call_genotypes::totals::prior_share` meets its contract: the pair's prior is one of the variant's nine.
+-- `likelihoods::totals::prior_share` meets its contract: the pair's prior is one of the variant's nine.
 -- Assumes nothing.
 use mathlib.Core.Path.{_≡_, ap, _∙_}
 use Prim.Native.Nat.{ℕ, _+_, _*_, _<_}
@@ -53,31 +53,35 @@ add-j c = search needs
 shared-slice-read-j : tie.Need-shared-slice-read-j
 shared-slice-read-j c = search needs
 
+-- where the function starts
+abbrev start : tie.After-shared-slice-known4 → tie.Start
+start c = c .before .before .before .before .before
+
 cast-j : tie.Need-cast-j
-cast-j c = omega (arith, c .shared-slice-known4 .given (2 * c .before .before .before .before .before .args .v + 1))
+cast-j c = omega (arith, c .shared-slice-known4 .given (2 * start c .args .v + 1))
 
 mul-result : tie.Need-mul-result
 mul-result c = search needs
 
 mul-result-2 : tie.Need-mul-result-2
-mul-result-2 c = omega (arith, below-nine (c .before .before .before .before .before))
+mul-result-2 c = omega (arith, below-nine (start c))
 
 add-result : tie.Need-add-result
-add-result c = omega (arith, below-nine (c .before .before .before .before .before))
+add-result c = omega (arith, below-nine (start c))
 
 add-result-2 : tie.Need-add-result-2
-add-result-2 c = omega (arith, there (c .before .before .before .before .before))
+add-result-2 c = omega (arith, there (start c))
 
 mul-result-3 : tie.Need-mul-result-3
-mul-result-3 c = omega (arith, there (c .before .before .before .before .before))
+mul-result-3 c = omega (arith, there (start c))
 
 shared-slice-copy-out-result : tie.Need-shared-slice-copy-out-result
-shared-slice-copy-out-result c = there (c .before .before .before .before .before)
+shared-slice-copy-out-result c = there (start c)
 
 returns : tie.Need-returns
 unfolding pairPrior
 returns c =
-    let s = c .before .before .before .before .before .before in
+    let s = start (c .before) in
     let h = s .pre .small (s .args .v) (omega arith) in
     let e : toZ w64 (ofZ w64 (getD (now (s .args .pri)) (9 * s .args .v + place s) (pos 0))) ≡ getD (now (s .args .pri)) (9 * s .args .v + place s) (pos 0) = read-small w64 _ (omega arith) in (
       e ∙ share-flagged (now (s .args .ks)) (now (s .args .pri)) (now (s .args .hap)) (now (s .args .mask)) (s .args .v) (c .before .before .before .before .if1 .taken),

@@ -1,4 +1,4 @@
--- `call_genotypes::totals::standing_total` meets its contract: the sum of its two parts does not wrap.
+-- `likelihoods::totals::standing_total` meets its contract: the sum of its two parts does not wrap.
 -- Assumes nothing.
 use mathlib.Core.Path.{_∙_}
 use Prim.Native.Nat.{_+_, _≤_, _^_}

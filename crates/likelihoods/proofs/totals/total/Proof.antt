@@ -1,4 +1,4 @@
--- `call_genotypes::totals::total` meets its contract: the two parts make up the total, and their sum is at most 2^40 steps from 0.
+-- `likelihoods::totals::total` meets its contract: the two parts make up the total, and their sum is at most 2^40 steps from 0.
 -- Assumes nothing.
 use mathlib.Core.Path.{_∙_}
 use Prim.Native.Nat.{_+_, _≤_, _^_}
@@ -8,7 +8,6 @@ use denote.Ref.{now}
 use lib.IntN.{ℤ, natAbs}
 use mir.Syntax.{w64}
 use Rattle.steps.proofs.Signed.{add-abs, plus-fits, plus-read}
-use Rattle.likelihoods.specs.Likelihoods.{callSlices}
 use Rattle.likelihoods.proofs.TotalParts.{same-sum, total-parts}
 use Rattle.likelihoods.proofs.totals.total.Statement.{statement}
 use Rattle.likelihoods.proofs.totals.total.Tie as tie
@@ -34,11 +33,11 @@ add-result c = plus-fits w64 (x c) (y c) (omega (arith, small c))
 
 returns : tie.Need-returns
 returns c =
-    let s = c .before .before .before .before .before .before .before .before in
+    let s = c .before .before .before .before .before .before .before in
     let e = plus-read w64 (x c) (y c) (omega (arith, small c)) in (
       e
           ∙ same-sum (c .before .priors-total .ensures .0) (c .fragments-total .ensures .0)
-          ∙ total-parts (s .args .s .n) (s .args .s .f) (now (s .args .ks)) (now (s .args .pri)) (callSlices (now (s .args .variants)) (now (s .args .alleles)) (now (s .args .quals)) (now (s .args .one-minus-quals))) (now (s .args .ends)) (now (s .args .hap)) (now (s .args .mask)),
+          ∙ total-parts (s .args .s .n) (s .args .s .f) (now (s .args .ks)) (now (s .args .pri)) (now (s .args .rows)) (now (s .args .ends)) (now (s .args .hap)) (now (s .args .mask)),
       rw e (omega (arith, add-abs (x c) (y c), small c)),
     )
 
