@@ -9,9 +9,9 @@ use variants_and_fragments::Checked;
 
 // The answer to the request; the reader after it, which failed where the request is unreadable.
 pub fn answer(
-    input: &mut [u8; 65536],
+    input: &mut Buffer,
     reader: Reader,
-    output: &mut [u8; 65536],
+    output: &mut Buffer,
     words: &mut [i32],
     bases: &mut [u8],
 ) -> Reader {
@@ -27,7 +27,7 @@ pub fn answer(
 }
 
 // Calls the operation and prints its answer.
-fn call(output: &mut [u8; 65536], words: &[i32], bases: &[u8]) {
+fn call(output: &mut Buffer, words: &[i32], bases: &[u8]) {
     let used = match variants_and_fragments::check_case(words, bases) {
         Checked::Accepted(_) => done(output),
         Checked::Refused(r) => refused(output, r),

@@ -26,9 +26,9 @@ pub struct Parts {
 
 // The answer to the request; the reader after it, which failed where the request is unreadable.
 pub fn answer(
-    input: &mut [u8; 65536],
+    input: &mut Buffer,
     reader: Reader,
-    output: &mut [u8; 65536],
+    output: &mut Buffer,
     words: &mut [i32],
     bases: &mut [u8],
 ) -> Reader {
@@ -58,7 +58,7 @@ pub fn answer(
 
 // The parts of the request, in order.
 fn read_parts(
-    input: &mut [u8; 65536],
+    input: &mut Buffer,
     reader: Reader,
     words: &mut [i32],
     bases: &mut [u8],
@@ -94,7 +94,7 @@ pub struct Limits {
 }
 
 // The parts after the quals.
-fn read_limits(input: &mut [u8; 65536], reader: Reader, filters: &[u8]) -> Limits
+fn read_limits(input: &mut Buffer, reader: Reader, filters: &[u8]) -> Limits
     ensures { λ r. ⌜ Counts (r .filters) (now (filters .entry)) ⌝ }
 {
     let qual = input::read_f64(input, reader);
@@ -122,7 +122,7 @@ fn read_limits(input: &mut [u8; 65536], reader: Reader, filters: &[u8]) -> Limit
 
 // Calls the operation and prints its answer.
 fn call(
-    output: &mut [u8; 65536],
+    output: &mut Buffer,
     words: &[i32],
     bases: &[u8],
     quals: &[f64],

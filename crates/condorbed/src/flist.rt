@@ -20,9 +20,9 @@ pub struct Parts {
 
 // The answer to the request; the reader after it, which failed where the request is unreadable.
 pub fn answer(
-    input: &mut [u8; 65536],
+    input: &mut Buffer,
     reader: Reader,
-    output: &mut [u8; 65536],
+    output: &mut Buffer,
     words: &mut [i32],
     bases: &mut [u8],
 ) -> Reader {
@@ -47,7 +47,7 @@ pub fn answer(
 
 // The parts of the request, in order.
 fn read_parts(
-    input: &mut [u8; 65536],
+    input: &mut Buffer,
     reader: Reader,
     words: &mut [i32],
     bases: &mut [u8],
@@ -77,7 +77,7 @@ pub struct FlagPart {
 }
 
 // The next token as a flag, 0 or 1; the reader fails where it is neither.
-fn read_flag(input: &mut [u8; 65536], reader: Reader) -> FlagPart {
+fn read_flag(input: &mut Buffer, reader: Reader) -> FlagPart {
     let part = input::read_u8(input, reader);
     let value = part.value;
     let after = part.reader;
@@ -95,7 +95,7 @@ fn read_flag(input: &mut [u8; 65536], reader: Reader) -> FlagPart {
 
 // Calls the operation and prints its answer.
 fn call(
-    output: &mut [u8; 65536],
+    output: &mut Buffer,
     words: &[i32],
     bases: &[u8],
     single_reads: bool,
@@ -115,7 +115,7 @@ fn call(
 }
 
 // `done` with the bytes and the lines that were written.
-fn done_with(output: &mut [u8; 65536], bytes: usize, lines: usize) -> usize {
+fn done_with(output: &mut Buffer, bytes: usize, lines: usize) -> usize {
     let mut used = output::text(output, 0, b"done ");
     used = output::natural(output, used, bytes as u64);
     used = output::byte(output, used, b' ');

@@ -25,9 +25,9 @@ pub struct Parts {
 
 // The answer to the request; the reader after it, which failed where the request is unreadable.
 pub fn answer(
-    input: &mut [u8; 65536],
+    input: &mut Buffer,
     reader: Reader,
-    output: &mut [u8; 65536],
+    output: &mut Buffer,
     words: &mut [i32],
     bases: &mut [u8],
 ) -> Reader {
@@ -59,7 +59,7 @@ pub fn answer(
 
 // The parts of the request, in order.
 fn read_parts(
-    input: &mut [u8; 65536],
+    input: &mut Buffer,
     reader: Reader,
     words: &mut [i32],
     bases: &mut [u8],
@@ -97,7 +97,7 @@ pub struct Fronts {
 
 // `[variants i32]` `[quals f64]` `[gqs f64]`.
 fn read_fronts(
-    input: &mut [u8; 65536],
+    input: &mut Buffer,
     reader: Reader,
     variants: &[i32],
     quals: &[f64],
@@ -121,7 +121,7 @@ fn read_fronts(
 
 // Calls the operation and prints its answer.
 fn call(
-    output: &mut [u8; 65536],
+    output: &mut Buffer,
     words: &[i32],
     bases: &[u8],
     rates: Rates,

@@ -21,9 +21,9 @@ pub struct Parts {
 
 // The answer to the request; the reader after it, which failed where the request is unreadable.
 pub fn answer(
-    input: &mut [u8; 65536],
+    input: &mut Buffer,
     reader: Reader,
-    output: &mut [u8; 65536],
+    output: &mut Buffer,
     words: &mut [i32],
     bases: &mut [u8],
 ) -> Reader {
@@ -48,7 +48,7 @@ pub fn answer(
 
 // The parts of the request, in order.
 fn read_parts(
-    input: &mut [u8; 65536],
+    input: &mut Buffer,
     reader: Reader,
     words: &mut [i32],
     bases: &mut [u8],
@@ -72,7 +72,7 @@ fn read_parts(
 }
 
 // Calls the operation and prints its answer.
-fn call(output: &mut [u8; 65536], words: &[i32], bases: &[u8], seed: u64, orders: &mut [u32]) {
+fn call(output: &mut Buffer, words: &[i32], bases: &[u8], seed: u64, orders: &mut [u32]) {
     let first = match shuffle::sweep_orders(words, bases, seed, orders) {
         Ordered::Done => done(output),
         Ordered::Refused(r) => refused(output, r),

@@ -16,7 +16,7 @@ pub struct CasePart {
 
 // `<words i32>` `<bases u8>`.
 pub fn read_case(
-    input: &mut [u8; 65536],
+    input: &mut Buffer,
     reader: Reader,
     words: &mut [i32],
     bases: &mut [u8],
@@ -41,7 +41,7 @@ pub struct RatesPart {
 }
 
 // hom_snv het_snv hom_indel het_indel ts tv.
-pub fn read_rates(input: &mut [u8; 65536], reader: Reader) -> RatesPart {
+pub fn read_rates(input: &mut Buffer, reader: Reader) -> RatesPart {
     let hom_snv = read_rate(input, reader);
     let r1 = hom_snv.reader;
     let het_snv = read_rate(input, r1);
@@ -75,7 +75,7 @@ pub struct RatePart {
 }
 
 // One rate, an i32.
-fn read_rate(input: &mut [u8; 65536], reader: Reader) -> RatePart {
+fn read_rate(input: &mut Buffer, reader: Reader) -> RatePart {
     let part = input::read_i32(input, reader);
     let after = part.reader;
     RatePart {
@@ -100,7 +100,7 @@ pub struct PhasePart {
 
 // `<phase u8>` `<sets i32>`.
 pub fn read_phase(
-    input: &mut [u8; 65536],
+    input: &mut Buffer,
     reader: Reader,
     phase: &mut [u8],
     sets: &mut [i32],

@@ -13,9 +13,9 @@ use protocol::output;
 
 // The answer to the request; the reader after it, which failed where the request is unreadable.
 pub fn answer(
-    input: &mut [u8; 65536],
+    input: &mut Buffer,
     reader: Reader,
-    output: &mut [u8; 65536],
+    output: &mut Buffer,
     words: &mut [i32],
     bases: &mut [u8],
 ) -> Reader {
@@ -42,9 +42,9 @@ pub fn answer(
 
 // The same once all that the operation reads is read.
 fn answer_given(
-    input: &mut [u8; 65536],
+    input: &mut Buffer,
     reader: Reader,
-    output: &mut [u8; 65536],
+    output: &mut Buffer,
     words: &[i32],
     bases: &[u8],
     phase: &[u8],
@@ -84,7 +84,7 @@ pub struct Fronts {
 
 // `[haplotypes u8]` `[phased u8]` `[names u32]`.
 fn read_fronts(
-    input: &mut [u8; 65536],
+    input: &mut Buffer,
     reader: Reader,
     haplotypes: &[u8],
     phased: &[u8],
@@ -108,7 +108,7 @@ fn read_fronts(
 
 // Calls the operation and prints its answer.
 fn call(
-    output: &mut [u8; 65536],
+    output: &mut Buffer,
     words: &[i32],
     bases: &[u8],
     phase: &[u8],

@@ -23,9 +23,9 @@ pub struct Parts {
 
 // The answer to the request; the reader after it, which failed where the request is unreadable.
 pub fn answer(
-    input: &mut [u8; 65536],
+    input: &mut Buffer,
     reader: Reader,
-    output: &mut [u8; 65536],
+    output: &mut Buffer,
     words: &mut [i32],
     bases: &mut [u8],
 ) -> Reader {
@@ -45,7 +45,7 @@ pub fn answer(
 
 // The parts of the request, in order.
 fn read_parts(
-    input: &mut [u8; 65536],
+    input: &mut Buffer,
     reader: Reader,
     words: &mut [i32],
     bases: &mut [u8],
@@ -70,7 +70,7 @@ fn read_parts(
 }
 
 // Calls the operation and prints its answer.
-fn call(output: &mut [u8; 65536], words: &[i32], bases: &[u8], rates: Rates, priors: &mut [i64]) {
+fn call(output: &mut Buffer, words: &[i32], bases: &[u8], rates: Rates, priors: &mut [i64]) {
     let first = match genotype_probs::genotype_priors(words, bases, rates, priors) {
         Priored::Done => done(output),
         Priored::Refused(r) => refused(output, r),

@@ -90,8 +90,8 @@ fn named(word: u64) -> Operation
 
 // The answer to every request of the input. A proved loop has to end: at most 2^64 − 1 requests.
 pub fn answer_all(
-    input: &mut [u8; 65536],
-    output: &mut [u8; 65536],
+    input: &mut Buffer,
+    output: &mut Buffer,
     words: &mut [i32],
     bases: &mut [u8],
 ) {
@@ -111,9 +111,9 @@ pub fn answer_all(
 // The answer to one request; the reader after it, which failed where no other is to be answered.
 fn answer(
     operation: Operation,
-    input: &mut [u8; 65536],
+    input: &mut Buffer,
     reader: Reader,
-    output: &mut [u8; 65536],
+    output: &mut Buffer,
     words: &mut [i32],
     bases: &mut [u8],
 ) -> Reader {

@@ -16,9 +16,9 @@ use with_haplotypes::RoundAnswer;
 
 // The answer to the request; the reader after it, which failed where the request is unreadable.
 pub fn answer(
-    input: &mut [u8; 65536],
+    input: &mut Buffer,
     reader: Reader,
-    output: &mut [u8; 65536],
+    output: &mut Buffer,
     words: &mut [i32],
     bases: &mut [u8],
 ) -> Reader {
@@ -34,9 +34,9 @@ pub fn answer(
 
 // The same once the case and the rates are read.
 fn answer_case(
-    input: &mut [u8; 65536],
+    input: &mut Buffer,
     reader: Reader,
-    output: &mut [u8; 65536],
+    output: &mut Buffer,
     words: &[i32],
     bases: &[u8],
     rates: Rates,
@@ -61,9 +61,9 @@ fn answer_case(
 
 // The same once the given phase is read.
 fn answer_phase(
-    input: &mut [u8; 65536],
+    input: &mut Buffer,
     reader: Reader,
-    output: &mut [u8; 65536],
+    output: &mut Buffer,
     words: &[i32],
     bases: &[u8],
     rates: Rates,
@@ -92,9 +92,9 @@ fn answer_phase(
 
 // The same once all that the operation reads is read.
 fn answer_given(
-    input: &mut [u8; 65536],
+    input: &mut Buffer,
     reader: Reader,
-    output: &mut [u8; 65536],
+    output: &mut Buffer,
     words: &[i32],
     bases: &[u8],
     rates: Rates,
@@ -138,7 +138,7 @@ pub struct Fronts {
 
 // `[haplotypes u8]` `[likelihoods i64]` `[posteriors i64]`.
 fn read_fronts(
-    input: &mut [u8; 65536],
+    input: &mut Buffer,
     reader: Reader,
     haplotypes: &[u8],
     likelihoods: &[i64],
@@ -162,9 +162,9 @@ fn read_fronts(
 
 // The same once the haplotypes, likelihoods and posteriors are lent.
 fn answer_lent(
-    input: &mut [u8; 65536],
+    input: &mut Buffer,
     reader: Reader,
-    output: &mut [u8; 65536],
+    output: &mut Buffer,
     words: &[i32],
     bases: &[u8],
     rates: Rates,
@@ -211,7 +211,7 @@ pub struct QualitiesPart {
 
 // `[quals f64]` `[gqs f64]`.
 fn read_qualities(
-    input: &mut [u8; 65536],
+    input: &mut Buffer,
     reader: Reader,
     quals: &[f64],
     gqs: &[f64],
@@ -231,7 +231,7 @@ fn read_qualities(
 
 // Calls the operation and prints its answer.
 fn call(
-    output: &mut [u8; 65536],
+    output: &mut Buffer,
     words: &[i32],
     bases: &[u8],
     rates: Rates,
@@ -272,7 +272,7 @@ fn call(
 }
 
 // The first line: refused, or done with the fields.
-fn first_line(output: &mut [u8; 65536], answer: Round) -> usize {
+fn first_line(output: &mut Buffer, answer: Round) -> usize {
     match answer {
         Round::Done(x) => done_with(output, x),
         Round::Refused(r) => refused(output, r),
@@ -280,7 +280,7 @@ fn first_line(output: &mut [u8; 65536], answer: Round) -> usize {
 }
 
 // `done SWEEPS settled START END SOURCE`, or `unsettled` in place of `settled`.
-fn done_with(output: &mut [u8; 65536], x: RoundAnswer) -> usize {
+fn done_with(output: &mut Buffer, x: RoundAnswer) -> usize {
     let mut used = output::text(output, 0, b"done ");
     used = output::natural(output, used, x.sweeps as u64);
     used = settled_word(output, used, x.settled);
@@ -293,7 +293,7 @@ fn done_with(output: &mut [u8; 65536], x: RoundAnswer) -> usize {
 }
 
 // ` settled ` or ` unsettled `.
-fn settled_word(output: &mut [u8; 65536], used: usize, settled: bool) -> usize {
+fn settled_word(output: &mut Buffer, used: usize, settled: bool) -> usize {
     if settled {
         output::text(output, used, b" settled ")
     } else {
@@ -303,7 +303,7 @@ fn settled_word(output: &mut [u8; 65536], used: usize, settled: bool) -> usize {
 
 // One line for each output slice.
 fn print_slices(
-    output: &mut [u8; 65536],
+    output: &mut Buffer,
     first: usize,
     haplotypes: &[u8],
     likelihoods: &[i64],

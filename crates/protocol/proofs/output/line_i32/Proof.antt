@@ -23,8 +23,8 @@ shared-slice-copy-out-x c = search needs
 space-requires : tie.Need-space-requires Inv-loop μ-loop
 space-requires c κs = search needs
 
-from-i32-requires : tie.Need-from-i32-requires Inv-loop μ-loop
-from-i32-requires c κs = search needs
+widened-requires : tie.Need-widened-requires Inv-loop μ-loop
+widened-requires c κs = search needs
 
 integer-requires : tie.Need-integer-requires Inv-loop μ-loop
 integer-requires c κs = search needs
@@ -54,7 +54,7 @@ line-i32-spec =
     mul-x
     shared-slice-copy-out-x
     space-requires
-    from-i32-requires
+    widened-requires
     integer-requires
     add-i
     loop-less
