@@ -12,13 +12,12 @@ Inv-loop input₀ word₀ step₀ input word step = Unit {0}
 abbrev μ-loop : tie.MeasureT-loop
 μ-loop input₀ word₀ step₀ input word step = ahead step
 
+abbrev turn : tie.After-next Inv-loop μ-loop → tie.In-loop Inv-loop μ-loop
+turn c = c .before .before .before .before .before .before
+
 loop-less : tie.Need-loop-less Inv-loop μ-loop
 loop-less c =
-    step-falls
-    (c .before .before .before .before .before .before .before .loop .step)
-    (ahead (c .next .result))
-    (c .before .before .before .before .before .before .loop-test .taken)
-    (c .next .ensures)
+    step-falls (turn c .before .loop .step) (ahead (c .next .result)) (turn c .loop-test .taken) (c .next .ensures)
 
 pub read-word-spec : {M : Type 1} → statement M
 read-word-spec =

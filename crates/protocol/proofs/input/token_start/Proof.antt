@@ -12,13 +12,12 @@ Inv-loop input₀ step₀ comment₀ input step comment = Unit {0}
 abbrev μ-loop : tie.MeasureT-loop
 μ-loop input₀ step₀ comment₀ input step comment = ahead step
 
+abbrev turn : tie.After-next2 Inv-loop μ-loop → tie.In-loop Inv-loop μ-loop
+turn c = c .before .before .before .before .before .before
+
 loop-less : tie.Need-loop-less Inv-loop μ-loop
 loop-less c =
-    step-falls
-    (c .before .before .before .before .before .before .before .loop .step)
-    (ahead (c .next2 .result))
-    (c .before .before .before .before .before .before .loop-test .taken)
-    (c .next2 .ensures)
+    step-falls (turn c .before .loop .step) (ahead (c .next2 .result)) (turn c .loop-test .taken) (c .next2 .ensures)
 
 pub token-start-spec : {M : Type 1} → statement M
 token-start-spec =
