@@ -14,9 +14,6 @@ Inv-loop input₀ out₀ n after₀ i₀ input out after i = (i ≤ n) × (n ≤
 abbrev μ-loop : tie.MeasureT-loop
 μ-loop input₀ out₀ n after₀ i₀ input out after i = n - i
 
-returns : tie.Need-returns Inv-loop μ-loop
-returns c = counts (c .before .before .before .read-length .result .length) (c .before .loop .out) (omega arith)
-
 pub read-f64s-spec : {M : Type 1} → statement M
 read-f64s-spec =
     tie.close
@@ -32,4 +29,4 @@ read-f64s-spec =
     (λ c. search needs)
     (λ c. search needs)
     (λ c. search needs)
-    returns)
+    (λ c. counts _ _ (omega arith)))

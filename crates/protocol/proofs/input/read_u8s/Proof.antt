@@ -14,9 +14,6 @@ Inv-loop input₀ out₀ n after₀ i₀ input out after i = (i ≤ n) × (n ≤
 abbrev μ-loop : tie.MeasureT-loop
 μ-loop input₀ out₀ n after₀ i₀ input out after i = n - i
 
-returns : tie.Need-returns Inv-loop μ-loop
-returns c = counts (c .before .before .before .read-length .result .length) (c .before .loop .out) (omega arith)
-
 pub read-u8s-spec : {M : Type 1} → statement M
 read-u8s-spec =
     tie.close
@@ -31,4 +28,4 @@ read-u8s-spec =
     (λ c. search needs)
     (λ c. search needs)
     (λ c. search needs)
-    returns)
+    (λ c. counts _ _ (omega arith)))
