@@ -1,4 +1,5 @@
 // The first line of an answer, and what the program writes where a request cannot be read.
+use protocol::Buffer;
 use protocol::input::Reader;
 use protocol::output;
 use variants_and_fragments::Refusal;

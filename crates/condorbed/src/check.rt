@@ -3,6 +3,7 @@ use crate::answers::done;
 use crate::answers::refused;
 use crate::answers::unreadable;
 use crate::parts::read_case;
+use protocol::Buffer;
 use protocol::input::Reader;
 use protocol::output;
 use variants_and_fragments::Checked;

@@ -5,6 +5,7 @@ use crate::answers::unreadable;
 use crate::arrays;
 use crate::parts::read_case;
 use haplotype_assembly::Buffered;
+use protocol::Buffer;
 use protocol::input;
 use protocol::input::Reader;
 use protocol::output;
@@ -94,13 +95,7 @@ fn read_flag(input: &mut Buffer, reader: Reader) -> FlagPart {
 }
 
 // Calls the operation and prints its answer.
-fn call(
-    output: &mut Buffer,
-    words: &[i32],
-    bases: &[u8],
-    single_reads: bool,
-    buffer: &mut [u8],
-) {
+fn call(output: &mut Buffer, words: &[i32], bases: &[u8], single_reads: bool, buffer: &mut [u8]) {
     let first = match haplotype_assembly::generate_flist_buffer(
         words,
         bases,

@@ -5,6 +5,7 @@ use crate::answers::refused;
 use crate::answers::unreadable;
 use crate::arrays;
 use crate::parts::read_case;
+use protocol::Buffer;
 use protocol::input;
 use protocol::input::Reader;
 use protocol::output;

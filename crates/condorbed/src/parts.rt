@@ -1,10 +1,11 @@
-// The parts that several requests have: a case, the rates, a given phase. Each part says what was read, and has the
-// reader after it.
-ghost use mathlib.Core.Path.{_≡_};
+// The parts that several requests have: a case, the rates, a given phase, the lengths of the qualities. Each part says
+// what was read, and has the reader after it.
 ghost use Rattle.protocol.specs.Input.{Counts};
 use genotype_probs::Rates;
+use protocol::Buffer;
 use protocol::input;
 use protocol::input::Reader;
+use protocol::number::widened;
 use steps::LogProb;
 
 // A case that was read: the lengths of its two slices, and the reader after them.
@@ -84,13 +85,6 @@ fn read_rate(input: &mut Buffer, reader: Reader) -> RatePart {
     }
 }
 
-// The same number as an i64.
-fn widened(x: i32) -> i64
-    ensures { λ r. ⌜ r ≡ x ⌝ }
-{
-    x as i64
-}
-
 // A given phase that was read: the lengths of its two slices, and the reader after them.
 pub struct PhasePart {
     pub phase: usize,
@@ -115,5 +109,32 @@ pub fn read_phase(
         phase: p.length,
         sets: s.length,
         reader: end,
+    }
+}
+
+// The lengths of the slices of qualities, and the reader after them.
+pub struct QualitiesPart {
+    pub quals: usize,
+    pub gqs: usize,
+    pub reader: Reader,
+}
+
+// `[quals f64]` `[gqs f64]`.
+pub fn read_qualities(
+    input: &mut Buffer,
+    reader: Reader,
+    quals: &[f64],
+    gqs: &[f64],
+) -> QualitiesPart
+    ensures { λ r. ⌜ Counts (r .quals) (now (quals .entry)) × Counts (r .gqs) (now (gqs .entry)) ⌝ }
+{
+    let q = input::read_front_f64(input, reader, quals);
+    let r1 = q.reader;
+    let g = input::read_front_f64(input, r1, gqs);
+    let after = g.reader;
+    QualitiesPart {
+        quals: q.length,
+        gqs: g.length,
+        reader: after,
     }
 }

@@ -7,6 +7,7 @@ use crate::arrays;
 use crate::parts::read_case;
 use crate::parts::read_phase;
 use haplotype_assembly::Phased;
+use protocol::Buffer;
 use protocol::input;
 use protocol::input::Reader;
 use protocol::output;

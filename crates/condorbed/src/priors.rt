@@ -8,6 +8,7 @@ use crate::parts::read_case;
 use crate::parts::read_rates;
 use genotype_probs::Priored;
 use genotype_probs::Rates;
+use protocol::Buffer;
 use protocol::input;
 use protocol::input::Reader;
 use protocol::output;

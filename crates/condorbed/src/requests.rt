@@ -1,13 +1,13 @@
 // Which operation a request's word asks for, and the loop over the requests.
 //
-// A request more: its word in `Operation`, `named` and specs/Requests.antt, its law in proofs/Names.antt,
-// its arrays in arrays.rt, and a file of three functions, as filter.rt: `read_parts` (contract: each length
-// `Counts` in its array), `answer`, which lends the fronts of the arrays, and `call`, which calls the
-// operation and prints the first line and one line for each output slice.
+// One request more: its word in `Operation` and `named`, with a row in specs/Requests.antt and a line in
+// proofs/requests/named; its arrays in arrays.rt; an arm in `answer`; and a file of three functions, as filter.rt:
+// `read_parts` (contract: each length `Counts` in its array), `answer`, which lends the fronts of the arrays, and
+// `call`, which calls the operation and prints the first line and one line for each output slice.
 // Where a request has many parts, `answer` lends what it read to a second function, as in phase.rt and run.rt, so that
 // no function's proof has too much to look through.
 ghost use mathlib.Core.Path.{_≡_};
-ghost use Rattle.condorbed.specs.Requests.{operationOf};
+ghost use Rattle.condorbed.specs.Requests.{operationOfWord};
 use crate::answers::unreadable;
 use crate::check;
 use crate::filter;
@@ -17,6 +17,7 @@ use crate::orders;
 use crate::phase;
 use crate::priors;
 use crate::run;
+use protocol::Buffer;
 use protocol::input;
 use protocol::input::Reader;
 
@@ -54,47 +55,26 @@ const NOHAP: u64 = 1573827142000;
 
 const RUN: u64 = 24278382;
 
-// The operation that a word names; none at the end of the input.
+// The operation that a word names; End at the end of the input.
 fn named(word: u64) -> Operation
-    ensures { λ r. ⌜ r ≡ operationOf word ⌝ }
+    ensures { λ r. ⌜ r ≡ operationOfWord word ⌝ }
 {
-    if word == END {
-        return Operation::End;
+    match word {
+        END => Operation::End,
+        CHECK => Operation::Check,
+        FILTER => Operation::Filter,
+        PRIORS => Operation::Priors,
+        ORDERS => Operation::Orders,
+        PHASE => Operation::Phase,
+        FLIST => Operation::Flist,
+        NOHAP => Operation::Nohap,
+        RUN => Operation::Run,
+        _ => Operation::Unknown,
     }
-    if word == CHECK {
-        return Operation::Check;
-    }
-    if word == FILTER {
-        return Operation::Filter;
-    }
-    if word == PRIORS {
-        return Operation::Priors;
-    }
-    if word == ORDERS {
-        return Operation::Orders;
-    }
-    if word == PHASE {
-        return Operation::Phase;
-    }
-    if word == FLIST {
-        return Operation::Flist;
-    }
-    if word == NOHAP {
-        return Operation::Nohap;
-    }
-    if word == RUN {
-        return Operation::Run;
-    }
-    Operation::Unknown
 }
 
 // The answer to every request of the input. A proved loop has to end: at most 2^64 − 1 requests.
-pub fn answer_all(
-    input: &mut Buffer,
-    output: &mut Buffer,
-    words: &mut [i32],
-    bases: &mut [u8],
-) {
+pub fn answer_all(input: &mut Buffer, output: &mut Buffer, words: &mut [i32], bases: &mut [u8]) {
     let mut reader = Reader::new();
     let mut left: u64 = 18446744073709551615;
     while reader.ok {

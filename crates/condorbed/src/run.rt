@@ -6,8 +6,10 @@ use crate::answers::unreadable;
 use crate::arrays;
 use crate::parts::read_case;
 use crate::parts::read_phase;
+use crate::parts::read_qualities;
 use crate::parts::read_rates;
 use genotype_probs::Rates;
+use protocol::Buffer;
 use protocol::input;
 use protocol::input::Reader;
 use protocol::output;
@@ -76,18 +78,27 @@ fn answer_phase(
     let r1 = lent.reader;
     let limit = input::read_u32(input, r1);
     let after = limit.reader;
+    let given = Given {
+        rates,
+        limit: limit.value,
+    };
     answer_given(
         input,
         after,
         output,
         words,
         bases,
-        rates,
+        given,
         phase,
         sets,
         &orders[..o],
-        limit.value,
     )
+}
+
+// The numbers that the operation reads.
+pub struct Given {
+    pub rates: Rates,
+    pub limit: u32,
 }
 
 // The same once all that the operation reads is read.
@@ -97,11 +108,10 @@ fn answer_given(
     output: &mut Buffer,
     words: &[i32],
     bases: &[u8],
-    rates: Rates,
+    given: Given,
     phase: &[u8],
     sets: &[i32],
     orders: &[u32],
-    limit: u32,
 ) -> Reader {
     let mut haplotypes = arrays::haplotypes();
     let mut likelihoods = arrays::likelihoods();
@@ -117,11 +127,10 @@ fn answer_given(
         output,
         words,
         bases,
-        rates,
+        given,
         phase,
         sets,
         orders,
-        limit,
         &mut haplotypes[..h],
         &mut likelihoods[..l],
         &mut posteriors[..p],
@@ -167,11 +176,10 @@ fn answer_lent(
     output: &mut Buffer,
     words: &[i32],
     bases: &[u8],
-    rates: Rates,
+    given: Given,
     phase: &[u8],
     sets: &[i32],
     orders: &[u32],
-    limit: u32,
     haplotypes: &mut [u8],
     likelihoods: &mut [i64],
     posteriors: &mut [i64],
@@ -188,11 +196,10 @@ fn answer_lent(
         output,
         words,
         bases,
-        rates,
+        given,
         phase,
         sets,
         orders,
-        limit,
         haplotypes,
         likelihoods,
         posteriors,
@@ -202,49 +209,22 @@ fn answer_lent(
     part.reader
 }
 
-// The lengths of the slices of qualities, and the reader after them.
-pub struct QualitiesPart {
-    pub quals: usize,
-    pub gqs: usize,
-    pub reader: Reader,
-}
-
-// `[quals f64]` `[gqs f64]`.
-fn read_qualities(
-    input: &mut Buffer,
-    reader: Reader,
-    quals: &[f64],
-    gqs: &[f64],
-) -> QualitiesPart
-    ensures { λ r. ⌜ Counts (r .quals) (now (quals .entry)) × Counts (r .gqs) (now (gqs .entry)) ⌝ }
-{
-    let q = input::read_front_f64(input, reader, quals);
-    let r1 = q.reader;
-    let g = input::read_front_f64(input, r1, gqs);
-    let after = g.reader;
-    QualitiesPart {
-        quals: q.length,
-        gqs: g.length,
-        reader: after,
-    }
-}
-
 // Calls the operation and prints its answer.
 fn call(
     output: &mut Buffer,
     words: &[i32],
     bases: &[u8],
-    rates: Rates,
+    given: Given,
     phase: &[u8],
     sets: &[i32],
     orders: &[u32],
-    limit: u32,
     haplotypes: &mut [u8],
     likelihoods: &mut [i64],
     posteriors: &mut [i64],
     quals: &mut [f64],
     gqs: &mut [f64],
 ) {
+    let rates = given.rates;
     let answer = with_haplotypes::call_genotypes_with_haplotypes(
         words,
         bases,
@@ -252,7 +232,7 @@ fn call(
         phase,
         sets,
         orders,
-        limit,
+        given.limit,
         haplotypes,
         likelihoods,
         posteriors,
