@@ -9,8 +9,8 @@ use borrow.Author.Tests.{eqb-true, eq-eqb, ne-eqb, ltb-true}
 use Rattle.protocol.specs.Word.{wordOf, pushedBytes}
 use Rattle.protocol.proofs.Words.{Bytes, none, more, word-same}
 use Rattle.protocol.proofs.Readings.{both}
-use Rattle.condorbed.specs.Requests.{Row, requests, found, sameBytes, operationOf, operationOfWord}
-use Rattle.condorbed.specs.declared.requests.Operation.the-variants.{Unknown}
+use Rattle.condorbed.specs.Requests.{Row, requests, found, sameBytes, askedBy, askedByWord}
+use Rattle.condorbed.specs.declared.requests.Asked.the-variants.{Unknown}
 
 -- The test of bytes finds equal tokens.
 same-true : (t u : List ℕ) → sameBytes t u ≡ true → t ≡ u
@@ -69,8 +69,8 @@ rows-same t bt (r ∷ rs) h =
     simp (tests, rows-same t bt rs (parts .1))
 
 -- The law.
-pub word-finds : (t : List ℕ) → Bytes t → operationOfWord (wordOf t) ≡ operationOf t
-unfolding operationOfWord operationOf
+pub word-finds : (t : List ℕ) → Bytes t → askedByWord (wordOf t) ≡ askedBy t
+unfolding askedByWord askedBy
 word-finds t bt = rows-same t bt requests requests-short
 
 -- That a word is the number of no row's name, told row by row as a `match` tells it of its arms; before them stands `told`.
@@ -85,6 +85,6 @@ none-found word (r ∷ rs) others =
     let later = none-found word rs others in
     (later .0 .0, simp (ne-eqb word (wordOf (r .name)) (later .0 .1)) (later .1))
 
-pub unknown : (word : ℕ) → NoneOf word requests (Unit {0}) → Unknown ≡ operationOfWord word
-unfolding operationOfWord
+pub unknown : (word : ℕ) → NoneOf word requests (Unit {0}) → Unknown ≡ askedByWord word
+unfolding askedByWord
 unknown word others = none-found word requests others .1

@@ -5,34 +5,44 @@ use Prim.Native.Nat.{ℕ}
 use lib.Dec.{eqb}
 use Rattle.protocol.specs.Word.{wordOf}
 use Rattle.condorbed.specs.declared.requests.Operation.{Operation}
-use Rattle.condorbed.specs.declared.requests.Operation.the-variants.{End, Check, Filter, Priors, Orders, Phase, Flist, Nohap, Run, Unknown}
+use Rattle.condorbed.specs.declared.requests.Operation.the-variants.{Check, Filter, Priors, Orders, Phase, Flist, Nohap, Run}
+use Rattle.condorbed.specs.declared.requests.Asked.{Asked}
+use Rattle.condorbed.specs.declared.requests.Asked.the-variants.{End, For, Unknown}
 
--- a request's word, byte by byte, and the operation that it asks for
+-- a token, byte by byte, and what it asks for
 pub record Row : Type 0 where
   pub name : List ℕ
-  pub operation : Operation
+  pub asks : Asked
 
 abbrev row : List ℕ → Operation → Row
-row name operation = record { name = name; operation = operation }
+row name operation = record { name = name; asks = For operation }
 
--- the requests: `check`, `filter`, `priors`, `orders`, `phase`, `flist`, `nohap`, `run`; a token of no bytes is the end of the input
+-- the requests' words; a token of no bytes is the end of the input
 unfoldable pub requests : List Row
 requests =
-    row [] End
+    record { name = []; asks = End }
+    -- check
     ∷ row (99 ∷ 104 ∷ 101 ∷ 99 ∷ 107 ∷ []) Check
+    -- filter
     ∷ row (102 ∷ 105 ∷ 108 ∷ 116 ∷ 101 ∷ 114 ∷ []) Filter
+    -- priors
     ∷ row (112 ∷ 114 ∷ 105 ∷ 111 ∷ 114 ∷ 115 ∷ []) Priors
+    -- orders
     ∷ row (111 ∷ 114 ∷ 100 ∷ 101 ∷ 114 ∷ 115 ∷ []) Orders
+    -- phase
     ∷ row (112 ∷ 104 ∷ 97 ∷ 115 ∷ 101 ∷ []) Phase
+    -- flist
     ∷ row (102 ∷ 108 ∷ 105 ∷ 115 ∷ 116 ∷ []) Flist
+    -- nohap
     ∷ row (110 ∷ 111 ∷ 104 ∷ 97 ∷ 112 ∷ []) Nohap
+    -- run
     ∷ row (114 ∷ 117 ∷ 110 ∷ []) Run
     ∷ []
 
--- the operation of the first of these rows whose name passes the test
-unfoldable pub found : (List ℕ → Bool) → List Row → Operation
+-- what the first of these rows asks for whose name passes the test
+unfoldable pub found : (List ℕ → Bool) → List Row → Asked
 found test [] = Unknown
-found test (r ∷ rs) = cond (test (r .name)) (r .operation) (found test rs)
+found test (r ∷ rs) = cond (test (r .name)) (r .asks) (found test rs)
 
 -- whether two tokens have the same bytes
 unfoldable pub sameBytes : List ℕ → List ℕ → Bool
@@ -41,10 +51,10 @@ sameBytes [] (y ∷ ys) = false
 sameBytes (x ∷ xs) [] = false
 sameBytes (x ∷ xs) (y ∷ ys) = eqb x y && sameBytes xs ys
 
--- the operation that a token asks for
-unfoldable pub operationOf : List ℕ → Operation
-operationOf token = found (sameBytes token) requests
+-- what a token asks for
+unfoldable pub askedBy : List ℕ → Asked
+askedBy token = found (sameBytes token) requests
 
 -- the same by the number of the token's word
-unfoldable pub operationOfWord : ℕ → Operation
-operationOfWord word = found (λ name. eqb word (wordOf name)) requests
+unfoldable pub askedByWord : ℕ → Asked
+askedByWord word = found (λ name. eqb word (wordOf name)) requests

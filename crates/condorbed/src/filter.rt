@@ -1,12 +1,10 @@
 // `filter`: `<words i32>` `<bases u8>` `<quals f64>` density_qual density_dist density_count
 // max_depth `[filters u8]`.
-ghost use mathlib.Core.Path.{_≡_};
 ghost use Rattle.protocol.specs.Input.{Counts};
 use crate::answers::done;
 use crate::answers::refused;
 use crate::answers::unreadable;
 use crate::arrays;
-use crate::parts::read_case;
 use protocol::Buffer;
 use protocol::input;
 use protocol::input::Reader;
@@ -14,76 +12,36 @@ use protocol::output;
 use variants_and_fragments::DensityParameters;
 use variants_and_fragments::Filtered;
 
-// What was read, and the reader after it.
-pub struct Parts {
-    pub words: usize,
-    pub bases: usize,
-    pub quals: usize,
-    pub density: DensityParameters,
-    pub max_depth: u32,
-    pub filters: usize,
-    pub reader: Reader,
-}
-
-// The answer to the request; the reader after it, which failed where the request is unreadable.
+// The answer to the request once its case is read; the reader after it, which failed where the request is unreadable.
 pub fn answer(
     input: &mut Buffer,
     reader: Reader,
     output: &mut Buffer,
-    words: &mut [i32],
-    bases: &mut [u8],
+    words: &[i32],
+    bases: &[u8],
 ) -> Reader {
     let mut quals = arrays::quals();
     let mut filters = arrays::filters();
-    let part = read_parts(input, reader, words, bases, &mut quals, &filters);
-    let w = part.words;
-    let b = part.bases;
-    let q = part.quals;
-    let f = part.filters;
-    let density = part.density;
-    let after = part.reader;
+    let given = input::read_f64s(input, reader, &mut quals);
+    let q = given.length;
+    let r1 = given.reader;
+    let rest = read_limits(input, r1, &filters);
+    let density = rest.density;
+    let f = rest.filters;
+    let after = rest.reader;
     if !after.ok {
         return unreadable(output, after);
     }
     call(
         output,
-        &words[..w],
-        &bases[..b],
+        words,
+        bases,
         &quals[..q],
         density,
-        part.max_depth,
+        rest.max_depth,
         &mut filters[..f],
     );
     after
-}
-
-// The parts of the request, in order.
-fn read_parts(
-    input: &mut Buffer,
-    reader: Reader,
-    words: &mut [i32],
-    bases: &mut [u8],
-    quals: &mut [f64],
-    filters: &[u8],
-) -> Parts
-    ensures { λ r. ⌜ Counts (r .words) (now (words .exit)) × Counts (r .bases) (now (bases .exit)) × Counts (r .quals) (now (quals .exit)) × Counts (r .filters) (now (filters .entry)) ⌝ }
-{
-    let case = read_case(input, reader, words, bases);
-    let r1 = case.reader;
-    let q = input::read_f64s(input, r1, quals);
-    let r2 = q.reader;
-    let rest = read_limits(input, r2, filters);
-    let density = rest.density;
-    let after = rest.reader;
-    Parts {
-        words: case.words,
-        bases: case.bases,
-        quals: q.length,
-        density,
-        max_depth: rest.max_depth,
-        filters: rest.filters,
-        reader: after,
-    }
 }
 
 // density_qual density_dist density_count max_depth `[filters u8]`, and the reader after them.

@@ -3,7 +3,6 @@ use crate::answers::done;
 use crate::answers::refused;
 use crate::answers::unreadable;
 use crate::arrays;
-use crate::parts::read_case;
 use crate::parts::read_qualities;
 use crate::parts::read_rates;
 use genotype_probs::Rates;
@@ -13,40 +12,24 @@ use protocol::input;
 use protocol::input::Reader;
 use protocol::output;
 
-// The answer to the request; the reader after it, which failed where the request is unreadable.
+// The answer to the request once its case is read; the reader after it, which failed where the request is unreadable.
 pub fn answer(
-    input: &mut Buffer,
-    reader: Reader,
-    output: &mut Buffer,
-    words: &mut [i32],
-    bases: &mut [u8],
-) -> Reader {
-    let case = read_case(input, reader, words, bases);
-    let w = case.words;
-    let b = case.bases;
-    let r1 = case.reader;
-    let given = read_rates(input, r1);
-    let rates = given.rates;
-    let after = given.reader;
-    answer_given(input, after, output, &words[..w], &bases[..b], rates)
-}
-
-// The same once all that the operation reads is read.
-fn answer_given(
     input: &mut Buffer,
     reader: Reader,
     output: &mut Buffer,
     words: &[i32],
     bases: &[u8],
-    rates: Rates,
 ) -> Reader {
     let mut variants = arrays::variants();
     let mut quals = arrays::quals();
     let mut gqs = arrays::gqs();
-    let front = input::read_front_i32(input, reader, &variants);
+    let given = read_rates(input, reader);
+    let rates = given.rates;
+    let r1 = given.reader;
+    let front = input::read_front_i32(input, r1, &variants);
     let v = front.length;
-    let r1 = front.reader;
-    let lent = read_qualities(input, r1, &quals, &gqs);
+    let r2 = front.reader;
+    let lent = read_qualities(input, r2, &quals, &gqs);
     let q = lent.quals;
     let g = lent.gqs;
     let after = lent.reader;

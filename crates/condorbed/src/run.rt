@@ -4,7 +4,6 @@ ghost use Rattle.protocol.specs.Input.{Counts};
 use crate::answers::refused;
 use crate::answers::unreadable;
 use crate::arrays;
-use crate::parts::read_case;
 use crate::parts::read_phase;
 use crate::parts::read_qualities;
 use crate::parts::read_rates;
@@ -16,36 +15,20 @@ use protocol::output;
 use with_haplotypes::Round;
 use with_haplotypes::RoundAnswer;
 
-// The answer to the request; the reader after it, which failed where the request is unreadable.
+// The answer to the request once its case is read; the reader after it, which failed where the request is unreadable.
 pub fn answer(
-    input: &mut Buffer,
-    reader: Reader,
-    output: &mut Buffer,
-    words: &mut [i32],
-    bases: &mut [u8],
-) -> Reader {
-    let case = read_case(input, reader, words, bases);
-    let w = case.words;
-    let b = case.bases;
-    let r1 = case.reader;
-    let given = read_rates(input, r1);
-    let rates = given.rates;
-    let after = given.reader;
-    answer_case(input, after, output, &words[..w], &bases[..b], rates)
-}
-
-// The same once the case and the rates are read.
-fn answer_case(
     input: &mut Buffer,
     reader: Reader,
     output: &mut Buffer,
     words: &[i32],
     bases: &[u8],
-    rates: Rates,
 ) -> Reader {
     let mut phase = arrays::phase();
     let mut sets = arrays::sets();
-    let given = read_phase(input, reader, &mut phase, &mut sets);
+    let part = read_rates(input, reader);
+    let rates = part.rates;
+    let r1 = part.reader;
+    let given = read_phase(input, r1, &mut phase, &mut sets);
     let p = given.phase;
     let s = given.sets;
     let after = given.reader;

@@ -1,12 +1,12 @@
 -- `requests::named` meets its contract: each arm's number is that of its row's name, and `_` is left to the words of no row. Assumes nothing.
 use Rattle.protocol.specs.Word.{wordOf, pushedBytes}
-use Rattle.condorbed.specs.Requests.{operationOfWord, requests, found}
+use Rattle.condorbed.specs.Requests.{askedByWord, requests, found}
 use Rattle.condorbed.proofs.Names.{NoneOf, unknown}
 use Rattle.condorbed.proofs.requests.named.Statement.{statement}
 use Rattle.condorbed.proofs.requests.named.Tie as tie
 
 pub named-spec : {M : Type 1} → statement M
-unfolding operationOfWord found requests wordOf pushedBytes NoneOf
+unfolding askedByWord found requests wordOf pushedBytes NoneOf
 named-spec =
     tie.close
     (tie.spec
