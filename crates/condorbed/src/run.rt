@@ -207,11 +207,10 @@ fn call(
     quals: &mut [f64],
     gqs: &mut [f64],
 ) {
-    let rates = given.rates;
     let answer = with_haplotypes::call_genotypes_with_haplotypes(
         words,
         bases,
-        rates,
+        given.rates,
         phase,
         sets,
         orders,
@@ -222,10 +221,9 @@ fn call(
         quals,
         gqs,
     );
-    let first = first_line(output, answer);
-    print_slices(
+    print_answer(
         output,
-        first,
+        answer,
         haplotypes,
         likelihoods,
         posteriors,
@@ -264,17 +262,18 @@ fn settled_word(output: &mut Buffer, used: usize, settled: bool) -> usize {
     }
 }
 
-// One line for each output slice.
-fn print_slices(
+// Prints the first line, and one line for each output slice.
+fn print_answer(
     output: &mut Buffer,
-    first: usize,
+    answer: Round,
     haplotypes: &[u8],
     likelihoods: &[i64],
     posteriors: &[i64],
     quals: &[f64],
     gqs: &[f64],
 ) {
-    let mut used = output::line_u8(output, first, haplotypes);
+    let mut used = first_line(output, answer);
+    used = output::line_u8(output, used, haplotypes);
     used = output::line_i64(output, used, likelihoods);
     used = output::line_i64(output, used, posteriors);
     used = output::line_f64(output, used, quals);

@@ -1,6 +1,5 @@
 -- `requests::answer_all` is safe and ends. The measure is the number of requests that may still come; the arrays keep their lengths. Assumes nothing.
 use mathlib.Core.Path.{_≡_}
-use Prim.Native.Nat.{_-_}
 use lib.ListN.{length}
 use borrow.Author.Needs.{needs}
 use Rattle.condorbed.proofs.requests.answer_all.Statement.{statement}

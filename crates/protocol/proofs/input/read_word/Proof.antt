@@ -1,5 +1,4 @@
 -- `input::read_word` is safe and ends. The measure is how far the step is from the end of what may be read. Assumes nothing.
-use Prim.Native.Nat.{_-_}
 use borrow.Author.Needs.{needs}
 use Rattle.protocol.specs.Input.{ahead}
 use Rattle.protocol.proofs.Reading.{step-falls}
