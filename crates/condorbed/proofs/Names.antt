@@ -1,105 +1,90 @@
--- A request's word names its operation and no other token does: equal numbers of short words have equal bytes. Assumes nothing.
-use mathlib.Core.Path.{_≡_, refl}
-use mathlib.Core.Bool.{Bool, true, false}
-use mathlib.Core.List.{List, []}
+-- The number of a token's word finds the request that the token's bytes find: equal numbers of short words have equal bytes.
+-- By induction on the rows of the table. Assumes nothing.
+use mathlib.Core.Path.{_≡_, refl, sym, ap, _∙_}
+use mathlib.Core.Bool.{Bool, true, false, _&&_, false≢true}
+use mathlib.Core.List.{List, [], _∷_}
 use Prim.Native.Nat.{ℕ, _<_, _^_}
-use lib.Dec.{eqb, lit<}
-use borrow.Author.Tests.{eqb-true}
+use lib.Dec.{eqb, ltb}
+use borrow.Author.Tests.{eqb-true, eq-eqb, ne-eqb, ltb-true}
 use Rattle.protocol.specs.Word.{wordOf, pushedBytes}
 use Rattle.protocol.proofs.Words.{Bytes, none, more, word-same}
-use Rattle.condorbed.specs.Requests.{operationOf, orElse, checkName, filterName, priorsName, ordersName, phaseName, flistName, nohapName, runName}
-use Rattle.condorbed.specs.declared.requests.Operation.{Operation}
-use Rattle.condorbed.specs.declared.requests.Operation.the-variants.{End, Check, Filter, Priors, Orders, Phase, Flist, Nohap, Run, Unknown}
+use Rattle.protocol.proofs.Readings.{both}
+use Rattle.condorbed.specs.Requests.{Row, requests, found, sameBytes, askedBy, askedByWord}
+use Rattle.condorbed.specs.declared.requests.Asked.the-variants.{Unknown}
 
--- what a token is where it names an operation
-pub Named : List ℕ → Operation → Type 0
-Named t End = t ≡ []
-Named t Check = t ≡ checkName
-Named t Filter = t ≡ filterName
-Named t Priors = t ≡ priorsName
-Named t Orders = t ≡ ordersName
-Named t Phase = t ≡ phaseName
-Named t Flist = t ≡ flistName
-Named t Nohap = t ≡ nohapName
-Named t Run = t ≡ runName
-Named t Unknown = Unit {0}
+-- The test of bytes finds equal tokens.
+same-true : (t u : List ℕ) → sameBytes t u ≡ true → t ≡ u
+unfolding sameBytes
+same-true [] [] h = refl
+same-true [] (y ∷ u) h = absurd (false≢true h)
+same-true (x ∷ t) [] h = absurd (false≢true h)
+same-true (x ∷ t) (y ∷ u) h =
+    let parts = both (eqb x y) (sameBytes t u) h in
+    let first : x ≡ y = eqb-true x y (parts .0) in
+    let rest : t ≡ u = same-true t u (parts .1) in cc
 
-check-bytes : Bytes checkName
-check-bytes = more (lit< tt) (more (lit< tt) (more (lit< tt) (more (lit< tt) (more (lit< tt) none))))
+same-self : (t : List ℕ) → sameBytes t t ≡ true
+unfolding sameBytes
+same-self [] = refl
+same-self (x ∷ t) = simp (eq-eqb x x refl, same-self t)
 
-filter-bytes : Bytes filterName
-filter-bytes = more (lit< tt) (more (lit< tt) (more (lit< tt) (more (lit< tt) (more (lit< tt) (more (lit< tt) none)))))
+-- A name that is short enough for its number to tell its bytes.
+allBytes : List ℕ → Bool
+allBytes [] = true
+allBytes (b ∷ bs) = ltb b 256 && allBytes bs
 
-priors-bytes : Bytes priorsName
-priors-bytes = more (lit< tt) (more (lit< tt) (more (lit< tt) (more (lit< tt) (more (lit< tt) (more (lit< tt) none)))))
+bytes-of : (t : List ℕ) → allBytes t ≡ true → Bytes t
+unfolding allBytes
+bytes-of [] h = none
+bytes-of (b ∷ bs) h =
+    let parts = both (ltb b 256) (allBytes bs) h in more (ltb-true b 256 (parts .0)) (bytes-of bs (parts .1))
 
-orders-bytes : Bytes ordersName
-orders-bytes = more (lit< tt) (more (lit< tt) (more (lit< tt) (more (lit< tt) (more (lit< tt) (more (lit< tt) none)))))
+allShort : List Row → Bool
+allShort [] = true
+allShort (r ∷ rs) = (allBytes (r .name) && ltb (wordOf (r .name)) (2 ^ 56)) && allShort rs
 
-phase-bytes : Bytes phaseName
-phase-bytes = more (lit< tt) (more (lit< tt) (more (lit< tt) (more (lit< tt) (more (lit< tt) none))))
+requests-short : allShort requests ≡ true
+unfolding allShort allBytes requests wordOf pushedBytes
+requests-short = refl
 
-flist-bytes : Bytes flistName
-flist-bytes = more (lit< tt) (more (lit< tt) (more (lit< tt) (more (lit< tt) (more (lit< tt) none))))
+-- At a short name both tests say the same of a token.
+module _ (t u : List ℕ) (bt : Bytes t) (bu : Bytes u) (short : wordOf u < 2 ^ 56) where
+  tests-same : (a b : Bool) → eqb (wordOf t) (wordOf u) ≡ a → sameBytes t u ≡ b → a ≡ b
+  tests-same true true ha hb = refl
+  tests-same false false ha hb = refl
+  tests-same true false ha hb =
+      let same : t ≡ u = word-same t u bt bu short (eqb-true (wordOf t) (wordOf u) ha) in
+      sym (same-self t) ∙ ap (sameBytes t) same ∙ hb
+  tests-same false true ha hb =
+      let same : t ≡ u = same-true t u hb in
+      sym ha ∙ eq-eqb (wordOf t) (wordOf u) (ap wordOf same)
 
-nohap-bytes : Bytes nohapName
-nohap-bytes = more (lit< tt) (more (lit< tt) (more (lit< tt) (more (lit< tt) (more (lit< tt) none))))
+rows-same : (t : List ℕ) → Bytes t → (rs : List Row) → allShort rs ≡ true → found (λ name. eqb (wordOf t) (wordOf name)) rs ≡ found (sameBytes t) rs
+unfolding found allShort
+rows-same t bt [] h = refl
+rows-same t bt (r ∷ rs) h =
+    let parts = both (allBytes (r .name) && ltb (wordOf (r .name)) (2 ^ 56)) (allShort rs) h in
+    let row = both (allBytes (r .name)) (ltb (wordOf (r .name)) (2 ^ 56)) (parts .0) in
+    let tests = tests-same t (r .name) bt (bytes-of (r .name) (row .0)) (ltb-true (wordOf (r .name)) (2 ^ 56) (row .1)) _ _ refl refl in
+    simp (tests, rows-same t bt rs (parts .1))
 
-run-bytes : Bytes runName
-run-bytes = more (lit< tt) (more (lit< tt) (more (lit< tt) none))
+-- The law.
+pub word-finds : (t : List ℕ) → Bytes t → askedByWord (wordOf t) ≡ askedBy t
+unfolding askedByWord askedBy
+word-finds t bt = rows-same t bt requests requests-short
 
-module _ (t : List ℕ) (bytes : Bytes t) where
-  -- One name more: where the word is the name's, the token is the name.
-  by-test : (name : List ℕ) (op other : Operation) (same : Bool) → eqb (wordOf t) (wordOf name) ≡ same → Bytes name → wordOf name < 2 ^ 56 → (t ≡ name → Named t op) → Named t other → Named t (orElse (wordOf t) name op other)
-  by-test name op other true h b short to rest = simp h (to (word-same t name bytes b short (eqb-true (wordOf t) (wordOf name) h)))
-  by-test name op other false h b short to rest = simp h rest
+-- That a word is the number of no row's name, told row by row as a `match` tells it of its arms; before them stands `told`.
+unfoldable pub NoneOf : ℕ → List Row → Type 0 → Type 0
+NoneOf word [] told = told
+NoneOf word (r ∷ rs) told = NoneOf word rs (told × (word ≡ wordOf (r .name) → ⊥))
 
-  name-more : (name : List ℕ) (op other : Operation) → Bytes name → wordOf name < 2 ^ 56 → (t ≡ name → Named t op) → Named t other → Named t (orElse (wordOf t) name op other)
-  name-more name op other = by-test name op other (eqb (wordOf t) (wordOf name)) refl
+none-found : (word : ℕ) (rs : List Row) {told : Type 0} → NoneOf word rs told → told × (Unknown ≡ found (λ name. eqb word (wordOf name)) rs)
+unfolding NoneOf found
+none-found word [] others = (others, refl)
+none-found word (r ∷ rs) others =
+    let later = none-found word rs others in
+    (later .0 .0, simp (ne-eqb word (wordOf (r .name)) (later .0 .1)) (later .1))
 
-  -- The law.
-  pub named-right : Named t (operationOf (wordOf t))
-  unfolding operationOf Named wordOf pushedBytes
-  named-right =
-      name-more [] End _ none (lit< tt) (λ e. e)
-      (name-more checkName Check _ check-bytes (lit< tt) (λ e. e)
-      (name-more filterName Filter _ filter-bytes (lit< tt) (λ e. e)
-      (name-more priorsName Priors _ priors-bytes (lit< tt) (λ e. e)
-      (name-more ordersName Orders _ orders-bytes (lit< tt) (λ e. e)
-      (name-more phaseName Phase _ phase-bytes (lit< tt) (λ e. e)
-      (name-more flistName Flist _ flist-bytes (lit< tt) (λ e. e)
-      (name-more nohapName Nohap _ nohap-bytes (lit< tt) (λ e. e)
-      (name-more runName Run Unknown run-bytes (lit< tt) (λ e. e) tt))))))))
-
--- Each word names its own operation.
-pub check-named : operationOf (wordOf checkName) ≡ Check
-unfolding operationOf wordOf pushedBytes
-check-named = refl
-
-pub filter-named : operationOf (wordOf filterName) ≡ Filter
-unfolding operationOf wordOf pushedBytes
-filter-named = refl
-
-pub priors-named : operationOf (wordOf priorsName) ≡ Priors
-unfolding operationOf wordOf pushedBytes
-priors-named = refl
-
-pub orders-named : operationOf (wordOf ordersName) ≡ Orders
-unfolding operationOf wordOf pushedBytes
-orders-named = refl
-
-pub phase-named : operationOf (wordOf phaseName) ≡ Phase
-unfolding operationOf wordOf pushedBytes
-phase-named = refl
-
-pub flist-named : operationOf (wordOf flistName) ≡ Flist
-unfolding operationOf wordOf pushedBytes
-flist-named = refl
-
-pub nohap-named : operationOf (wordOf nohapName) ≡ Nohap
-unfolding operationOf wordOf pushedBytes
-nohap-named = refl
-
-pub run-named : operationOf (wordOf runName) ≡ Run
-unfolding operationOf wordOf pushedBytes
-run-named = refl
+pub unknown : (word : ℕ) → NoneOf word requests (Unit {0}) → Unknown ≡ askedByWord word
+unfolding askedByWord
+unknown word others = none-found word requests others .1

@@ -1,57 +1,60 @@
--- Which request a word names. Assumes nothing.
-use mathlib.Core.Bool.{cond}
+-- Which request a token names, and which a word's number: the protocol's table of requests. Assumes nothing.
+use mathlib.Core.Bool.{Bool, true, false, cond, _&&_}
 use mathlib.Core.List.{List, [], _∷_}
 use Prim.Native.Nat.{ℕ}
 use lib.Dec.{eqb}
 use Rattle.protocol.specs.Word.{wordOf}
 use Rattle.condorbed.specs.declared.requests.Operation.{Operation}
-use Rattle.condorbed.specs.declared.requests.Operation.the-variants.{End, Check, Filter, Priors, Orders, Phase, Flist, Nohap, Run, Unknown}
+use Rattle.condorbed.specs.declared.requests.Operation.the-variants.{Check, Filter, Priors, Orders, Phase, Flist, Nohap, Run}
+use Rattle.condorbed.specs.declared.requests.Asked.{Asked}
+use Rattle.condorbed.specs.declared.requests.Asked.the-variants.{End, For, Unknown}
 
--- `check`
-abbrev pub checkName : List ℕ
-checkName = 99 ∷ 104 ∷ 101 ∷ 99 ∷ 107 ∷ []
+-- a token, byte by byte, and what it asks for
+pub record Row : Type 0 where
+  pub name : List ℕ
+  pub asks : Asked
 
--- `filter`
-abbrev pub filterName : List ℕ
-filterName = 102 ∷ 105 ∷ 108 ∷ 116 ∷ 101 ∷ 114 ∷ []
+abbrev row : List ℕ → Operation → Row
+row name operation = record { name = name; asks = For operation }
 
--- `priors`
-abbrev pub priorsName : List ℕ
-priorsName = 112 ∷ 114 ∷ 105 ∷ 111 ∷ 114 ∷ 115 ∷ []
+-- the requests' words; a token of no bytes is the end of the input
+unfoldable pub requests : List Row
+requests =
+    record { name = []; asks = End }
+    -- check
+    ∷ row (99 ∷ 104 ∷ 101 ∷ 99 ∷ 107 ∷ []) Check
+    -- filter
+    ∷ row (102 ∷ 105 ∷ 108 ∷ 116 ∷ 101 ∷ 114 ∷ []) Filter
+    -- priors
+    ∷ row (112 ∷ 114 ∷ 105 ∷ 111 ∷ 114 ∷ 115 ∷ []) Priors
+    -- orders
+    ∷ row (111 ∷ 114 ∷ 100 ∷ 101 ∷ 114 ∷ 115 ∷ []) Orders
+    -- phase
+    ∷ row (112 ∷ 104 ∷ 97 ∷ 115 ∷ 101 ∷ []) Phase
+    -- flist
+    ∷ row (102 ∷ 108 ∷ 105 ∷ 115 ∷ 116 ∷ []) Flist
+    -- nohap
+    ∷ row (110 ∷ 111 ∷ 104 ∷ 97 ∷ 112 ∷ []) Nohap
+    -- run
+    ∷ row (114 ∷ 117 ∷ 110 ∷ []) Run
+    ∷ []
 
--- `orders`
-abbrev pub ordersName : List ℕ
-ordersName = 111 ∷ 114 ∷ 100 ∷ 101 ∷ 114 ∷ 115 ∷ []
+-- what the first of these rows asks for whose name passes the test
+unfoldable pub found : (List ℕ → Bool) → List Row → Asked
+found test [] = Unknown
+found test (r ∷ rs) = cond (test (r .name)) (r .asks) (found test rs)
 
--- `phase`
-abbrev pub phaseName : List ℕ
-phaseName = 112 ∷ 104 ∷ 97 ∷ 115 ∷ 101 ∷ []
+-- whether two tokens have the same bytes
+unfoldable pub sameBytes : List ℕ → List ℕ → Bool
+sameBytes [] [] = true
+sameBytes [] (y ∷ ys) = false
+sameBytes (x ∷ xs) [] = false
+sameBytes (x ∷ xs) (y ∷ ys) = eqb x y && sameBytes xs ys
 
--- `flist`
-abbrev pub flistName : List ℕ
-flistName = 102 ∷ 108 ∷ 105 ∷ 115 ∷ 116 ∷ []
+-- what a token asks for
+unfoldable pub askedBy : List ℕ → Asked
+askedBy token = found (sameBytes token) requests
 
--- `nohap`
-abbrev pub nohapName : List ℕ
-nohapName = 110 ∷ 111 ∷ 104 ∷ 97 ∷ 112 ∷ []
-
--- `run`
-abbrev pub runName : List ℕ
-runName = 114 ∷ 117 ∷ 110 ∷ []
-
--- op where the word is the name's, else what the other names give
-abbrev pub orElse : ℕ → List ℕ → Operation → Operation → Operation
-orElse word name op other = cond (eqb word (wordOf name)) op other
-
--- the operation of a word; a word of no bytes is the end of the input
-unfoldable pub operationOf : ℕ → Operation
-operationOf word =
-    orElse word [] End
-    (orElse word checkName Check
-    (orElse word filterName Filter
-    (orElse word priorsName Priors
-    (orElse word ordersName Orders
-    (orElse word phaseName Phase
-    (orElse word flistName Flist
-    (orElse word nohapName Nohap
-    (orElse word runName Run Unknown))))))))
+-- the same by the number of the token's word
+unfoldable pub askedByWord : ℕ → Asked
+askedByWord word = found (λ name. eqb word (wordOf name)) requests

@@ -1,103 +1,112 @@
-// The program's arrays: the largest need of an operation and 16 more, so that a slice one too long
-// can be shown. Each stands in a function of its own, whose contract says only its length. Those that an
-// operation writes are filled: bytes 170, integers 77, f64 77.0.
-ghost use mathlib.Core.Path.{_≡_};
-ghost use lib.ListN.{length};
+// The program's arrays. Each has exactly the largest need of an operation and SPARE more, so that a slice one too
+// long can be shown, except orders: they have no largest need, and get 65,536 entries, 64 orders at N = 1,024. The
+// arrays that an operation writes are filled: bytes 170, integers 77, f64 77.0.
+use variants_and_fragments::layout::CALL_WORDS;
+use variants_and_fragments::layout::FRAGMENT_WORDS;
+use variants_and_fragments::layout::HEAD_WORDS;
+use variants_and_fragments::layout::MAX_ALLELE_LENGTH;
+use variants_and_fragments::layout::MAX_ALLELES;
+use variants_and_fragments::layout::MAX_CALLS;
+use variants_and_fragments::layout::MAX_FRAGMENTS;
+use variants_and_fragments::layout::MAX_VARIANTS;
+use variants_and_fragments::layout::VARIANT_WORDS;
 
-pub fn words() -> [i32; 98324]
-    ensures { λ r. ⌜ 98324 ≡ length r ⌝ }
-{
-    [0; 98324]
+// ---- how long the arrays are
+
+const SPARE: usize = 16;
+
+const WORDS: usize = HEAD_WORDS
+    + VARIANT_WORDS * MAX_VARIANTS
+    + FRAGMENT_WORDS * MAX_FRAGMENTS
+    + CALL_WORDS * MAX_CALLS
+    + SPARE;
+
+const BASES: usize = MAX_ALLELES * MAX_ALLELE_LENGTH * MAX_VARIANTS + SPARE;
+
+// One element per variant.
+const ONES: usize = MAX_VARIANTS + SPARE;
+
+// The pairs of a variant's alleles.
+const PAIRS: usize = MAX_ALLELES * MAX_ALLELES * MAX_VARIANTS + SPARE;
+
+// The 13 values per variant that `nohap` writes.
+const ANSWERS: usize = 13 * MAX_VARIANTS + SPARE;
+
+// Two alleles per variant.
+const HAPLOTYPES: usize = 2 * MAX_VARIANTS + SPARE;
+
+// Two likelihoods per fragment, one for each haplotype.
+const LIKELIHOODS: usize = 2 * MAX_FRAGMENTS + SPARE;
+
+// A fragment's line: 10 bytes, and 8 per call.
+const LINES: usize = 10 * MAX_FRAGMENTS + 8 * MAX_CALLS + SPARE;
+
+const ORDERS: usize = 65536;
+
+// ---- read by the operations
+
+pub fn words() -> [i32; WORDS] {
+    [0; WORDS]
 }
 
-pub fn bases() -> [u8; 196624]
-    ensures { λ r. ⌜ 196624 ≡ length r ⌝ }
-{
-    [0; 196624]
+pub fn bases() -> [u8; BASES] {
+    [0; BASES]
 }
 
-pub fn phase() -> [u8; 1040]
-    ensures { λ r. ⌜ 1040 ≡ length r ⌝ }
-{
-    [0; 1040]
+pub fn phase() -> [u8; ONES] {
+    [0; ONES]
 }
 
-pub fn sets() -> [i32; 1040]
-    ensures { λ r. ⌜ 1040 ≡ length r ⌝ }
-{
-    [0; 1040]
+pub fn sets() -> [i32; ONES] {
+    [0; ONES]
 }
 
 // ---- written by an operation (quals and orders are read by others)
 
-pub fn priors() -> [i64; 9232]
-    ensures { λ r. ⌜ 9232 ≡ length r ⌝ }
-{
-    [77; 9232]
+pub fn priors() -> [i64; PAIRS] {
+    [77; PAIRS]
 }
 
-pub fn variants() -> [i32; 13328]
-    ensures { λ r. ⌜ 13328 ≡ length r ⌝ }
-{
-    [77; 13328]
+pub fn variants() -> [i32; ANSWERS] {
+    [77; ANSWERS]
 }
 
-pub fn quals() -> [f64; 1040]
-    ensures { λ r. ⌜ 1040 ≡ length r ⌝ }
-{
-    [77.0; 1040]
+pub fn quals() -> [f64; ONES] {
+    [77.0; ONES]
 }
 
-pub fn gqs() -> [f64; 1040]
-    ensures { λ r. ⌜ 1040 ≡ length r ⌝ }
-{
-    [77.0; 1040]
+pub fn gqs() -> [f64; ONES] {
+    [77.0; ONES]
 }
 
-pub fn haplotypes() -> [u8; 2064]
-    ensures { λ r. ⌜ 2064 ≡ length r ⌝ }
-{
-    [170; 2064]
+pub fn haplotypes() -> [u8; HAPLOTYPES] {
+    [170; HAPLOTYPES]
 }
 
-pub fn likelihoods() -> [i64; 8208]
-    ensures { λ r. ⌜ 8208 ≡ length r ⌝ }
-{
-    [77; 8208]
+pub fn likelihoods() -> [i64; LIKELIHOODS] {
+    [77; LIKELIHOODS]
 }
 
-pub fn posteriors() -> [i64; 9232]
-    ensures { λ r. ⌜ 9232 ≡ length r ⌝ }
-{
-    [77; 9232]
+pub fn posteriors() -> [i64; PAIRS] {
+    [77; PAIRS]
 }
 
-pub fn phased() -> [u8; 1040]
-    ensures { λ r. ⌜ 1040 ≡ length r ⌝ }
-{
-    [170; 1040]
+pub fn phased() -> [u8; ONES] {
+    [170; ONES]
 }
 
-pub fn names() -> [u32; 1040]
-    ensures { λ r. ⌜ 1040 ≡ length r ⌝ }
-{
-    [77; 1040]
+pub fn names() -> [u32; ONES] {
+    [77; ONES]
 }
 
-pub fn buffer() -> [u8; 172048]
-    ensures { λ r. ⌜ 172048 ≡ length r ⌝ }
-{
-    [170; 172048]
+pub fn buffer() -> [u8; LINES] {
+    [170; LINES]
 }
 
-pub fn filters() -> [u8; 1040]
-    ensures { λ r. ⌜ 1040 ≡ length r ⌝ }
-{
-    [170; 1040]
+pub fn filters() -> [u8; ONES] {
+    [170; ONES]
 }
 
-pub fn orders() -> [u32; 65536]
-    ensures { λ r. ⌜ 65536 ≡ length r ⌝ }
-{
-    [77; 65536]
+pub fn orders() -> [u32; ORDERS] {
+    [77; ORDERS]
 }

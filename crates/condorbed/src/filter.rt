@@ -1,88 +1,47 @@
 // `filter`: `<words i32>` `<bases u8>` `<quals f64>` density_qual density_dist density_count
 // max_depth `[filters u8]`.
-ghost use mathlib.Core.Path.{_≡_};
 ghost use Rattle.protocol.specs.Input.{Counts};
 use crate::answers::done;
 use crate::answers::refused;
 use crate::answers::unreadable;
 use crate::arrays;
-use crate::parts::read_case;
+use protocol::Buffer;
 use protocol::input;
 use protocol::input::Reader;
 use protocol::output;
 use var_filter::DensityParameters;
 use var_filter::Filtered;
 
-// What was read, and the reader after it.
-pub struct Parts {
-    pub words: usize,
-    pub bases: usize,
-    pub quals: usize,
-    pub density: DensityParameters,
-    pub max_depth: u32,
-    pub filters: usize,
-    pub reader: Reader,
-}
-
-// The answer to the request; the reader after it, which failed where the request is unreadable.
+// The answer to the request once its case is read; the reader after it, which failed where the request is unreadable.
 pub fn answer(
-    input: &mut [u8; 65536],
+    input: &mut Buffer,
     reader: Reader,
-    output: &mut [u8; 65536],
-    words: &mut [i32],
-    bases: &mut [u8],
+    output: &mut Buffer,
+    words: &[i32],
+    bases: &[u8],
 ) -> Reader {
     let mut quals = arrays::quals();
     let mut filters = arrays::filters();
-    let part = read_parts(input, reader, words, bases, &mut quals, &filters);
-    let w = part.words;
-    let b = part.bases;
-    let q = part.quals;
-    let f = part.filters;
-    let density = part.density;
-    let after = part.reader;
+    let given = input::read_f64s(input, reader, &mut quals);
+    let q = given.length;
+    let r1 = given.reader;
+    let rest = read_limits(input, r1, &filters);
+    let density = rest.density;
+    let f = rest.filters;
+    let after = rest.reader;
     if !after.ok {
         return unreadable(output, after);
     }
     call(
         output,
-        &words[..w],
-        &bases[..b],
+        words,
+        bases,
         &quals[..q],
         density,
-        part.max_depth,
+        rest.max_depth,
         &mut filters[..f],
     );
     after
-}
-
-// The parts of the request, in order.
-fn read_parts(
-    input: &mut [u8; 65536],
-    reader: Reader,
-    words: &mut [i32],
-    bases: &mut [u8],
-    quals: &mut [f64],
-    filters: &[u8],
-) -> Parts
-    ensures { λ r. ⌜ Counts (r .words) (now (words .exit)) × Counts (r .bases) (now (bases .exit)) × Counts (r .quals) (now (quals .exit)) × Counts (r .filters) (now (filters .entry)) ⌝ }
-{
-    let case = read_case(input, reader, words, bases);
-    let r1 = case.reader;
-    let q = input::read_f64s(input, r1, quals);
-    let r2 = q.reader;
-    let rest = read_limits(input, r2, filters);
-    let density = rest.density;
-    let after = rest.reader;
-    Parts {
-        words: case.words,
-        bases: case.bases,
-        quals: q.length,
-        density,
-        max_depth: rest.max_depth,
-        filters: rest.filters,
-        reader: after,
-    }
 }
 
 // density_qual density_dist density_count max_depth `[filters u8]`, and the reader after them.
@@ -94,7 +53,7 @@ pub struct Limits {
 }
 
 // The parts after the quals.
-fn read_limits(input: &mut [u8; 65536], reader: Reader, filters: &[u8]) -> Limits
+fn read_limits(input: &mut Buffer, reader: Reader, filters: &[u8]) -> Limits
     ensures { λ r. ⌜ Counts (r .filters) (now (filters .entry)) ⌝ }
 {
     let qual = input::read_f64(input, reader);
@@ -122,7 +81,7 @@ fn read_limits(input: &mut [u8; 65536], reader: Reader, filters: &[u8]) -> Limit
 
 // Calls the operation and prints its answer.
 fn call(
-    output: &mut [u8; 65536],
+    output: &mut Buffer,
     words: &[i32],
     bases: &[u8],
     quals: &[f64],

@@ -1,73 +1,32 @@
 // `flist`: `<words i32>` `<bases u8>` single_reads (0 or 1) `[buffer u8]`.
-ghost use Rattle.protocol.specs.Input.{Counts};
 use crate::answers::refused;
 use crate::answers::unreadable;
 use crate::arrays;
-use crate::parts::read_case;
 use haplotype_assembly::Buffered;
+use protocol::Buffer;
 use protocol::input;
 use protocol::input::Reader;
 use protocol::output;
 
-// What was read, and the reader after it.
-pub struct Parts {
-    pub words: usize,
-    pub bases: usize,
-    pub single_reads: bool,
-    pub buffer: usize,
-    pub reader: Reader,
-}
-
-// The answer to the request; the reader after it, which failed where the request is unreadable.
+// The answer to the request once its case is read; the reader after it, which failed where the request is unreadable.
 pub fn answer(
-    input: &mut [u8; 65536],
+    input: &mut Buffer,
     reader: Reader,
-    output: &mut [u8; 65536],
-    words: &mut [i32],
-    bases: &mut [u8],
+    output: &mut Buffer,
+    words: &[i32],
+    bases: &[u8],
 ) -> Reader {
     let mut buffer = arrays::buffer();
-    let part = read_parts(input, reader, words, bases, &buffer);
-    let w = part.words;
-    let b = part.bases;
-    let l = part.buffer;
-    let after = part.reader;
+    let single_reads = read_flag(input, reader);
+    let r1 = single_reads.reader;
+    let front = input::read_front_u8(input, r1, &buffer);
+    let l = front.length;
+    let after = front.reader;
     if !after.ok {
         return unreadable(output, after);
     }
-    call(
-        output,
-        &words[..w],
-        &bases[..b],
-        part.single_reads,
-        &mut buffer[..l],
-    );
+    call(output, words, bases, single_reads.set, &mut buffer[..l]);
     after
-}
-
-// The parts of the request, in order.
-fn read_parts(
-    input: &mut [u8; 65536],
-    reader: Reader,
-    words: &mut [i32],
-    bases: &mut [u8],
-    buffer: &[u8],
-) -> Parts
-    ensures { λ r. ⌜ Counts (r .words) (now (words .exit)) × Counts (r .bases) (now (bases .exit)) × Counts (r .buffer) (now (buffer .entry)) ⌝ }
-{
-    let case = read_case(input, reader, words, bases);
-    let r1 = case.reader;
-    let single_reads = read_flag(input, r1);
-    let r2 = single_reads.reader;
-    let front = input::read_front_u8(input, r2, buffer);
-    let after = front.reader;
-    Parts {
-        words: case.words,
-        bases: case.bases,
-        single_reads: single_reads.set,
-        buffer: front.length,
-        reader: after,
-    }
 }
 
 // A flag that was read, and the reader after it.
@@ -77,7 +36,7 @@ pub struct FlagPart {
 }
 
 // The next token as a flag, 0 or 1; the reader fails where it is neither.
-fn read_flag(input: &mut [u8; 65536], reader: Reader) -> FlagPart {
+fn read_flag(input: &mut Buffer, reader: Reader) -> FlagPart {
     let part = input::read_u8(input, reader);
     let value = part.value;
     let after = part.reader;
@@ -94,13 +53,7 @@ fn read_flag(input: &mut [u8; 65536], reader: Reader) -> FlagPart {
 }
 
 // Calls the operation and prints its answer.
-fn call(
-    output: &mut [u8; 65536],
-    words: &[i32],
-    bases: &[u8],
-    single_reads: bool,
-    buffer: &mut [u8],
-) {
+fn call(output: &mut Buffer, words: &[i32], bases: &[u8], single_reads: bool, buffer: &mut [u8]) {
     let first = match haplotype_assembly::generate_flist_buffer(
         words,
         bases,
@@ -115,7 +68,7 @@ fn call(
 }
 
 // `done` with the bytes and the lines that were written.
-fn done_with(output: &mut [u8; 65536], bytes: usize, lines: usize) -> usize {
+fn done_with(output: &mut Buffer, bytes: usize, lines: usize) -> usize {
     let mut used = output::text(output, 0, b"done ");
     used = output::natural(output, used, bytes as u64);
     used = output::byte(output, used, b' ');

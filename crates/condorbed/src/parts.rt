@@ -1,10 +1,11 @@
-// The parts that several requests have: a case, the rates, a given phase. Each part says what was read, and has the
-// reader after it.
-ghost use mathlib.Core.Path.{_≡_};
+// The parts that several requests have: a case, the rates, a given phase, the lengths of the qualities. Each part says
+// what was read, and has the reader after it.
 ghost use Rattle.protocol.specs.Input.{Counts};
 use genotype_probs::Rates;
+use protocol::Buffer;
 use protocol::input;
 use protocol::input::Reader;
+use protocol::number::widened;
 use steps::LogProb;
 
 // A case that was read: the lengths of its two slices, and the reader after them.
@@ -16,7 +17,7 @@ pub struct CasePart {
 
 // `<words i32>` `<bases u8>`.
 pub fn read_case(
-    input: &mut [u8; 65536],
+    input: &mut Buffer,
     reader: Reader,
     words: &mut [i32],
     bases: &mut [u8],
@@ -41,7 +42,7 @@ pub struct RatesPart {
 }
 
 // hom_snv het_snv hom_indel het_indel ts tv.
-pub fn read_rates(input: &mut [u8; 65536], reader: Reader) -> RatesPart {
+pub fn read_rates(input: &mut Buffer, reader: Reader) -> RatesPart {
     let hom_snv = read_rate(input, reader);
     let r1 = hom_snv.reader;
     let het_snv = read_rate(input, r1);
@@ -75,20 +76,13 @@ pub struct RatePart {
 }
 
 // One rate, an i32.
-fn read_rate(input: &mut [u8; 65536], reader: Reader) -> RatePart {
+fn read_rate(input: &mut Buffer, reader: Reader) -> RatePart {
     let part = input::read_i32(input, reader);
     let after = part.reader;
     RatePart {
         steps: widened(part.value),
         reader: after,
     }
-}
-
-// The same number as an i64.
-fn widened(x: i32) -> i64
-    ensures { λ r. ⌜ r ≡ x ⌝ }
-{
-    x as i64
 }
 
 // A given phase that was read: the lengths of its two slices, and the reader after them.
@@ -100,7 +94,7 @@ pub struct PhasePart {
 
 // `<phase u8>` `<sets i32>`.
 pub fn read_phase(
-    input: &mut [u8; 65536],
+    input: &mut Buffer,
     reader: Reader,
     phase: &mut [u8],
     sets: &mut [i32],
@@ -115,5 +109,32 @@ pub fn read_phase(
         phase: p.length,
         sets: s.length,
         reader: end,
+    }
+}
+
+// The lengths of the slices of qualities, and the reader after them.
+pub struct QualitiesPart {
+    pub quals: usize,
+    pub gqs: usize,
+    pub reader: Reader,
+}
+
+// `[quals f64]` `[gqs f64]`.
+pub fn read_qualities(
+    input: &mut Buffer,
+    reader: Reader,
+    quals: &[f64],
+    gqs: &[f64],
+) -> QualitiesPart
+    ensures { λ r. ⌜ Counts (r .quals) (now (quals .entry)) × Counts (r .gqs) (now (gqs .entry)) ⌝ }
+{
+    let q = input::read_front_f64(input, reader, quals);
+    let r1 = q.reader;
+    let g = input::read_front_f64(input, r1, gqs);
+    let after = g.reader;
+    QualitiesPart {
+        quals: q.length,
+        gqs: g.length,
+        reader: after,
     }
 }

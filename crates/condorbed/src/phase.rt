@@ -4,47 +4,35 @@ use crate::answers::done;
 use crate::answers::refused;
 use crate::answers::unreadable;
 use crate::arrays;
-use crate::parts::read_case;
 use crate::parts::read_phase;
 use haplotype_assembly::Phased;
+use protocol::Buffer;
 use protocol::input;
 use protocol::input::Reader;
 use protocol::output;
 
-// The answer to the request; the reader after it, which failed where the request is unreadable.
+// The answer to the request once its case is read; the reader after it, which failed where the request is unreadable.
 pub fn answer(
-    input: &mut [u8; 65536],
+    input: &mut Buffer,
     reader: Reader,
-    output: &mut [u8; 65536],
-    words: &mut [i32],
-    bases: &mut [u8],
+    output: &mut Buffer,
+    words: &[i32],
+    bases: &[u8],
 ) -> Reader {
     let mut phase = arrays::phase();
     let mut sets = arrays::sets();
-    let case = read_case(input, reader, words, bases);
-    let w = case.words;
-    let b = case.bases;
-    let r1 = case.reader;
-    let given = read_phase(input, r1, &mut phase, &mut sets);
+    let given = read_phase(input, reader, &mut phase, &mut sets);
     let p = given.phase;
     let s = given.sets;
     let after = given.reader;
-    answer_given(
-        input,
-        after,
-        output,
-        &words[..w],
-        &bases[..b],
-        &phase[..p],
-        &sets[..s],
-    )
+    answer_given(input, after, output, words, bases, &phase[..p], &sets[..s])
 }
 
 // The same once all that the operation reads is read.
 fn answer_given(
-    input: &mut [u8; 65536],
+    input: &mut Buffer,
     reader: Reader,
-    output: &mut [u8; 65536],
+    output: &mut Buffer,
     words: &[i32],
     bases: &[u8],
     phase: &[u8],
@@ -84,7 +72,7 @@ pub struct Fronts {
 
 // `[haplotypes u8]` `[phased u8]` `[names u32]`.
 fn read_fronts(
-    input: &mut [u8; 65536],
+    input: &mut Buffer,
     reader: Reader,
     haplotypes: &[u8],
     phased: &[u8],
@@ -108,7 +96,7 @@ fn read_fronts(
 
 // Calls the operation and prints its answer.
 fn call(
-    output: &mut [u8; 65536],
+    output: &mut Buffer,
     words: &[i32],
     bases: &[u8],
     phase: &[u8],

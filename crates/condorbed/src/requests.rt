@@ -1,28 +1,29 @@
 // Which operation a request's word asks for, and the loop over the requests.
 //
-// A request more: its word in `Operation`, `named` and specs/Requests.antt, its law in proofs/Names.antt,
-// its arrays in arrays.rt, and a file of three functions, as filter.rt: `read_parts` (contract: each length
-// `Counts` in its array), `answer`, which lends the fronts of the arrays, and `call`, which calls the
-// operation and prints the first line and one line for each output slice.
-// Where a request has many parts, `answer` lends what it read to a second function, as in phase.rt and run.rt, so that
-// no function's proof has too much to look through.
+// One request more: its word in `Operation` and `named`, with a row in specs/Requests.antt and a line in
+// proofs/requests/named; its arrays in arrays.rt; an arm in `answer_operation`; and a file of two functions, as
+// orders.rt: `answer`, which reads the parts after the case and lends the fronts of the arrays, and `call`, which calls
+// the operation and prints the first line and one line for each output slice. Where a request has many parts, `answer`
+// lends what it read to a second function, as in phase.rt and run.rt, so that no function's proof has too much to look
+// through.
 ghost use mathlib.Core.Path.{_≡_};
-ghost use Rattle.condorbed.specs.Requests.{operationOf};
+ghost use Rattle.condorbed.specs.Requests.{askedByWord};
 use crate::answers::unreadable;
 use crate::check;
 use crate::filter;
 use crate::flist;
 use crate::nohap;
 use crate::orders;
+use crate::parts::read_case;
 use crate::phase;
 use crate::priors;
 use crate::run;
+use protocol::Buffer;
 use protocol::input;
 use protocol::input::Reader;
 
-// What a request's word asks for.
+// The operations that a request can ask for.
 pub enum Operation {
-    End,
     Check,
     Filter,
     Priors,
@@ -31,6 +32,12 @@ pub enum Operation {
     Flist,
     Nohap,
     Run,
+}
+
+// What the next word of the input asks for: nothing at the end of the input.
+pub enum Asked {
+    End,
+    For(Operation),
     Unknown,
 }
 
@@ -54,47 +61,26 @@ const NOHAP: u64 = 1573827142000;
 
 const RUN: u64 = 24278382;
 
-// The operation that a word names; none at the end of the input.
-fn named(word: u64) -> Operation
-    ensures { λ r. ⌜ r ≡ operationOf word ⌝ }
+// What a word asks for.
+fn named(word: u64) -> Asked
+    ensures { λ r. ⌜ r ≡ askedByWord word ⌝ }
 {
-    if word == END {
-        return Operation::End;
+    match word {
+        END => Asked::End,
+        CHECK => Asked::For(Operation::Check),
+        FILTER => Asked::For(Operation::Filter),
+        PRIORS => Asked::For(Operation::Priors),
+        ORDERS => Asked::For(Operation::Orders),
+        PHASE => Asked::For(Operation::Phase),
+        FLIST => Asked::For(Operation::Flist),
+        NOHAP => Asked::For(Operation::Nohap),
+        RUN => Asked::For(Operation::Run),
+        _ => Asked::Unknown,
     }
-    if word == CHECK {
-        return Operation::Check;
-    }
-    if word == FILTER {
-        return Operation::Filter;
-    }
-    if word == PRIORS {
-        return Operation::Priors;
-    }
-    if word == ORDERS {
-        return Operation::Orders;
-    }
-    if word == PHASE {
-        return Operation::Phase;
-    }
-    if word == FLIST {
-        return Operation::Flist;
-    }
-    if word == NOHAP {
-        return Operation::Nohap;
-    }
-    if word == RUN {
-        return Operation::Run;
-    }
-    Operation::Unknown
 }
 
 // The answer to every request of the input. A proved loop has to end: at most 2^64 − 1 requests.
-pub fn answer_all(
-    input: &mut [u8; 65536],
-    output: &mut [u8; 65536],
-    words: &mut [i32],
-    bases: &mut [u8],
-) {
+pub fn answer_all(input: &mut Buffer, output: &mut Buffer, words: &mut [i32], bases: &mut [u8]) {
     let mut reader = Reader::new();
     let mut left: u64 = 18446744073709551615;
     while reader.ok {
@@ -110,16 +96,47 @@ pub fn answer_all(
 
 // The answer to one request; the reader after it, which failed where no other is to be answered.
 fn answer(
-    operation: Operation,
-    input: &mut [u8; 65536],
+    asked: Asked,
+    input: &mut Buffer,
     reader: Reader,
-    output: &mut [u8; 65536],
+    output: &mut Buffer,
     words: &mut [i32],
     bases: &mut [u8],
 ) -> Reader {
+    match asked {
+        Asked::End => reader.fail(),
+        Asked::For(operation) => answer_case(operation, input, reader, output, words, bases),
+        Asked::Unknown => unreadable(output, reader),
+    }
+}
+
+// The same for an operation: every request starts with a case.
+fn answer_case(
+    operation: Operation,
+    input: &mut Buffer,
+    reader: Reader,
+    output: &mut Buffer,
+    words: &mut [i32],
+    bases: &mut [u8],
+) -> Reader {
+    let case = read_case(input, reader, words, bases);
+    let w = case.words;
+    let b = case.bases;
+    let after = case.reader;
+    answer_operation(operation, input, after, output, &words[..w], &bases[..b])
+}
+
+// The same once the case is read.
+fn answer_operation(
+    operation: Operation,
+    input: &mut Buffer,
+    reader: Reader,
+    output: &mut Buffer,
+    words: &[i32],
+    bases: &[u8],
+) -> Reader {
     match operation {
-        Operation::End => reader.fail(),
-        Operation::Check => check::answer(input, reader, output, words, bases),
+        Operation::Check => check::answer(reader, output, words, bases),
         Operation::Filter => filter::answer(input, reader, output, words, bases),
         Operation::Priors => priors::answer(input, reader, output, words, bases),
         Operation::Orders => orders::answer(input, reader, output, words, bases),
@@ -127,6 +144,5 @@ fn answer(
         Operation::Flist => flist::answer(input, reader, output, words, bases),
         Operation::Nohap => nohap::answer(input, reader, output, words, bases),
         Operation::Run => run::answer(input, reader, output, words, bases),
-        Operation::Unknown => unreadable(output, reader),
     }
 }

@@ -4,46 +4,31 @@ ghost use Rattle.protocol.specs.Input.{Counts};
 use crate::answers::refused;
 use crate::answers::unreadable;
 use crate::arrays;
-use crate::parts::read_case;
 use crate::parts::read_phase;
+use crate::parts::read_qualities;
 use crate::parts::read_rates;
 use genotype_probs::Rates;
+use protocol::Buffer;
 use protocol::input;
 use protocol::input::Reader;
 use protocol::output;
 use with_haplotypes::Round;
 use with_haplotypes::RoundAnswer;
 
-// The answer to the request; the reader after it, which failed where the request is unreadable.
+// The answer to the request once its case is read; the reader after it, which failed where the request is unreadable.
 pub fn answer(
-    input: &mut [u8; 65536],
+    input: &mut Buffer,
     reader: Reader,
-    output: &mut [u8; 65536],
-    words: &mut [i32],
-    bases: &mut [u8],
-) -> Reader {
-    let case = read_case(input, reader, words, bases);
-    let w = case.words;
-    let b = case.bases;
-    let r1 = case.reader;
-    let given = read_rates(input, r1);
-    let rates = given.rates;
-    let after = given.reader;
-    answer_case(input, after, output, &words[..w], &bases[..b], rates)
-}
-
-// The same once the case and the rates are read.
-fn answer_case(
-    input: &mut [u8; 65536],
-    reader: Reader,
-    output: &mut [u8; 65536],
+    output: &mut Buffer,
     words: &[i32],
     bases: &[u8],
-    rates: Rates,
 ) -> Reader {
     let mut phase = arrays::phase();
     let mut sets = arrays::sets();
-    let given = read_phase(input, reader, &mut phase, &mut sets);
+    let part = read_rates(input, reader);
+    let rates = part.rates;
+    let r1 = part.reader;
+    let given = read_phase(input, r1, &mut phase, &mut sets);
     let p = given.phase;
     let s = given.sets;
     let after = given.reader;
@@ -61,9 +46,9 @@ fn answer_case(
 
 // The same once the given phase is read.
 fn answer_phase(
-    input: &mut [u8; 65536],
+    input: &mut Buffer,
     reader: Reader,
-    output: &mut [u8; 65536],
+    output: &mut Buffer,
     words: &[i32],
     bases: &[u8],
     rates: Rates,
@@ -76,32 +61,40 @@ fn answer_phase(
     let r1 = lent.reader;
     let limit = input::read_u32(input, r1);
     let after = limit.reader;
+    let given = Given {
+        rates,
+        limit: limit.value,
+    };
     answer_given(
         input,
         after,
         output,
         words,
         bases,
-        rates,
+        given,
         phase,
         sets,
         &orders[..o],
-        limit.value,
     )
+}
+
+// The numbers that the operation reads.
+pub struct Given {
+    pub rates: Rates,
+    pub limit: u32,
 }
 
 // The same once all that the operation reads is read.
 fn answer_given(
-    input: &mut [u8; 65536],
+    input: &mut Buffer,
     reader: Reader,
-    output: &mut [u8; 65536],
+    output: &mut Buffer,
     words: &[i32],
     bases: &[u8],
-    rates: Rates,
+    given: Given,
     phase: &[u8],
     sets: &[i32],
     orders: &[u32],
-    limit: u32,
 ) -> Reader {
     let mut haplotypes = arrays::haplotypes();
     let mut likelihoods = arrays::likelihoods();
@@ -117,11 +110,10 @@ fn answer_given(
         output,
         words,
         bases,
-        rates,
+        given,
         phase,
         sets,
         orders,
-        limit,
         &mut haplotypes[..h],
         &mut likelihoods[..l],
         &mut posteriors[..p],
@@ -138,7 +130,7 @@ pub struct Fronts {
 
 // `[haplotypes u8]` `[likelihoods i64]` `[posteriors i64]`.
 fn read_fronts(
-    input: &mut [u8; 65536],
+    input: &mut Buffer,
     reader: Reader,
     haplotypes: &[u8],
     likelihoods: &[i64],
@@ -162,16 +154,15 @@ fn read_fronts(
 
 // The same once the haplotypes, likelihoods and posteriors are lent.
 fn answer_lent(
-    input: &mut [u8; 65536],
+    input: &mut Buffer,
     reader: Reader,
-    output: &mut [u8; 65536],
+    output: &mut Buffer,
     words: &[i32],
     bases: &[u8],
-    rates: Rates,
+    given: Given,
     phase: &[u8],
     sets: &[i32],
     orders: &[u32],
-    limit: u32,
     haplotypes: &mut [u8],
     likelihoods: &mut [i64],
     posteriors: &mut [i64],
@@ -188,11 +179,10 @@ fn answer_lent(
         output,
         words,
         bases,
-        rates,
+        given,
         phase,
         sets,
         orders,
-        limit,
         haplotypes,
         likelihoods,
         posteriors,
@@ -202,43 +192,15 @@ fn answer_lent(
     part.reader
 }
 
-// The lengths of the slices of qualities, and the reader after them.
-pub struct QualitiesPart {
-    pub quals: usize,
-    pub gqs: usize,
-    pub reader: Reader,
-}
-
-// `[quals f64]` `[gqs f64]`.
-fn read_qualities(
-    input: &mut [u8; 65536],
-    reader: Reader,
-    quals: &[f64],
-    gqs: &[f64],
-) -> QualitiesPart
-    ensures { λ r. ⌜ Counts (r .quals) (now (quals .entry)) × Counts (r .gqs) (now (gqs .entry)) ⌝ }
-{
-    let q = input::read_front_f64(input, reader, quals);
-    let r1 = q.reader;
-    let g = input::read_front_f64(input, r1, gqs);
-    let after = g.reader;
-    QualitiesPart {
-        quals: q.length,
-        gqs: g.length,
-        reader: after,
-    }
-}
-
 // Calls the operation and prints its answer.
 fn call(
-    output: &mut [u8; 65536],
+    output: &mut Buffer,
     words: &[i32],
     bases: &[u8],
-    rates: Rates,
+    given: Given,
     phase: &[u8],
     sets: &[i32],
     orders: &[u32],
-    limit: u32,
     haplotypes: &mut [u8],
     likelihoods: &mut [i64],
     posteriors: &mut [i64],
@@ -248,21 +210,20 @@ fn call(
     let answer = with_haplotypes::call_genotypes_with_haplotypes(
         words,
         bases,
-        rates,
+        given.rates,
         phase,
         sets,
         orders,
-        limit,
+        given.limit,
         haplotypes,
         likelihoods,
         posteriors,
         quals,
         gqs,
     );
-    let first = first_line(output, answer);
-    print_slices(
+    print_answer(
         output,
-        first,
+        answer,
         haplotypes,
         likelihoods,
         posteriors,
@@ -272,7 +233,7 @@ fn call(
 }
 
 // The first line: refused, or done with the fields.
-fn first_line(output: &mut [u8; 65536], answer: Round) -> usize {
+fn first_line(output: &mut Buffer, answer: Round) -> usize {
     match answer {
         Round::Done(x) => done_with(output, x),
         Round::Refused(r) => refused(output, r),
@@ -280,7 +241,7 @@ fn first_line(output: &mut [u8; 65536], answer: Round) -> usize {
 }
 
 // `done SWEEPS settled START END SOURCE`, or `unsettled` in place of `settled`.
-fn done_with(output: &mut [u8; 65536], x: RoundAnswer) -> usize {
+fn done_with(output: &mut Buffer, x: RoundAnswer) -> usize {
     let mut used = output::text(output, 0, b"done ");
     used = output::natural(output, used, x.sweeps as u64);
     used = settled_word(output, used, x.settled);
@@ -293,7 +254,7 @@ fn done_with(output: &mut [u8; 65536], x: RoundAnswer) -> usize {
 }
 
 // ` settled ` or ` unsettled `.
-fn settled_word(output: &mut [u8; 65536], used: usize, settled: bool) -> usize {
+fn settled_word(output: &mut Buffer, used: usize, settled: bool) -> usize {
     if settled {
         output::text(output, used, b" settled ")
     } else {
@@ -301,17 +262,18 @@ fn settled_word(output: &mut [u8; 65536], used: usize, settled: bool) -> usize {
     }
 }
 
-// One line for each output slice.
-fn print_slices(
-    output: &mut [u8; 65536],
-    first: usize,
+// Prints the first line, and one line for each output slice.
+fn print_answer(
+    output: &mut Buffer,
+    answer: Round,
     haplotypes: &[u8],
     likelihoods: &[i64],
     posteriors: &[i64],
     quals: &[f64],
     gqs: &[f64],
 ) {
-    let mut used = output::line_u8(output, first, haplotypes);
+    let mut used = first_line(output, answer);
+    used = output::line_u8(output, used, haplotypes);
     used = output::line_i64(output, used, likelihoods);
     used = output::line_i64(output, used, posteriors);
     used = output::line_f64(output, used, quals);

@@ -1,3 +1,4 @@
+-- The laws behind the proofs of the text of the request stream.
 pub mod Signs
 pub mod Readings
 pub mod Tokens

@@ -1,7 +1,7 @@
 -- −(v + 1) + 1 for a negative v, as the machine works it out. Assumes nothing.
 use mathlib.Core.Path.{_≡_, refl, sym, ap, _∙_, subst}
 use mathlib.Core.Bool.{true, false}
-use Prim.Native.Nat.{ℕ, zero, suc, _+_, _-_, _<_, _^_}
+use Prim.Native.Nat.{ℕ, zero, suc, _+_, _<_, _^_}
 use native.Mathlib.Omega.{arith}
 use lib.IntN.{ℤ, pos, negsuc, sucℤ, natAbs, _+ℤ_, _-ℤ_, +ℤ-one, +ℤ-idl}
 use lib.Signed.{ltZ, nonNeg}

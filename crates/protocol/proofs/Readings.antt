@@ -1,5 +1,5 @@
 -- What a state reads as, by the tests that the code makes: the unsigned types by one law each for all of them. Assumes nothing.
-use mathlib.Core.Path.{_≡_, refl}
+use mathlib.Core.Path.{_≡_, refl, sym, _∙_}
 use mathlib.Core.Bool.{Bool, true, false, _&&_, and-false, false≢true}
 use Prim.Native.Nat.{ℕ, _≤_, _<_, _^_}
 use lib.Dec.{leb}
@@ -9,14 +9,15 @@ use Rattle.protocol.specs.State.{grown, spoilt, natural, isNatural, isIn
 use Rattle.protocol.specs.declared.number.Number.{Number}
 use Rattle.protocol.specs.declared.number.ReadI32.the-variants.{Value as I32·Value, Unreadable as I32·Unreadable}
 
+-- The unsigned types; `found` is what `is_natural` answers.
 module _ {A : Type 0} (limit : ℕ) (value : ℕ → A) (unreadable : A) (s : Number) where
-  pub natural-value : isNatural s ≡ true → s .value < limit → value (s .value) ≡ natural limit value unreadable s
+  pub natural-value : {found : Bool} → found ≡ isNatural s → found ≡ true → s .value < limit → value (s .value) ≡ natural limit value unreadable s
   unfolding natural
-  natural-value h l = simp (h, lt-ltb (s .value) limit l)
+  natural-value e h l = simp (sym e ∙ h, lt-ltb (s .value) limit l)
 
-  pub natural-none : isNatural s ≡ false → unreadable ≡ natural limit value unreadable s
+  pub natural-none : {found : Bool} → found ≡ isNatural s → found ≡ false → unreadable ≡ natural limit value unreadable s
   unfolding natural
-  natural-none h = simp h
+  natural-none e h = simp (sym e ∙ h)
 
   pub natural-large : limit ≤ s .value → unreadable ≡ natural limit value unreadable s
   unfolding natural

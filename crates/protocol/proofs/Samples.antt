@@ -1,7 +1,6 @@
 -- Tokens at the edges of the form, run on the definitions. Assumes nothing.
 use mathlib.Core.Path.{_≡_, refl}
 use mathlib.Core.List.{[], _∷_}
-use Prim.Native.Nat.{_-_}
 use lib.IntN.{pos, negsuc}
 use Rattle.protocol.specs.Text.{isDigit, allDigits, isNumeral, valueOf, none, integer, intOf}
 use Rattle.protocol.specs.Print.{decimalFrom, decimalOf, signedOf}

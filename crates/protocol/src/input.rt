@@ -3,6 +3,8 @@ ghost use Prim.Native.Nat.{_≤_};
 ghost use mathlib.Core.Path.{_≡_};
 ghost use Rattle.protocol.specs.Input.{ahead, Counts};
 ghost use Rattle.protocol.specs.Word.{pushedWord};
+use crate::BUFFER_BYTES;
+use crate::Buffer;
 use crate::number::Number;
 use crate::number::ReadF64;
 use crate::number::ReadI32;
@@ -64,7 +66,7 @@ impl Reader {
 }
 
 // The next byte of the input.
-fn next(input: &mut [u8; 65536], reader: Reader) -> Step
+fn next(input: &mut Buffer, reader: Reader) -> Step
     ensures { λ r. ⌜ ahead r ≤ reader .left ⌝ }
 {
     let at = reader.at;
@@ -73,7 +75,7 @@ fn next(input: &mut [u8; 65536], reader: Reader) -> Step
         return reader.end();
     }
     if at < reader.fill {
-        if at < 65536 {
+        if at < BUFFER_BYTES {
             let after = Reader {
                 at: at + 1,
                 fill: reader.fill,
@@ -112,7 +114,7 @@ fn refill(input: &mut [u8]) -> usize {
 
 // The first byte of the next token, or the end of the input: white space and comments are passed. In
 // the loop `comment` says whether the step stands in a comment.
-fn token_start(input: &mut [u8; 65536], reader: Reader) -> Step {
+fn token_start(input: &mut Buffer, reader: Reader) -> Step {
     let mut step = next(input, reader);
     let mut comment = false;
     while step.more {
@@ -134,7 +136,7 @@ pub struct Token {
 }
 
 // The next token, pushed byte by byte; no byte at the end of the input or of a reader that failed.
-pub fn read_token(input: &mut [u8; 65536], reader: Reader) -> Token {
+pub fn read_token(input: &mut Buffer, reader: Reader) -> Token {
     let mut number = Number::new();
     if !reader.ok {
         return Token { number, reader };
@@ -162,8 +164,8 @@ pub struct U8Part {
     pub reader: Reader,
 }
 
-// The next token as an u8; the reader fails where it is none.
-pub fn read_u8(input: &mut [u8; 65536], reader: Reader) -> U8Part {
+// The next token as a u8; the reader fails where it is none.
+pub fn read_u8(input: &mut Buffer, reader: Reader) -> U8Part {
     let token = read_token(input, reader);
     let number = token.number;
     let after = token.reader;
@@ -186,7 +188,7 @@ pub struct U32Part {
 }
 
 // The next token as a u32; the reader fails where it is none.
-pub fn read_u32(input: &mut [u8; 65536], reader: Reader) -> U32Part {
+pub fn read_u32(input: &mut Buffer, reader: Reader) -> U32Part {
     let token = read_token(input, reader);
     let number = token.number;
     let after = token.reader;
@@ -209,7 +211,7 @@ pub struct U64Part {
 }
 
 // The next token as a u64; the reader fails where it is none.
-pub fn read_u64(input: &mut [u8; 65536], reader: Reader) -> U64Part {
+pub fn read_u64(input: &mut Buffer, reader: Reader) -> U64Part {
     let token = read_token(input, reader);
     let number = token.number;
     let after = token.reader;
@@ -232,7 +234,7 @@ pub struct I32Part {
 }
 
 // The next token as an i32; the reader fails where it is none.
-pub fn read_i32(input: &mut [u8; 65536], reader: Reader) -> I32Part {
+pub fn read_i32(input: &mut Buffer, reader: Reader) -> I32Part {
     let token = read_token(input, reader);
     let number = token.number;
     let after = token.reader;
@@ -255,7 +257,7 @@ pub struct F64Part {
 }
 
 // The next token as an f64; the reader fails where it is none.
-pub fn read_f64(input: &mut [u8; 65536], reader: Reader) -> F64Part {
+pub fn read_f64(input: &mut Buffer, reader: Reader) -> F64Part {
     let token = read_token(input, reader);
     let number = token.number;
     let after = token.reader;
@@ -278,7 +280,7 @@ pub struct SlicePart {
 }
 
 // The next token as the length of a slice of at most `most` elements, else 0, and the reader fails.
-pub fn read_length(input: &mut [u8; 65536], reader: Reader, most: usize) -> SlicePart
+pub fn read_length(input: &mut Buffer, reader: Reader, most: usize) -> SlicePart
     ensures { λ r. ⌜ r .length ≤ most ⌝ }
 {
     let token = read_token(input, reader);
@@ -302,7 +304,7 @@ pub fn read_length(input: &mut [u8; 65536], reader: Reader, most: usize) -> Slic
 }
 
 // A slice of u8 into the front of out. At the loop's head i elements are there.
-pub fn read_u8s(input: &mut [u8; 65536], reader: Reader, out: &mut [u8]) -> SlicePart
+pub fn read_u8s(input: &mut Buffer, reader: Reader, out: &mut [u8]) -> SlicePart
     ensures { λ r. ⌜ Counts (r .length) (now (out .exit)) ⌝ }
 {
     let head = read_length(input, reader, out.len());
@@ -323,7 +325,7 @@ pub fn read_u8s(input: &mut [u8; 65536], reader: Reader, out: &mut [u8]) -> Slic
 }
 
 // A slice of u32 into the front of out. At the loop's head i elements are there.
-pub fn read_u32s(input: &mut [u8; 65536], reader: Reader, out: &mut [u32]) -> SlicePart
+pub fn read_u32s(input: &mut Buffer, reader: Reader, out: &mut [u32]) -> SlicePart
     ensures { λ r. ⌜ Counts (r .length) (now (out .exit)) ⌝ }
 {
     let head = read_length(input, reader, out.len());
@@ -344,7 +346,7 @@ pub fn read_u32s(input: &mut [u8; 65536], reader: Reader, out: &mut [u32]) -> Sl
 }
 
 // A slice of i32 into the front of out. At the loop's head i elements are there.
-pub fn read_i32s(input: &mut [u8; 65536], reader: Reader, out: &mut [i32]) -> SlicePart
+pub fn read_i32s(input: &mut Buffer, reader: Reader, out: &mut [i32]) -> SlicePart
     ensures { λ r. ⌜ Counts (r .length) (now (out .exit)) ⌝ }
 {
     let head = read_length(input, reader, out.len());
@@ -365,7 +367,7 @@ pub fn read_i32s(input: &mut [u8; 65536], reader: Reader, out: &mut [i32]) -> Sl
 }
 
 // A slice of f64 into the front of out. At the loop's head i elements are there.
-pub fn read_f64s(input: &mut [u8; 65536], reader: Reader, out: &mut [f64]) -> SlicePart
+pub fn read_f64s(input: &mut Buffer, reader: Reader, out: &mut [f64]) -> SlicePart
     ensures { λ r. ⌜ Counts (r .length) (now (out .exit)) ⌝ }
 {
     let head = read_length(input, reader, out.len());
@@ -386,35 +388,35 @@ pub fn read_f64s(input: &mut [u8; 65536], reader: Reader, out: &mut [f64]) -> Sl
 }
 
 // The length of an output slice of u8, which is to be the front of out.
-pub fn read_front_u8(input: &mut [u8; 65536], reader: Reader, out: &[u8]) -> SlicePart
+pub fn read_front_u8(input: &mut Buffer, reader: Reader, out: &[u8]) -> SlicePart
     ensures { λ r. ⌜ Counts (r .length) (now (out .entry)) ⌝ }
 {
     read_length(input, reader, out.len())
 }
 
 // The length of an output slice of i32, which is to be the front of out.
-pub fn read_front_i32(input: &mut [u8; 65536], reader: Reader, out: &[i32]) -> SlicePart
+pub fn read_front_i32(input: &mut Buffer, reader: Reader, out: &[i32]) -> SlicePart
     ensures { λ r. ⌜ Counts (r .length) (now (out .entry)) ⌝ }
 {
     read_length(input, reader, out.len())
 }
 
 // The length of an output slice of u32, which is to be the front of out.
-pub fn read_front_u32(input: &mut [u8; 65536], reader: Reader, out: &[u32]) -> SlicePart
+pub fn read_front_u32(input: &mut Buffer, reader: Reader, out: &[u32]) -> SlicePart
     ensures { λ r. ⌜ Counts (r .length) (now (out .entry)) ⌝ }
 {
     read_length(input, reader, out.len())
 }
 
 // The length of an output slice of i64, which is to be the front of out.
-pub fn read_front_i64(input: &mut [u8; 65536], reader: Reader, out: &[i64]) -> SlicePart
+pub fn read_front_i64(input: &mut Buffer, reader: Reader, out: &[i64]) -> SlicePart
     ensures { λ r. ⌜ Counts (r .length) (now (out .entry)) ⌝ }
 {
     read_length(input, reader, out.len())
 }
 
 // The length of an output slice of f64, which is to be the front of out.
-pub fn read_front_f64(input: &mut [u8; 65536], reader: Reader, out: &[f64]) -> SlicePart
+pub fn read_front_f64(input: &mut Buffer, reader: Reader, out: &[f64]) -> SlicePart
     ensures { λ r. ⌜ Counts (r .length) (now (out .entry)) ⌝ }
 {
     read_length(input, reader, out.len())
@@ -438,7 +440,7 @@ pub fn push_word(word: u64, b: u8) -> u64
 }
 
 // The next token as a word: 1 at the end of the input.
-pub fn read_word(input: &mut [u8; 65536], reader: Reader) -> WordPart {
+pub fn read_word(input: &mut Buffer, reader: Reader) -> WordPart {
     let mut word: u64 = 1;
     let mut step = token_start(input, reader);
     while step.more {

@@ -4,3 +4,9 @@ pub mod input;
 pub mod number;
 pub mod output;
 pub mod print;
+
+// The bytes of a buffer, as `io::large_buffer` makes it.
+pub const BUFFER_BYTES: usize = 65536;
+
+// The buffer of the input or of the output.
+pub type Buffer = [u8; BUFFER_BYTES];

@@ -247,3 +247,10 @@ fn negated(value: u64) -> i32
 {
     (0 - value as i64) as i32
 }
+
+// The same number as an i64.
+pub fn widened(x: i32) -> i64
+    ensures { λ r. ⌜ r ≡ x ⌝ }
+{
+    x as i64
+}

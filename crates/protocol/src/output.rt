@@ -2,6 +2,8 @@
 // count and answers the new one.
 ghost use mathlib.Core.Path.{_≡_};
 ghost use Prim.Native.Nat.{_≤_};
+use crate::Buffer;
+use crate::number::widened;
 use crate::print;
 use libc::STDOUT_FILENO;
 
@@ -16,7 +18,7 @@ pub fn flush(output: &[u8], used: usize) -> usize
 }
 
 // The count after which there is room for any number: the bytes that wait are written out where there is none.
-fn room(output: &mut [u8; 65536], used: usize) -> usize
+fn room(output: &mut Buffer, used: usize) -> usize
     ensures { λ r. ⌜ r ≤ 65500 ⌝ }
 {
     if used > 65500 {
@@ -27,14 +29,14 @@ fn room(output: &mut [u8; 65536], used: usize) -> usize
 }
 
 // One byte.
-pub fn byte(output: &mut [u8; 65536], used: usize, b: u8) -> usize {
+pub fn byte(output: &mut Buffer, used: usize, b: u8) -> usize {
     let at = room(output, used);
     output[at] = b;
     at + 1
 }
 
 // A text.
-pub fn text(output: &mut [u8; 65536], used: usize, bytes: &[u8]) -> usize {
+pub fn text(output: &mut Buffer, used: usize, bytes: &[u8]) -> usize {
     let mut at = used;
     let mut i: usize = 0;
     while i < bytes.len() {
@@ -45,25 +47,25 @@ pub fn text(output: &mut [u8; 65536], used: usize, bytes: &[u8]) -> usize {
 }
 
 // A number that is not below 0.
-pub fn natural(output: &mut [u8; 65536], used: usize, x: u64) -> usize {
+pub fn natural(output: &mut Buffer, used: usize, x: u64) -> usize {
     let at = room(output, used);
     print::put_u64(output, at, x)
 }
 
 // A signed number.
-pub fn integer(output: &mut [u8; 65536], used: usize, x: i64) -> usize {
+pub fn integer(output: &mut Buffer, used: usize, x: i64) -> usize {
     let at = room(output, used);
     print::put_i64(output, at, x)
 }
 
 // An f64, as its pattern.
-pub fn float(output: &mut [u8; 65536], used: usize, x: f64) -> usize {
+pub fn float(output: &mut Buffer, used: usize, x: f64) -> usize {
     let at = room(output, used);
     print::put_f64(output, at, x)
 }
 
 // What stands in front of the i-th number of a line: one space, and nothing in front of the first.
-fn space(output: &mut [u8; 65536], used: usize, i: usize) -> usize {
+fn space(output: &mut Buffer, used: usize, i: usize) -> usize {
     if i == 0 {
         used
     } else {
@@ -72,7 +74,7 @@ fn space(output: &mut [u8; 65536], used: usize, i: usize) -> usize {
 }
 
 // A line of the elements of xs, with one space between two. At the loop's head i of them are printed.
-pub fn line_u8(output: &mut [u8; 65536], used: usize, xs: &[u8]) -> usize {
+pub fn line_u8(output: &mut Buffer, used: usize, xs: &[u8]) -> usize {
     let mut at = used;
     let mut i: usize = 0;
     while i < xs.len() {
@@ -85,7 +87,7 @@ pub fn line_u8(output: &mut [u8; 65536], used: usize, xs: &[u8]) -> usize {
 }
 
 // A line of the elements of xs, with one space between two. At the loop's head i of them are printed.
-pub fn line_u32(output: &mut [u8; 65536], used: usize, xs: &[u32]) -> usize {
+pub fn line_u32(output: &mut Buffer, used: usize, xs: &[u32]) -> usize {
     let mut at = used;
     let mut i: usize = 0;
     while i < xs.len() {
@@ -98,20 +100,20 @@ pub fn line_u32(output: &mut [u8; 65536], used: usize, xs: &[u32]) -> usize {
 }
 
 // A line of the elements of xs, with one space between two. At the loop's head i of them are printed.
-pub fn line_i32(output: &mut [u8; 65536], used: usize, xs: &[i32]) -> usize {
+pub fn line_i32(output: &mut Buffer, used: usize, xs: &[i32]) -> usize {
     let mut at = used;
     let mut i: usize = 0;
     while i < xs.len() {
         let x = xs[i];
         at = space(output, at, i);
-        at = integer(output, at, from_i32(x));
+        at = integer(output, at, widened(x));
         i += 1;
     }
     byte(output, at, b'\n')
 }
 
 // A line of the elements of xs, with one space between two. At the loop's head i of them are printed.
-pub fn line_i64(output: &mut [u8; 65536], used: usize, xs: &[i64]) -> usize {
+pub fn line_i64(output: &mut Buffer, used: usize, xs: &[i64]) -> usize {
     let mut at = used;
     let mut i: usize = 0;
     while i < xs.len() {
@@ -124,7 +126,7 @@ pub fn line_i64(output: &mut [u8; 65536], used: usize, xs: &[i64]) -> usize {
 }
 
 // A line of the elements of xs, with one space between two. At the loop's head i of them are printed.
-pub fn line_f64(output: &mut [u8; 65536], used: usize, xs: &[f64]) -> usize {
+pub fn line_f64(output: &mut Buffer, used: usize, xs: &[f64]) -> usize {
     let mut at = used;
     let mut i: usize = 0;
     while i < xs.len() {
@@ -136,14 +138,12 @@ pub fn line_f64(output: &mut [u8; 65536], used: usize, xs: &[f64]) -> usize {
     byte(output, at, b'\n')
 }
 
+// The same number as a u64.
 fn from_u8(x: u8) -> u64 {
     x as u64
 }
 
+// The same number as a u64.
 fn from_u32(x: u32) -> u64 {
     x as u64
-}
-
-fn from_i32(x: i32) -> i64 {
-    x as i64
 }

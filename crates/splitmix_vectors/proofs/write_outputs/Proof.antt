@@ -11,41 +11,17 @@ Inv-loop first count state₀ i₀ state i = i ≤ count
 abbrev μ-loop : tie.MeasureT-loop
 μ-loop first count state₀ i₀ state i = count - i
 
-loop-holds : tie.Need-loop-holds Inv-loop μ-loop
-loop-holds c = omega arith
-
-add-i : tie.Need-add-i Inv-loop μ-loop
-add-i c = omega arith
-
-next-state-requires : tie.Need-next-state-requires Inv-loop μ-loop
-next-state-requires c κs = search needs
-
-mix-requires : tie.Need-mix-requires Inv-loop μ-loop
-mix-requires c κs = search needs
-
-write-line-requires : tie.Need-write-line-requires Inv-loop μ-loop
-write-line-requires c κs = search needs
-
-loop-less : tie.Need-loop-less Inv-loop μ-loop
-loop-less c = omega arith
-
-loop-again : tie.Need-loop-again Inv-loop μ-loop
-loop-again c = omega arith
-
-returns : tie.Need-returns Inv-loop μ-loop
-returns c = search needs
-
 pub write-outputs-spec : {M : Type 1} → statement M
 write-outputs-spec =
     tie.close
     (tie.spec
     Inv-loop
     μ-loop
-    loop-holds
-    add-i
-    next-state-requires
-    mix-requires
-    write-line-requires
-    loop-less
-    loop-again
-    returns)
+    (λ c. omega arith)
+    (λ c. omega arith)
+    (λ c κs. search needs)
+    (λ c κs. search needs)
+    (λ c κs. search needs)
+    (λ c. omega arith)
+    (λ c. omega arith)
+    (λ c. search needs))

@@ -4,11 +4,5 @@ use Rattle.protocol.proofs.Reading.{counts}
 use Rattle.protocol.proofs.input.read_front_i64.Statement.{statement}
 use Rattle.protocol.proofs.input.read_front_i64.Tie as tie
 
-read-length-requires : tie.Need-read-length-requires
-read-length-requires c κs = search needs
-
-returns : tie.Need-returns
-returns c = counts (c .read-length .result .length) (c .before .before .args .out .now) (c .read-length .ensures)
-
 pub read-front-i64-spec : {M : Type 1} → statement M
-read-front-i64-spec = tie.close (tie.spec read-length-requires returns)
+read-front-i64-spec = tie.close (tie.spec (λ c κs. search needs) (λ c. counts _ _ (c .read-length .ensures)))

@@ -14,49 +14,19 @@ Inv-loop input₀ out₀ n after₀ i₀ input out after i = (i ≤ n) × (n ≤
 abbrev μ-loop : tie.MeasureT-loop
 μ-loop input₀ out₀ n after₀ i₀ input out after i = n - i
 
-read-length-requires : tie.Need-read-length-requires Inv-loop μ-loop
-read-length-requires c κs = search needs
-
-loop-holds : tie.Need-loop-holds Inv-loop μ-loop
-loop-holds c = search needs
-
-read-i32-requires : tie.Need-read-i32-requires Inv-loop μ-loop
-read-i32-requires c κs = search needs
-
-mul-value : tie.Need-mul-value Inv-loop μ-loop
-mul-value c = search needs
-
-slice-set-from-value : tie.Need-slice-set-from-value Inv-loop μ-loop
-slice-set-from-value c = search needs
-
-add-i : tie.Need-add-i Inv-loop μ-loop
-add-i c = search needs
-
-loop-less : tie.Need-loop-less Inv-loop μ-loop
-loop-less c = search needs
-
-loop-again : tie.Need-loop-again Inv-loop μ-loop
-loop-again c = search needs
-
-same-length : tie.Need-same-length Inv-loop μ-loop
-same-length c = search needs
-
-returns : tie.Need-returns Inv-loop μ-loop
-returns c = counts (c .before .before .before .read-length .result .length) (c .before .loop .out) (omega arith)
-
 pub read-i32s-spec : {M : Type 1} → statement M
 read-i32s-spec =
     tie.close
     (tie.spec
     Inv-loop
     μ-loop
-    read-length-requires
-    loop-holds
-    read-i32-requires
-    mul-value
-    slice-set-from-value
-    add-i
-    loop-less
-    loop-again
-    same-length
-    returns)
+    (λ c κs. search needs)
+    (λ c. search needs)
+    (λ c κs. search needs)
+    (λ c. search needs)
+    (λ c. search needs)
+    (λ c. search needs)
+    (λ c. search needs)
+    (λ c. search needs)
+    (λ c. search needs)
+    (λ c. counts _ _ (omega arith)))

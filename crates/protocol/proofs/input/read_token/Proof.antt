@@ -1,5 +1,4 @@
 -- `input::read_token` is safe and ends. The measure is how far the step is from the end of what may be read. Assumes nothing.
-use Prim.Native.Nat.{_-_}
 use borrow.Author.Needs.{needs}
 use Rattle.protocol.specs.Input.{ahead}
 use Rattle.protocol.proofs.Reading.{step-falls}
@@ -12,40 +11,12 @@ Inv-loop input₀ number₀ step₀ input number step = Unit {0}
 abbrev μ-loop : tie.MeasureT-loop
 μ-loop input₀ number₀ step₀ input number step = ahead step
 
-new-requires : tie.Need-new-requires Inv-loop μ-loop
-new-requires c κs = search needs
-
-returns : tie.Need-returns Inv-loop μ-loop
-returns c = search needs
-
-token-start-requires : tie.Need-token-start-requires Inv-loop μ-loop
-token-start-requires c κs = search needs
-
-loop-holds : tie.Need-loop-holds Inv-loop μ-loop
-loop-holds c = search needs
-
-is-space-requires : tie.Need-is-space-requires Inv-loop μ-loop
-is-space-requires c κs = search needs
-
-push-requires : tie.Need-push-requires Inv-loop μ-loop
-push-requires c κs = search needs
-
-next-requires : tie.Need-next-requires Inv-loop μ-loop
-next-requires c κs = search needs
+abbrev turn : tie.After-next Inv-loop μ-loop → tie.In-loop Inv-loop μ-loop
+turn c = c .before .before .before .before .before .before
 
 loop-less : tie.Need-loop-less Inv-loop μ-loop
 loop-less c =
-    step-falls
-    (c .before .before .before .before .before .before .before .loop .step)
-    (ahead (c .next .result))
-    (c .before .before .before .before .before .before .loop-test .taken)
-    (c .next .ensures)
-
-loop-again : tie.Need-loop-again Inv-loop μ-loop
-loop-again c = search needs
-
-returns-2 : tie.Need-returns-2 Inv-loop μ-loop
-returns-2 c = search needs
+    step-falls (turn c .before .loop .step) (ahead (c .next .result)) (turn c .loop-test .taken) (c .next .ensures)
 
 pub read-token-spec : {M : Type 1} → statement M
 read-token-spec =
@@ -53,13 +24,13 @@ read-token-spec =
     (tie.spec
     Inv-loop
     μ-loop
-    new-requires
-    returns
-    token-start-requires
-    loop-holds
-    is-space-requires
-    push-requires
-    next-requires
+    (λ c κs. search needs)
+    (λ c. search needs)
+    (λ c κs. search needs)
+    (λ c. search needs)
+    (λ c κs. search needs)
+    (λ c κs. search needs)
+    (λ c κs. search needs)
     loop-less
-    loop-again
-    returns-2)
+    (λ c. search needs)
+    (λ c. search needs))

@@ -14,45 +14,18 @@ Inv-loop input₀ out₀ n after₀ i₀ input out after i = (i ≤ n) × (n ≤
 abbrev μ-loop : tie.MeasureT-loop
 μ-loop input₀ out₀ n after₀ i₀ input out after i = n - i
 
-read-length-requires : tie.Need-read-length-requires Inv-loop μ-loop
-read-length-requires c κs = search needs
-
-loop-holds : tie.Need-loop-holds Inv-loop μ-loop
-loop-holds c = search needs
-
-read-u8-requires : tie.Need-read-u8-requires Inv-loop μ-loop
-read-u8-requires c κs = search needs
-
-slice-write-out : tie.Need-slice-write-out Inv-loop μ-loop
-slice-write-out c = search needs
-
-add-i : tie.Need-add-i Inv-loop μ-loop
-add-i c = search needs
-
-loop-less : tie.Need-loop-less Inv-loop μ-loop
-loop-less c = search needs
-
-loop-again : tie.Need-loop-again Inv-loop μ-loop
-loop-again c = search needs
-
-same-length : tie.Need-same-length Inv-loop μ-loop
-same-length c = search needs
-
-returns : tie.Need-returns Inv-loop μ-loop
-returns c = counts (c .before .before .before .read-length .result .length) (c .before .loop .out) (omega arith)
-
 pub read-u8s-spec : {M : Type 1} → statement M
 read-u8s-spec =
     tie.close
     (tie.spec
     Inv-loop
     μ-loop
-    read-length-requires
-    loop-holds
-    read-u8-requires
-    slice-write-out
-    add-i
-    loop-less
-    loop-again
-    same-length
-    returns)
+    (λ c κs. search needs)
+    (λ c. search needs)
+    (λ c κs. search needs)
+    (λ c. search needs)
+    (λ c. search needs)
+    (λ c. search needs)
+    (λ c. search needs)
+    (λ c. search needs)
+    (λ c. counts _ _ (omega arith)))

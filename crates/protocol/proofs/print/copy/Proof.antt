@@ -14,10 +14,14 @@ Inv-loop text out₀ at i₀ out i = (i ≤ length text) × (out ≡ paste out�
 abbrev μ-loop : tie.MeasureT-loop
 μ-loop text out₀ at i₀ out i = length text - i
 
-long : (c : tie.In-loop Inv-loop μ-loop) → length (c .before .loop .out) ≡ length (c .before .before .args .out .now)
+abbrev st : tie.At-loop Inv-loop μ-loop → tie.Start Inv-loop μ-loop
+st c = c .before
+
+-- what is pasted so far is as long as the buffer was
+long : (c : tie.At-loop Inv-loop μ-loop) → length (c .loop .out) ≡ length (st c .args .out .now)
 long c =
-    ap length (c .before .loop .inv .1)
-    ∙ length-paste (c .before .before .args .out .now) (c .before .before .args .at) (c .before .before .args .text .now) (c .before .loop .i) (omega arith) (omega arith)
+    ap length (c .loop .inv .1)
+    ∙ length-paste (st c .args .out .now) (st c .args .at) (st c .args .text .now) (c .loop .i) (omega arith) (omega arith)
 
 loop-holds : tie.Need-loop-holds Inv-loop μ-loop
 loop-holds c = (omega arith, paste-zero (c .args .out .now) (c .args .at) (c .args .text .now))
@@ -29,7 +33,7 @@ add-out : tie.Need-add-out Inv-loop μ-loop
 add-out c = omega arith
 
 slice-write-out : tie.Need-slice-write-out Inv-loop μ-loop
-slice-write-out c = omega (arith, long (c .before))
+slice-write-out c = omega (arith, long (c .before .before))
 
 add-i : tie.Need-add-i Inv-loop μ-loop
 add-i c = omega arith
@@ -38,20 +42,21 @@ loop-less : tie.Need-loop-less Inv-loop μ-loop
 loop-less c = omega arith
 
 loop-again : tie.Need-loop-again Inv-loop μ-loop
-loop-again c = (
-  omega arith,
-  rw (add-one, c .before .before .loop .inv .1)
-      (paste-suc (c .before .before .before .args .out .now) (c .before .before .before .args .at) (c .before .before .before .args .text .now)
-      (c .before .before .loop .i) 0 (omega arith) (omega arith)),
-)
+loop-again c =
+    let head = c .before .before in
+    let a = st head .args in (
+      omega arith,
+      rw (add-one, head .loop .inv .1) (paste-suc (a .out .now) (a .at) (a .text .now) (head .loop .i) 0 (omega arith) (omega arith)),
+    )
 
 same-length : tie.Need-same-length Inv-loop μ-loop
-same-length c = simp (c .before .loop .inv .1) (length-paste (c .before .before .args .out .now) (c .before .before .args .at) (c .before .before .args .text .now) (c .before .loop .i) (omega arith) (omega arith))
+same-length c = long (c .before)
 
 returns : tie.Need-returns Inv-loop μ-loop
 returns c =
-    let all : c .before .loop .i ≡ length (c .before .before .args .text .now) = omega arith in
-    c .before .loop .inv .1 ∙ ap (paste (c .before .before .args .out .now) (c .before .before .args .at) (c .before .before .args .text .now)) all
+    let a = st (c .before) .args in
+    let all : c .before .loop .i ≡ length (a .text .now) = omega arith in
+    c .before .loop .inv .1 ∙ ap (paste (a .out .now) (a .at) (a .text .now)) all
 
 pub copy-spec : {M : Type 1} → statement M
 copy-spec =

@@ -1,25 +1,15 @@
--- `Number::as_length` meets its contract, by the law for all unsigned types: a u64 is below 2^64. Assumes nothing.
-use mathlib.Core.Path.{sym, _∙_}
-use Prim.Native.Nat.{_^_}
+-- `Number::as_length` meets its contract, by the laws for all unsigned types: a u64 is below 2^64. Assumes nothing.
 use borrow.Author.Needs.{needs}
 use Rattle.protocol.specs.State.{lengthIn}
-use Rattle.protocol.specs.declared.number.ReadLength.the-variants.{Value, Unreadable}
 use Rattle.protocol.proofs.Readings.{natural-value, natural-none}
 use Rattle.protocol.proofs.number.Number.as_length.Statement.{statement}
 use Rattle.protocol.proofs.number.Number.as_length.Tie as tie
 
-is-natural-requires : tie.Need-is-natural-requires
-is-natural-requires c κs = search needs
-
-returns : tie.Need-returns
-unfolding lengthIn
-returns c =
-    natural-value (2 ^ 64) Value Unreadable (c .before .before .args .self) (sym (c .before .is-natural .ensures) ∙ c .if1 .taken) (search needs)
-
-returns-2 : tie.Need-returns-2
-unfolding lengthIn
-returns-2 c =
-    natural-none (2 ^ 64) Value Unreadable (c .before .before .args .self) (sym (c .before .is-natural .ensures) ∙ c .if1 .left)
-
 pub as-length-spec : {M : Type 1} → statement M
-as-length-spec = tie.close (tie.spec is-natural-requires returns returns-2)
+unfolding lengthIn
+as-length-spec =
+    tie.close
+    (tie.spec
+    (λ c κs. search needs)
+    (λ c. natural-value _ _ _ _ (c .before .is-natural .ensures) (c .if1 .taken) (search needs))
+    (λ c. natural-none _ _ _ _ (c .before .is-natural .ensures) (c .if1 .left)))

@@ -1,32 +1,17 @@
--- `Number::as_u8` meets its contract, by the law for all unsigned types. Assumes nothing.
-use mathlib.Core.Path.{sym, _∙_}
-use Prim.Native.Nat.{_^_}
+-- `Number::as_u8` meets its contract, by the laws for all unsigned types. Assumes nothing.
 use borrow.Author.Needs.{needs}
 use Rattle.protocol.specs.State.{u8In}
-use Rattle.protocol.specs.declared.number.ReadU8.the-variants.{Value, Unreadable}
 use Rattle.protocol.proofs.Readings.{natural-value, natural-none, natural-large}
 use Rattle.protocol.proofs.number.Number.as_u8.Statement.{statement}
 use Rattle.protocol.proofs.number.Number.as_u8.Tie as tie
 
-is-natural-requires : tie.Need-is-natural-requires
-is-natural-requires c κs = search needs
-
-cast-t5 : tie.Need-cast-t5
-cast-t5 c = search needs
-
-returns : tie.Need-returns
-unfolding u8In
-returns c =
-    natural-value (2 ^ 8) Value Unreadable (c .before .before .before .args .self) (sym (c .before .before .is-natural .ensures) ∙ c .before .if1 .taken) (c .if2 .taken)
-
-returns-2 : tie.Need-returns-2
-unfolding u8In
-returns-2 c = natural-large (2 ^ 8) Value Unreadable (c .before .before .before .args .self) (c .if2 .left)
-
-returns-3 : tie.Need-returns-3
-unfolding u8In
-returns-3 c =
-    natural-none (2 ^ 8) Value Unreadable (c .before .before .args .self) (sym (c .before .is-natural .ensures) ∙ c .if1 .left)
-
 pub as-u8-spec : {M : Type 1} → statement M
-as-u8-spec = tie.close (tie.spec is-natural-requires cast-t5 returns returns-2 returns-3)
+unfolding u8In
+as-u8-spec =
+    tie.close
+    (tie.spec
+    (λ c κs. search needs)
+    (λ c. search needs)
+    (λ c. natural-value _ _ _ _ (c .before .before .is-natural .ensures) (c .before .if1 .taken) (c .if2 .taken))
+    (λ c. natural-large _ _ _ _ (c .if2 .left))
+    (λ c. natural-none _ _ _ _ (c .before .is-natural .ensures) (c .if1 .left)))

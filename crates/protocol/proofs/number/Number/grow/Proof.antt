@@ -1,18 +1,22 @@
 -- `Number::grow` meets its contract: no step wraps, and the two tests are one, that the grown number is below 2^64. Assumes nothing.
 use mathlib.Core.Path.{_∙_}
-use Prim.Native.Nat.{_+_, _-_, _*_}
+use Prim.Native.Nat.{ℕ, _+_, _-_, _*_}
 use native.Mathlib.Omega.{arith}
 use borrow.Author.Needs.{needs}
 use Rattle.protocol.proofs.Readings.{grown-large, grown-value, digit-low}
 use Rattle.protocol.proofs.number.Number.grow.Statement.{statement}
 use Rattle.protocol.proofs.number.Number.grow.Tie as tie
 
+-- the number with the digit after it
+abbrev grown-to : tie.Start → ℕ
+grown-to s = s .args .self .value * 10 + (s .args .b - 48)
+
 spoil-requires : tie.Need-spoil-requires
 spoil-requires c κs = search needs
 
 returns : tie.Need-returns
 returns c =
-    c .spoil .ensures ∙ grown-large (c .before .before .args .self) (c .before .before .args .self .value * 10 + (c .before .before .args .b - 48)) (omega arith)
+    let s = c .before .before in c .spoil .ensures ∙ grown-large (s .args .self) (grown-to s) (omega arith)
 
 mul-tens : tie.Need-mul-tens
 mul-tens c = search needs
@@ -31,14 +35,14 @@ spoil-requires-2 c κs = search needs
 
 returns-2 : tie.Need-returns-2
 returns-2 c =
-    c .spoil2 .ensures ∙ grown-large (c .before .before .before .args .self) (c .before .before .before .args .self .value * 10 + (c .before .before .before .args .b - 48)) (omega arith)
+    let s = c .before .before .before in c .spoil2 .ensures ∙ grown-large (s .args .self) (grown-to s) (omega arith)
 
 add-t8 : tie.Need-add-t8
 add-t8 c = search needs
 
 returns-3 : tie.Need-returns-3
 returns-3 c =
-    grown-value (c .before .before .args .self) (c .before .before .args .self .value * 10 + (c .before .before .args .b - 48)) (omega arith)
+    let s = c .before .before in grown-value (s .args .self) (grown-to s) (omega arith)
 
 pub grow-spec : {M : Type 1} → statement M
 grow-spec =

@@ -20,11 +20,17 @@ sign-requires c κs = search needs
 
 returns-2 : tie.Need-returns-2
 unfolding pushed
-returns-2 c = c .grow .ensures ∙ simp (c .before .before .before .if1 .left, sym (c .before .before .is-digit .ensures) ∙ c .before .if2 .taken)
+returns-2 c =
+    let way = c .before in
+    let tested = way .before in
+    c .grow .ensures ∙ simp (tested .before .if1 .left, sym (tested .is-digit .ensures) ∙ way .if2 .taken)
 
 returns-3 : tie.Need-returns-3
 unfolding pushed
-returns-3 c = c .sign .ensures ∙ simp (c .before .before .before .if1 .left, sym (c .before .before .is-digit .ensures) ∙ c .before .if2 .left)
+returns-3 c =
+    let way = c .before in
+    let tested = way .before in
+    c .sign .ensures ∙ simp (tested .before .if1 .left, sym (tested .is-digit .ensures) ∙ way .if2 .left)
 
 pub push-spec : {M : Type 1} → statement M
 push-spec =

@@ -1,8 +1,8 @@
--- `parts::widened` meets its contract: an i32 fits an i64. Assumes nothing.
+-- `number::widened` meets its contract: an i32 fits an i64. Assumes nothing.
 use native.Mathlib.Omega.{arith}
 use mir.Facts.{toZ-ofZ}
-use Rattle.condorbed.proofs.parts.widened.Statement.{statement}
-use Rattle.condorbed.proofs.parts.widened.Tie as tie
+use Rattle.protocol.proofs.number.widened.Statement.{statement}
+use Rattle.protocol.proofs.number.widened.Tie as tie
 
 cast-result : tie.Need-cast-result
 cast-result c = rw (toZ-ofZ (c .fits .x)) (record { sfits = omega (arith, c .fits .x .sfits) })
