@@ -91,7 +91,7 @@ module _ {X : Type 0} (g : ℕ → X) (d : X) (n : ℕ) (l part : List X) (room 
       ext-getD d joined (written g n l) (length-append part (drop n l) ∙ omega (arith, length-drop n l, written-length g n l)) (λ e h. joined-at e)
 
 -- ---- the scores that stand
-module _ {w : List ℤ} {b : List ℕ} {rates : Rates} {z : RoundSizes} (G : CaseGiven w b rates (z .s)) (phased : ℕ → Bool) (from orders : List ℕ) (o : OrdersGiven orders z) {ks : List ℕ} (K : AlleleCounts w (z .z .s .n) ks) where
+module _ {w : List ℤ} {b : List ℕ} {rates : Rates} (z : RoundSizes) (G : CaseGiven w b rates (z .s)) (phased : ℕ → Bool) (from orders : List ℕ) (o : OrdersGiven orders z) {ks : List ℕ} (K : AlleleCounts w (z .z .s .n) ks) where
   abbrev input : RunInput
   input = runInput w b rates phased from orders (z .limit)
 
@@ -133,14 +133,14 @@ module _ {w : List ℤ} {b : List ℕ} {rates : Rates} {z : RoundSizes} (G : Cas
     raw-at v p h l =
         let last = R .demand3 .ends .last in
         let e = R .demand3 .ends .counted in
-        let n = variants-counted G phased from orders (z .limit) in
+        let n = variants-counted z G phased from orders (z .limit) in
         let q : result input .sweeps - 1 ≡ last = omega (arith, ap (λ x. x .sweeps) (R .result-is)) in
         ap (λ (x : List ℤ). getD x (9 * v + p) (pos 0)) (R .scores ∙ ap (posts rawScores C (orderOfSweep input) from post) e)
-        ∙ posts-latest C good (orderOfSweep input) (orders-good G phased from orders (z .limit) o) from post (omega arith) last v p (omega arith) l
+        ∙ posts-latest C good (orderOfSweep input) (orders-good z G phased from orders (z .limit) o) from post (omega arith) last v p (omega arith) l
         ∙ rw q
 
     raw-past : (e : ℕ) → 9 * z .s .n ≤ e → getD raw e (pos 0) ≡ getD post e (pos 0)
-    raw-past e h = ap (λ (x : List ℤ). getD x e (pos 0)) (R .scores) ∙ posts-past C good (orderOfSweep input) (orders-good G phased from orders (z .limit) o) from post (r .sweeps) e (pos 0) (omega (arith, variants-counted G phased from orders (z .limit)))
+    raw-past e h = ap (λ (x : List ℤ). getD x e (pos 0)) (R .scores) ∙ posts-past C good (orderOfSweep input) (orders-good z G phased from orders (z .limit) o) from post (r .sweeps) e (pos 0) (omega (arith, variants-counted z G phased from orders (z .limit)))
 
     raw-small : (v p : ℕ) → v < z .s .n → p < C .k v * C .k v → natAbs (getD raw (9 * v + p) (pos 0)) ≤ 2 ^ 36
     unfolding latestScore
@@ -150,7 +150,7 @@ module _ {w : List ℤ} {b : List ℕ} {rates : Rates} {z : RoundSizes} (G : Cas
     tables-at = record {
       ks-long = omega (arith, ap length (K .written-is), written-length (alleleCountAt w) (z .s .n) (K .was), K .room);
       long = omega (arith, raw-long);
-      each = λ v h. let n = variants-counted G phased from orders (z .limit) in
+      each = λ v h. let n = variants-counted z G phased from orders (z .limit) in
           rw (k-held v h) (record {
             k-low = good .some-allele v (omega arith);
             k-high = good .three-alleles v (omega arith);
@@ -196,14 +196,14 @@ module _ {w : List ℤ} {b : List ℕ} {rates : Rates} {z : RoundSizes} (G : Cas
 
       after-small : (v p : ℕ) → v < z .s .n → p < 9 → natAbs (getD post' (9 * v + p) (pos 0)) ≤ 2 ^ 40
       after-small v p h l =
-          let n = variants-counted G phased from orders (z .limit) in
+          let n = variants-counted z G phased from orders (z .limit) in
           let small : (q : ℕ) → q < getD ks v 0 * getD ks v 0 → natAbs (getD (drop (9 * v) raw) q (pos 0)) ≤ 2 ^ 36 = λ q j. rw (getD-drop (9 * v) raw q (pos 0)) (raw-small v q h (rw (← k-held v h) j)) in
           let top : getD ks v 0 ≤ 3 = omega (arith, k-held v h, good .three-alleles v (omega arith)) in
           omega (arith, ap natAbs (ap (λ (x : List ℤ). getD x (9 * v + p) (pos 0)) done ∙ normalized-here ks raw (z .s .n) v p (omega (arith, raw-long)) h l), normal-size (2 ^ 36) (drop (9 * v) raw) (getD ks v 0) top small p)
 
       pub tables-in : TablesIn w post' (z .s .n)
       tables-in v h =
-          let n = variants-counted G phased from orders (z .limit) in
+          let n = variants-counted z G phased from orders (z .limit) in
           let e = k-is v h in
           let t = good .three-alleles v (omega arith) in
           record {
@@ -217,7 +217,7 @@ module _ {w : List ℤ} {b : List ℕ} {rates : Rates} {z : RoundSizes} (G : Cas
       final-is : (v : ℕ) → v < z .s .n → finalAt w post' v ≡ final input v
       unfolding finalAt final
       final-is v h =
-          let n = variants-counted G phased from orders (z .limit) in
+          let n = variants-counted z G phased from orders (z .limit) in
           let k = alleleCount (variantOf (decode w b) v) in
           let e : alleleCountAt w v ≡ k = sym (k-is v h) ∙ k-here v in
           let t = nine k (omega (arith, good .three-alleles v (omega arith), k-here v)) in
@@ -233,7 +233,7 @@ module _ {w : List ℤ} {b : List ℕ} {rates : Rates} {z : RoundSizes} (G : Cas
         gqs-written = F .gqs-are ∙ written-same (λ v. finalAt w post' v .gq) (λ v. final input v .gq) (z .s .n) gqs (λ v h. ap (λ x. x .gq) (final-is v h))
 
 -- ---- the haplotypes and the likelihoods, of which the fronts were lent
-module _ {w : List ℤ} {b : List ℕ} {rates : Rates} {z : RoundSizes} (G : CaseGiven w b rates (z .s)) (phased : ℕ → Bool) (from orders : List ℕ) {before after : SweepState} {r : RoundAnswer} (R : RunMade (runInput w b rates phased from orders (z .limit)) before after r) where
+module _ {w : List ℤ} {b : List ℕ} {rates : Rates} (z : RoundSizes) (G : CaseGiven w b rates (z .s)) (phased : ℕ → Bool) (from orders : List ℕ) {before after : SweepState} {r : RoundAnswer} (R : RunMade (runInput w b rates phased from orders (z .limit)) before after r) where
   abbrev input : RunInput
   input = runInput w b rates phased from orders (z .limit)
 

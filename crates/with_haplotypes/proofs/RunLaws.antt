@@ -25,8 +25,8 @@ use Rattle.likelihoods.specs.Held.{sweepReads, Held, Liks, Within}
 use Rattle.likelihoods.specs.Likelihoods.{CallsIn, EndsIn, flagged, likelihoodAt}
 use Rattle.likelihoods.specs.Totals.{heldCase, standingTotal, PriorsIn}
 use Rattle.likelihoods.proofs.CallsHeld.{calls-in, ends-in-order}
-use Rattle.likelihoods.proofs.HeldCases.{counted, held}
-use Rattle.likelihoods.proofs.LikelihoodsHeld.{frags-counted, liks-held}
+use Rattle.likelihoods.proofs.HeldCases.{counted, held, frags-counted}
+use Rattle.likelihoods.proofs.LikelihoodsHeld.{liks-held}
 use Rattle.likelihoods.proofs.TotalsHeld.{priors-in, standing-total-held, source-total-held}
 use Rattle.call_genotypes.specs.declared.run.Plan.{Plan}
 use Rattle.call_genotypes.specs.declared.run.RunAnswer.{RunAnswer}
@@ -50,7 +50,7 @@ pub known : {w : List ℤ} {b : List ℕ} {rates : Rates} {s : Sizes} → CaseGi
 known {w} {b} {rates} {s} g = case-in w b s (g .accepted)
 
 -- ---- a case, phased variants and orders
-module _ {w : List ℤ} {b : List ℕ} {rates : Rates} {z : RoundSizes} (g : CaseGiven w b rates (z .s)) (phased : ℕ → Bool) (start orders : List ℕ) (limit : ℕ) where
+module _ {w : List ℤ} {b : List ℕ} {rates : Rates} (z : RoundSizes) (g : CaseGiven w b rates (z .s)) (phased : ℕ → Bool) (start orders : List ℕ) (limit : ℕ) where
   abbrev input : RunInput
   input = runInput w b rates phased start orders limit
 
@@ -82,7 +82,7 @@ module _ {w : List ℤ} {b : List ℕ} {rates : Rates} {z : RoundSizes} {ks ph o
   C = sweepCase run
 
   n-is : C .n ≡ z .s .n
-  n-is = variants-counted (G .given) phased (state .hap) orders (z .limit)
+  n-is = variants-counted z (G .given) phased (state .hap) orders (z .limit)
 
   pub case-held : Held C (sweepReads ks ph (x .pri) (x .pile-ends) (x .piles))
   unfolding sweepCase
@@ -130,7 +130,7 @@ module _ {w : List ℤ} {b : List ℕ} {rates : Rates} {z : RoundSizes} {ks ph o
     phased-total = standing-total-held rates phased w b (z .s) (G .given .accepted) (P .rows-made) case-held g liks
 
   -- what `total` wants and answers, of all variants
-  module _ {h ones : List ℕ} (g : GoodHaps C h) (long : z .s .n ≤ length ones) where
+  module _ {h : List ℕ} (ones : List ℕ) (g : GoodHaps C h) (long : z .s .n ≤ length ones) where
     pub total-asks : PriorsIn (z .s .n) ks (x .pri) h ones × (CallsIn (x .rows) (groupStart (x .row-ends) (z .s .f)) h ones × EndsIn (x .row-ends) (z .s .f))
     total-asks = (priors-in (z .s .n) ones case-held g n-is long, calls-asked h ones g long)
 
@@ -141,14 +141,14 @@ module _ {w : List ℤ} {b : List ℕ} {rates : Rates} {z : RoundSizes} {ks ph o
   -- ---- after the sweeps
   module _ {lik : List ℤ} {after : SweepState} {r : RunAnswer} (R : Ran C orders (planOf z) (sweepState (state .hap) lik (state .post)) after r) where
     orders-here : orderOf orders (z .s .n) (z .m) ≡ orderOfSweep run
-    orders-here = sym (orders-same (G .given) phased (state .hap) orders (z .limit) (G .good-orders))
+    orders-here = sym (orders-same z (G .given) phased (state .hap) orders (z .limit) (G .good-orders))
 
     -- the haplotypes that are left
     pub left-good : GoodHaps C (after .hap)
     left-good =
         let e = R .demand3 .ends in
         rw (e .reached, orders-here)
-        (after-good C (case-held .good) (orderOfSweep run) (orders-good (G .given) phased (state .hap) orders (z .limit) (G .good-orders)) (state .hap) (suc (e .last)) (G .good-start))
+        (after-good C (case-held .good) (orderOfSweep run) (orders-good z (G .given) phased (state .hap) orders (z .limit) (G .good-orders)) (state .hap) (suc (e .last)) (G .good-start))
 
     pub run-made : (a : RoundAnswer) → a .sweeps ≡ r .sweeps → a .settled ≡ r .settled → a .start ≡ phasedTotal C (state .hap) → a .end ≡ phasedTotal C (after .hap) → a .source ≡ sourceTotal C (after .hap) → RunMade run state after a
     unfolding result

@@ -17,7 +17,8 @@ use Rattle.steps.proofs.Signed.{read-back, read-small}
 use Rattle.genotype_probs.specs.Posteriors.{maxGenotype}
 use Rattle.genotype_probs.proofs.Maxima.{genotype-maximum}
 use Rattle.genotype_probs.proofs.TableSums.{place-in, pair-in}
-use Rattle.with_haplotypes.specs.Finals.{otherSum, finalOf}
+use Rattle.with_haplotypes.specs.Finals.{finalOf}
+use Rattle.genotype_probs.specs.Posteriors.{otherSum}
 use borrow.Author.Needs.{needs}
 use Rattle.with_haplotypes.proofs.finals.final_answer.Statement.{statement}
 use Rattle.with_haplotypes.proofs.finals.final_answer.Tie as tie

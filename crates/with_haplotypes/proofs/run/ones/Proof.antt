@@ -1,9 +1,9 @@
--- `accepted::ones` meets its contract: the list computes.
+-- `run::ones` meets its contract: the list computes.
 -- Assumes nothing.
 use mathlib.Core.Path.{refl}
 use Rattle.variants_and_fragments.specs.Accepted.{allb}
-use Rattle.with_haplotypes.proofs.accepted.ones.Statement.{statement}
-use Rattle.with_haplotypes.proofs.accepted.ones.Tie as tie
+use Rattle.with_haplotypes.proofs.run.ones.Statement.{statement}
+use Rattle.with_haplotypes.proofs.run.ones.Tie as tie
 
 returns : tie.Need-returns
 unfolding allb
