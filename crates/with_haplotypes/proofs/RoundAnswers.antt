@@ -22,7 +22,8 @@ use Rattle.genotype_probs.specs.Rates.{ratesFault}
 use Rattle.genotype_probs.specs.Posteriors.{normalized}
 use Rattle.genotype_probs.proofs.AlleleLaws.{nine}
 use Rattle.haplotype_assembly.specs.GivenPhase.{phaseFault}
-use Rattle.haplotype_assembly.proofs.PhaseAnswers.{faultless, none-earlier, short-none}
+use Rattle.variants_and_fragments.proofs.Short.{none-earlier, short-none}
+use Rattle.haplotype_assembly.proofs.PhaseAnswers.{faultless}
 use Rattle.shuffle.specs.Answers.{ordersOutcome, firstBadOrder}
 use Rattle.shuffle.specs.Orders.{orderCount}
 use Rattle.shuffle.proofs.GoodOrders.{unless-done, orders-good}

@@ -10,13 +10,12 @@ use lib.Ieee.{Float}
 use lib.IntN.{ℤ}
 use lib.ListN.{length, take}
 use Rattle.variants_and_fragments.specs.Case.{alleleCount, variantOf}
-use Rattle.variants_and_fragments.specs.Refusals.{number, place, Outcome, refused, done, andThen, unless, stop, afterwards}
+use Rattle.variants_and_fragments.specs.Refusals.{number, place, Outcome, refused, done, andThen, unless, stop, afterwards, shortOf, earlier}
 use Rattle.variants_and_fragments.specs.Check.{caseOf}
 use Rattle.variants_and_fragments.specs.Written.{written}
 use Rattle.genotype_probs.specs.declared.Rates.{Rates}
 use Rattle.genotype_probs.specs.Rates.{ratesFault}
-use Rattle.haplotype_assembly.specs.Phase.{earlier}
-use Rattle.haplotype_assembly.specs.GivenPhase.{phaseFault, shortOf}
+use Rattle.haplotype_assembly.specs.GivenPhase.{phaseFault}
 use Rattle.shuffle.specs.Answers.{ordersOutcome}
 use Rattle.sweeps.specs.Demand3.{Demand3}
 use Rattle.genotype_probs.specs.Normalized.{firstNotNormal}

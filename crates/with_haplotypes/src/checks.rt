@@ -6,12 +6,12 @@ ghost use Rattle.with_haplotypes.specs.Promise.{roundShort, limitChecks,
 ghost use Rattle.with_haplotypes.specs.Steps.{checkedAs};
 use genotype_probs::Rates;
 use genotype_probs::table::rates_fault;
-use haplotype_assembly::phase::earlier;
 use haplotype_assembly::phase::phase_fault;
-use haplotype_assembly::short_of;
 use shuffle::OrdersChecked;
 use shuffle::check_orders;
 use variants_and_fragments::Refusal;
+use variants_and_fragments::earlier;
+use variants_and_fragments::short_of;
 
 // What the checks find: nothing, with the number m of orders, or a refusal.
 pub enum RoundChecked {
