@@ -24,8 +24,16 @@ fn change(row: Row, old: usize, new: usize) -> i64
     requires { ⌜ (natAbs (row .qual) ≤ 2 ^ 18) × (natAbs (row .«one_minus_qual») ≤ 2 ^ 18) ⌝ }
     ensures { λ r. ⌜ r ≡ callTerm (rowFrom row .call) new -ℤ callTerm (rowFrom row .call) old ⌝ }
 {
-    let gained = if row.allele == new { row.one_minus_qual } else { row.qual };
-    let lost = if row.allele == old { row.one_minus_qual } else { row.qual };
+    let gained = if row.allele == new {
+        row.one_minus_qual
+    } else {
+        row.qual
+    };
+    let lost = if row.allele == old {
+        row.one_minus_qual
+    } else {
+        row.qual
+    };
     gained - lost
 }
 
