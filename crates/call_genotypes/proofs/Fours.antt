@@ -17,7 +17,8 @@ use Rattle.variants_and_fragments.specs.Sums.{sumOver}
 use Rattle.variants_and_fragments.proofs.Tabulated.{table-more, table-end}
 use Rattle.sweeps.specs.Incremental.{alleleSum}
 use Rattle.sweeps.proofs.Fours.{allele-sum-on}
-use Rattle.call_genotypes.specs.Scores.{addFour, Within, AlleleSums}
+use Rattle.likelihoods.specs.Held.{Within}
+use Rattle.call_genotypes.specs.Scores.{addFour, AlleleSums}
 use Rattle.call_genotypes.proofs.Tables.{table-length, table-at, sets-before, sets-after, sets-at, replicate-at}
 
 -- the four stores, one after the other

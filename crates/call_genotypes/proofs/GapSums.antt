@@ -13,14 +13,14 @@ use lib.IntN.{ℤ, pos, _+ℤ_, _-ℤ_, +ℤ-idl, +ℤ-idr}
 use Rattle.steps.proofs.Signed.{zlin, parts-add, parts-minus}
 use Rattle.variants_and_fragments.specs.Case.{All}
 use Rattle.variants_and_fragments.specs.Pileup.{Row, noRow}
-use Rattle.pileup.specs.Rows.{rowQual}
+use Rattle.pileup.specs.Packed.{rowAt, rowsAt}
 use Rattle.variants_and_fragments.specs.Sums.{sumOver}
 use Rattle.sweeps.specs.Sweeps.{callTerm}
 use Rattle.sweeps.specs.Incremental.{fourValue, whichValue, alleleSum}
 use Rattle.sweeps.proofs.Basics.{sumOver-cong}
 use Rattle.sweeps.proofs.Fours.{allele-sums}
-use Rattle.call_genotypes.specs.Scores.{onePlus, gapValue, rowGaps, turn, rowAt, rowsAt, AlleleSums, qualSum, baseSum, neitherSum, pairGap}
-use Rattle.likelihoods.proofs.RunningSums.{table-sum, sum-plus}
+use Rattle.call_genotypes.specs.Scores.{onePlus, gapValue, rowGaps, turn, AlleleSums, qualSum, baseSum, neitherSum, pairGap}
+use Rattle.likelihoods.proofs.RunningSums.{sum-plus}
 use Rattle.call_genotypes.proofs.Tables.{table-length}
 use Rattle.call_genotypes.proofs.GapLaws.{rowFour, value-is, gaps-are, neither-is, base-phased, base-unphased}
 
@@ -102,7 +102,7 @@ module _ (g0 g1 : ℕ) (turns lik : List ℤ) where
       cc (gaps-are true g0 g1 turns lik turns-are row 3, gaps-are true g0 g1 turns lik turns-are row 2, neither-is b0 b1 q o, base-phased (eqb (row .call .allele) g1) l1 q o (onePlus (b0 -ℤ b1)))
 
   row-unphased : ((x : ℕ) → getD turns x (pos 0) ≡ turn false g0 g1 x) → (row : Row)
-      → rowGaps turns lik row 3 +ℤ rowQual row ≡ rowFour false g0 g1 lik row 0 +ℤ pos 4096
+      → rowGaps turns lik row 3 +ℤ row .call .qual ≡ rowFour false g0 g1 lik row 0 +ℤ pos 4096
   unfolding rowFour fourValue gapValue callTerm
   row-unphased turns-are row =
       let l0 = getD lik (2 * row .fragment) (pos 0) in
@@ -129,24 +129,19 @@ module _ (g0 g1 : ℕ) (turns lik : List ℤ) where
         let t = bases-are true g0 g1 turns lik turns-are rows acc A low in
         all-but (sumOver rows four) (pos (4096 * n)) (getD acc (4 * g1 + 2) (pos 0)) ((getD acc 3 (pos 0) +ℤ getD acc 7 (pos 0)) +ℤ getD acc 11 (pos 0)) (t ∙ s)
 
-    unphased-neither : ((x : ℕ) → getD turns x (pos 0) ≡ turn false g0 g1 x) → (z : ℤ) → sumOver rows rowQual ≡ z → baseSum acc n +ℤ z ≡ sumOver rows (λ row. rowFour false g0 g1 lik row 0)
-    unphased-neither turns-are z e =
+    unphased-neither : ((x : ℕ) → getD turns x (pos 0) ≡ turn false g0 g1 x) → baseSum acc n +ℤ qualSum rows ≡ sumOver rows (λ row. rowFour false g0 g1 lik row 0)
+    unphased-neither turns-are =
         let four : Row → ℤ = λ row. rowFour false g0 g1 lik row 0 in
-        let s : bases +ℤ z ≡ sumOver rows four +ℤ pos (4096 * n) =
-        ap (λ (y : ℤ). bases +ℤ y) (sym e) ∙ sym (sum-plus rows (λ row. rowGaps turns lik row 3) rowQual)
-        ∙ sumOver-cong rows (λ row. rowGaps turns lik row 3 +ℤ rowQual row) (λ row. four row +ℤ pos 4096) (row-unphased turns-are)
+        let s : bases +ℤ qualSum rows ≡ sumOver rows four +ℤ pos (4096 * n) =
+        sym (sum-plus rows (λ row. rowGaps turns lik row 3) (λ row. row .call .qual))
+        ∙ sumOver-cong rows (λ row. rowGaps turns lik row 3 +ℤ row .call .qual) (λ row. four row +ℤ pos 4096) (row-unphased turns-are)
         ∙ sum-plus rows four (λ row. pos 4096) ∙ cc (constants) in
         let t = bases-are false g0 g1 turns lik turns-are rows acc A low in
-        all-and (sumOver rows four) (pos (4096 * n)) z ((getD acc 3 (pos 0) +ℤ getD acc 7 (pos 0)) +ℤ getD acc 11 (pos 0)) (ap (λ (y : ℤ). y +ℤ z) t ∙ s)
+        all-and (sumOver rows four) (pos (4096 * n)) (qualSum rows) ((getD acc 3 (pos 0) +ℤ getD acc 7 (pos 0)) +ℤ getD acc 11 (pos 0)) (ap (λ (y : ℤ). y +ℤ qualSum rows) t ∙ s)
 
--- the same of the rows that the slices hold
+-- the same of the rows that stand at a..e
 pub neither-are : (phased : Bool) (g0 g1 : ℕ) (turns lik : List ℤ) → ((x : ℕ) → getD turns x (pos 0) ≡ turn phased g0 g1 x) → g1 < 3
-    → (v : ℕ) (who : List ℕ) (quals one-minus-quals : List ℤ) (a e : ℕ) (acc : List ℤ) → AlleleSums (rowGaps turns lik) (rowsAt v who quals one-minus-quals a e) acc
-    → All (λ row. row .call .allele < 3) (rowsAt v who quals one-minus-quals a e)
-    → neitherSum phased g1 quals acc a e ≡ sumOver (rowsAt v who quals one-minus-quals a e) (λ row. rowFour phased g0 g1 lik row 0)
-unfolding rowAt qualSum
-neither-are true g0 g1 turns lik turns-are h v who quals one-minus-quals a e acc A low =
-    phased-neither g0 g1 turns lik (rowsAt v who quals one-minus-quals a e) acc A low (e - a) (table-length noRow (rowAt v who quals one-minus-quals) a (e - a)) turns-are h
-neither-are false g0 g1 turns lik turns-are h v who quals one-minus-quals a e acc A low =
-    unphased-neither g0 g1 turns lik (rowsAt v who quals one-minus-quals a e) acc A low (e - a) (table-length noRow (rowAt v who quals one-minus-quals) a (e - a)) turns-are (qualSum quals a (e - a))
-    (table-sum (rowAt v who quals one-minus-quals) rowQual a (e - a) ∙ sym (table-sum (λ p. getD quals p (pos 0)) (λ q. q) a (e - a)))
+    → (piles : List ℕ) (a e : ℕ) (acc : List ℤ) → AlleleSums (rowGaps turns lik) (rowsAt piles a e) acc → All (λ row. row .call .allele < 3) (rowsAt piles a e)
+    → neitherSum phased g1 piles acc a e ≡ sumOver (rowsAt piles a e) (λ row. rowFour phased g0 g1 lik row 0)
+neither-are true g0 g1 turns lik turns-are h piles a e acc A low = phased-neither g0 g1 turns lik (rowsAt piles a e) acc A low (e - a) (table-length noRow (rowAt piles) a (e - a)) turns-are h
+neither-are false g0 g1 turns lik turns-are h piles a e acc A low = unphased-neither g0 g1 turns lik (rowsAt piles a e) acc A low (e - a) (table-length noRow (rowAt piles) a (e - a)) turns-are

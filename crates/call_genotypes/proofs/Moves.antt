@@ -8,24 +8,25 @@ use Prim.Native.Nat.{ℕ, zero, suc, _+_, _*_, _<_, _≤_}
 use native.Mathlib.Omega.{arith}
 use borrow.Author.Tests.{eq-eqb, ne-eqb}
 use lib.Dec.{T, eqb, eqb→eq}
-use lib.ListN.{length, getD}
+use lib.ListN.{length, getD, set}
 use lib.IntN.{ℤ, pos, _+ℤ_, _-ℤ_, +ℤ-idl, +ℤ-idr}
 use Rattle.steps.proofs.Signed.{zlin, parts-add, parts-minus, true-false}
 use Rattle.variants_and_fragments.specs.Case.{Call}
 use Rattle.variants_and_fragments.specs.Pileup.{Row, rowOf}
 use Rattle.variants_and_fragments.specs.Sums.{sumOver}
-use Rattle.sweeps.specs.Sweeps.{SweepCase, GoodHaps, allele0, allele1, putPair, callTerm, likelihood}
+use Rattle.sweeps.specs.Sweeps.{SweepCase, allele0, allele1, putPair, callTerm, likelihood}
 use Rattle.sweeps.specs.Incremental.{rowsIn, pileupFrom, termAt}
 use Rattle.sweeps.proofs.Basics.{which, lik-cong, at0-same, at1-same, at0-other, at1-other}
 use Rattle.sweeps.proofs.Link.{lik-own}
 use Rattle.sweeps.proofs.Scored.{lik-stays}
 use Rattle.sweeps.proofs.Run.{is-true, is-false}
 use Rattle.variants_and_fragments.proofs.Sums.{sum-append}
-use Rattle.pileup.specs.Piles.{pileStart}
-use Rattle.likelihoods.specs.Held.{Held, Liks}
-use Rattle.call_genotypes.specs.Scores.{rowsAt}
+use Rattle.pileup.specs.Packed.{rowsAt, groupStart}
+use Rattle.likelihoods.specs.Held.{Liks}
+use Rattle.call_genotypes.specs.declared.score.Pair.{Pair}
+use Rattle.call_genotypes.specs.Scores.{pairAt}
 use Rattle.call_genotypes.proofs.Linked.{pile-rows, phased-yes, phased-no}
-use Rattle.call_genotypes.specs.Visits.{moveOf, Moved}
+use Rattle.call_genotypes.specs.Visits.{moveOf, Moved, Movable, PairPut}
 
 -- ---- the sum over the pile of what moves one likelihood
 module _ (v old new : ℕ) (t : ℕ → Bool) where
@@ -133,14 +134,21 @@ module _ (C : SweepCase) (h : List ℕ) (v i j : ℕ) (lik : List ℤ) (l : 2 * 
             (rw (at1-same h v i j l) at (sym (lik-terms (C .phased) v (allele1 h) (allele1 (putPair h v i j)) (λ w n. at1-other h v i j w n) cs p)))
 
 -- ---- the same from what the code has: the start of the pile
-module _ {C : SweepCase} {ks ph : List ℕ} {pri : List ℤ} {ends who : List ℕ} {quals one-minus-quals : List ℤ} (H : Held C ks ph pri ends who quals one-minus-quals)
-    (h : List ℕ) (G : GoodHaps C h) (v : ℕ) (in-n : v < C .n) (lik : List ℤ) (L : Liks C h lik) (i j : ℕ) where
-  pub pair-stays : getD ph v 0 ≡ 0 → Liks C (putPair h v i j) lik
-  pair-stays e = liks-stay C h v i j lik (omega (arith, G .len)) L (phased-no H v in-n e)
+module _ {C : SweepCase} {ph ends piles h : List ℕ} {lik : List ℤ} {v : ℕ} (M : Movable C ph ends piles h lik v) where
+  pub put-in : 2 * v + 1 < length h
+  put-in = omega (arith, M .haps .len, M .v-in)
 
-  pub pair-moves : (a old0 old1 : ℕ) (lik1 lik2 : List ℤ) → (getD ph v 0 ≡ 0 → ⊥) → a ≡ pileStart ends v → old0 ≡ allele0 h v → old1 ≡ allele1 h v
-      → Moved 0 old0 i (rowsAt v who quals one-minus-quals a (getD ends v 0)) lik lik1 → Moved 1 old1 j (rowsAt v who quals one-minus-quals a (getD ends v 0)) lik1 lik2
-      → Liks C (putPair h v i j) lik2
-  pair-moves a old0 old1 lik1 lik2 n ea e0 e1 M0 M1 =
-      let R = pile-rows H v in-n in
-      liks-move C h v i j lik (omega (arith, G .len)) L (phased-yes H v in-n n) lik1 lik2 (rw (ea, R, e0) at M0) (rw (ea, R, e1) at M1)
+  module _ (new : Pair) (h' : List ℕ) (e : h' ≡ set (set h (2 * v) (new .first)) (2 * v + 1) (new .second)) where
+    put : (lik' : List ℤ) → Liks C (putPair h v (new .first) (new .second)) lik' → PairPut C v new h h' lik'
+    unfolding putPair
+    put lik' L = record { haps = e; liks = rw e L }
+
+    pub pair-stays : getD ph v 0 ≡ 0 → PairPut C v new h h' lik
+    pair-stays n = put lik (liks-stay C h v (new .first) (new .second) lik put-in (M .liks) (phased-no (M .held) v (M .v-in) n))
+
+    pub pair-moves : (a : ℕ) (old : Pair) (lik1 lik2 : List ℤ) → (getD ph v 0 ≡ 0 → ⊥) → a ≡ groupStart ends v → old ≡ pairAt h v
+        → Moved 0 (old .first) (new .first) (rowsAt piles a (getD ends v 0)) lik lik1 → Moved 1 (old .second) (new .second) (rowsAt piles a (getD ends v 0)) lik1 lik2
+        → PairPut C v new h h' lik2
+    pair-moves a old lik1 lik2 n ea eo M0 M1 =
+        let R = pile-rows (M .held) v (M .v-in) in
+        put lik2 (liks-move C h v (new .first) (new .second) lik put-in (M .liks) (phased-yes (M .held) v (M .v-in) n) lik1 lik2 (rw (ea, R, eo) at M0) (rw (ea, R, eo) at M1))

@@ -15,7 +15,7 @@ use Rattle.variants_and_fragments.specs.Decode.{tabulateFrom}
 use Rattle.variants_and_fragments.specs.Sums.{sumOver}
 use Rattle.variants_and_fragments.proofs.Tabulated.{table-more, table-end}
 use Rattle.sweeps.specs.Sweeps.{callTerm}
-use Rattle.call_genotypes.specs.Scores.{Within}
+use Rattle.likelihoods.specs.Held.{Within}
 use Rattle.call_genotypes.specs.Visits.{moveOf, Moved}
 
 -- the rows before p have moved their likelihoods

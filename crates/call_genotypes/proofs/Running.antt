@@ -6,10 +6,8 @@ use Prim.Native.Nat.{ℕ, suc, _+_, _-_, _*_, _%_, _<_, _≤_}
 use native.Mathlib.Omega.{arith}
 use native.Mathlib.Nat.{mod-lt, mul-le-mul-right}
 use native.Mathlib.Numerals.{add-one}
-use lib.Dec.{T}
-use lib.ListN.{length, take, drop, length-take, length-drop}
-use lib.IntN.{ℤ}
-use Rattle.shuffle.specs.Permutation.{Permutation, allBelow}
+use lib.ListN.{length, take, drop}
+use Rattle.shuffle.specs.Permutation.{Permutation}
 use Rattle.shuffle.specs.Orders.{orderAt}
 use Rattle.sweeps.specs.Sweeps.{SweepCase, GoodHaps, sameHaps, sweep, run}
 use Rattle.sweeps.specs.Demand3.{after}
@@ -19,22 +17,31 @@ use Rattle.sweeps.proofs.Perm.{permutation-below, permutation-distinct}
 use Rattle.sweeps.proofs.Posts.{length-recorded}
 use Rattle.sweeps.proofs.Run.{demand3}
 use Rattle.sweeps.proofs.Sweep.{sweep-swept}
-use Rattle.likelihoods.specs.Held.{Liks}
-use Rattle.call_genotypes.specs.Scores.{rawScores}
+use Rattle.likelihoods.specs.Held.{SweepReads, Liks}
+use Rattle.call_genotypes.specs.declared.run.Plan.{Plan}
+use Rattle.call_genotypes.specs.Scores.{rawScores, SweepState}
 use Rattle.call_genotypes.specs.Visits.{SweepStart, Swept}
 use Rattle.call_genotypes.specs.Runs.{orderOf, RunStart, resultOf, Ran}
 
 -- s sweeps are made
-pub record Running (C : SweepCase) (o : ℕ → List ℕ) (limit : ℕ) (h₀ h : List ℕ) (lik post₀ post : List ℤ) (s : ℕ) : Type 0 where
-  pub good : GoodHaps C h
-  pub liks : Liks C h lik
-  pub long : length post ≡ length post₀
-  pub left : run C o limit 0 h₀ ≡ run C o (limit - s) s h
-  pub stood : h ≡ after C o h₀ s
-  pub scores : post ≡ posts rawScores C o h₀ post₀ s
+pub record Running (C : SweepCase) (o : ℕ → List ℕ) (limit : ℕ) (before state : SweepState) (s : ℕ) : Type 0 where
+  pub good : GoodHaps C (state .hap)
+  pub liks : Liks C (state .hap) (state .lik)
+  pub long : length (state .post) ≡ length (before .post)
+  pub left : run C o limit 0 (before .hap) ≡ run C o (limit - s) s (state .hap)
+  pub stood : state .hap ≡ after C o (before .hap) s
+  pub scores : state .post ≡ posts rawScores C o (before .hap) (before .post) s
 
-module _ {C : SweepCase} {ks ph : List ℕ} {pri : List ℤ} {ends who : List ℕ} {quals one-minus-quals : List ℤ} {orders h₀ : List ℕ} {lik₀ post₀ : List ℤ} {n m limit : ℕ}
-    (R : RunStart C ks ph pri ends who quals one-minus-quals orders h₀ lik₀ post₀ n m limit) where
+module _ {C : SweepCase} {reads : SweepReads} {before : SweepState} {orders : List ℕ} {plan : Plan} (R : RunStart C reads before orders plan) where
+  abbrev n : ℕ
+  n = plan .n
+
+  abbrev m : ℕ
+  m = plan .m
+
+  abbrev limit : ℕ
+  limit = plan .limit
+
   abbrev o : ℕ → List ℕ
   o = orderOf orders n m
 
@@ -50,66 +57,61 @@ module _ {C : SweepCase} {ks ph : List ℕ} {pri : List ℤ} {ends who : List �
   order-good : (s : ℕ) → Permutation (C .n) (o s)
   order-good s = subst (λ (x : ℕ). Permutation x (o s)) (R .n-is) (R .orders-good s)
 
-  order-in : (s : ℕ) → T (allBelow (C .n) (o s))
-  order-in s = permutation-below (order-good s)
-
   -- ---- the loop
-  pub running-start : Running C o limit h₀ h₀ lik₀ post₀ post₀ 0
+  pub running-start : Running C o limit before before 0
   unfolding after posts
   running-start = record {
-    good = R .haps;
-    liks = R .liks;
+    good = R .standing .haps;
+    liks = R .standing .liks;
     long = refl;
-    left = ap (λ (x : ℕ). run C o x 0 h₀) (omega arith);
+    left = ap (λ (x : ℕ). run C o x 0 (before .hap)) (omega arith);
     stood = refl;
     scores = refl;
   }
 
-  pub running-sweep : (h : List ℕ) (lik post : List ℤ) (s : ℕ) → Running C o limit h₀ h lik post₀ post s
-      → SweepStart C ks ph pri ends who quals one-minus-quals (take (s % m * n + n - s % m * n) (drop (s % m * n) orders)) h lik post
-  running-sweep h lik post s r =
-      rw (part-is s) (record { held = R .held; haps = r .good; liks = r .liks; room = omega (arith, r .long, R .room); order-in = order-in s })
+  -- the end of the run
+  ran : {state : SweepState} {s : ℕ} {settled : Bool} → run C o limit 0 (before .hap) ≡ resultOf s settled (state .hap) → Liks C (state .hap) (state .lik) → state .post ≡ posts rawScores C o (before .hap) (before .post) s
+      → Ran C orders plan before state (record { sweeps = s; settled = settled })
+  ran q L p = record { result = q; demand3 = rw q at (demand3 C (R .standing .held .good) o order-good limit (before .hap) (R .some-sweep) (R .standing .haps)); liks = L; scores = p }
 
-  module _ (h h' : List ℕ) (lik lik' post post' : List ℤ) (s : ℕ) (flag : Bool) (r : Running C o limit h₀ h lik post₀ post s) (l : s < limit)
-      (w' : Swept C (take (s % m * n + n - s % m * n) (drop (s % m * n) orders)) h h' lik' post post' flag) where
-    w : Swept C (o s) h h' lik' post post' flag
-    w = rw (part-is s) at w'
-
-    -- the flag says which way the run goes
-    run-step : run C o limit 0 h₀ ≡ cond (not flag) (resultOf (s + 1) true h') (run C o (limit - (s + 1)) (s + 1) h')
+  module _ {state : SweepState} {s : ℕ} (r : Running C o limit before state s) where
+    pub run-out : limit ≤ s → Ran C orders plan before state (record { sweeps = s; settled = false })
     unfolding run
-    run-step =
-        let e : limit - s ≡ suc (limit - (s + 1)) = omega arith in
-        let f = flag-same C (R .held .good) (o s) h (order-good s .within) (permutation-distinct (order-good s)) (r .good) in
-        let g : sameHaps h (sweep C (o s) h) ≡ not flag = f ∙ ap not (sym (w .told)) in
-        r .left ∙ rw (e, w .haps, ← g, add-one)
+    run-out l = let e : limit - s ≡ 0 = omega arith in ran (rw e at (r .left)) (r .liks) (r .scores)
 
-    good-on : GoodHaps C h'
-    good-on = rw (w .haps) (sweep-swept C (R .held .good) (o s) h (order-good s .within) (r .good) .good)
+    pub running-sweep : SweepStart C reads state (take (s % m * n + n - s % m * n) (drop (s % m * n) orders))
+    running-sweep = rw (part-is s) (record {
+      standing = record { held = R .standing .held; haps = r .good; liks = r .liks; room = omega (arith, r .long, R .standing .room) };
+      order-in = permutation-below (order-good s);
+    })
 
-    scores-on : post' ≡ posts rawScores C o h₀ post₀ (s + 1)
-    unfolding posts
-    scores-on = rw add-one (cc (w .scores, r .stood, r .scores))
+    module _ (l : s < limit) {state' : SweepState} {flag : Bool} (w' : Swept C (take (s % m * n + n - s % m * n) (drop (s % m * n) orders)) state state' flag) where
+      w : Swept C (o s) state state' flag
+      w = rw (part-is s) at w'
 
-    pub running-step : flag ≡ true → Running C o limit h₀ h' lik' post₀ post' (s + 1)
-    unfolding after
-    running-step e = record {
-      good = good-on;
-      liks = w .liks;
-      long = ap length (w .scores) ∙ length-recorded rawScores C (o s) h post ∙ r .long;
-      left = rw e at run-step;
-      stood = rw add-one (cc (w .haps, r .stood));
-      scores = scores-on;
-    }
+      -- the flag says which way the run goes
+      run-step : run C o limit 0 (before .hap) ≡ cond (not flag) (resultOf (s + 1) true (state' .hap)) (run C o (limit - (s + 1)) (s + 1) (state' .hap))
+      unfolding run
+      run-step =
+          let e : limit - s ≡ suc (limit - (s + 1)) = omega arith in
+          let f = flag-same C (R .standing .held .good) (o s) (state .hap) (order-good s .within) (permutation-distinct (order-good s)) (r .good) in
+          let g : sameHaps (state .hap) (sweep C (o s) (state .hap)) ≡ not flag = f ∙ ap not (sym (w .told)) in
+          r .left ∙ rw (e, w .haps, ← g, add-one)
 
-    pub run-settles : flag ≡ false → Ran C orders h₀ h' lik' post₀ post' n m limit (s + 1) true
-    run-settles e =
-        let q : run C o limit 0 h₀ ≡ resultOf (s + 1) true h' = rw e at run-step in
-        record { result = q; demand3 = rw q at (demand3 C (R .held .good) o order-good limit h₀ (R .some-sweep) (R .haps)); liks = w .liks; scores = scores-on }
+      scores-on : state' .post ≡ posts rawScores C o (before .hap) (before .post) (s + 1)
+      unfolding posts
+      scores-on = rw add-one (cc (w .scores, r .stood, r .scores))
 
-  pub run-out : (h : List ℕ) (lik post : List ℤ) (s : ℕ) → Running C o limit h₀ h lik post₀ post s → limit ≤ s → Ran C orders h₀ h lik post₀ post n m limit s false
-  unfolding run
-  run-out h lik post s r l =
-      let e : limit - s ≡ 0 = omega arith in
-      let q : run C o limit 0 h₀ ≡ resultOf s false h = rw e at (r .left) in
-      record { result = q; demand3 = rw q at (demand3 C (R .held .good) o order-good limit h₀ (R .some-sweep) (R .haps)); liks = r .liks; scores = r .scores }
+      pub running-step : flag ≡ true → Running C o limit before state' (s + 1)
+      unfolding after
+      running-step e = record {
+        good = rw (w .haps) (sweep-swept C (R .standing .held .good) (o s) (state .hap) (order-good s .within) (r .good) .good);
+        liks = w .liks;
+        long = ap length (w .scores) ∙ length-recorded rawScores C (o s) (state .hap) (state .post) ∙ r .long;
+        left = rw e at run-step;
+        stood = rw add-one (cc (w .haps, r .stood));
+        scores = scores-on;
+      }
+
+      pub run-settles : flag ≡ false → Ran C orders plan before state' (record { sweeps = s + 1; settled = true })
+      run-settles e = ran (rw e at run-step) (w .liks) scores-on

@@ -2,7 +2,7 @@
 use mathlib.Core.Path.{_≡_, _∙_}
 use mathlib.Core.Bool.{Bool, true, false, cond}
 use mathlib.Core.List.{List}
-use Prim.Native.Nat.{ℕ, zero, suc, _+_, _*_, _/_, _%_, _^_, _≤_}
+use Prim.Native.Nat.{ℕ, zero, suc, _+_, _*_, _^_, _≤_}
 use native.Mathlib.Omega.{arith}
 use lib.Dec.{eqb}
 use lib.ListN.{length, getD}
@@ -10,8 +10,12 @@ use lib.IntN.{ℤ, pos, natAbs, _+ℤ_, _-ℤ_, _*ℤ_}
 use Rattle.steps.proofs.Signed.{zlin, up-pos, dn-pos, neg-up, neg-dn, natAbs-parts, by-sign, add-abs, minus-abs}
 use Rattle.steps.proofs.AddExp.{add-size}
 use Rattle.variants_and_fragments.specs.Sums.{DownTo}
+use Rattle.variants_and_fragments.specs.Pileup.{Row}
+use Rattle.pileup.specs.Packed.{RowIn}
+use Rattle.sweeps.specs.Sweeps.{callTerm}
+use Rattle.likelihoods.specs.Held.{Within}
 use Rattle.call_genotypes.specs.declared.score.Gaps.{Gaps}
-use Rattle.call_genotypes.specs.Scores.{onePlus, gapValue, rowAt, valueOf, rowGaps, RowIn, Within, baseSum, pairGap}
+use Rattle.call_genotypes.specs.Scores.{onePlus, gapValue, valueOf, rowGap, rowGaps, baseSum, pairGap}
 use Rattle.call_genotypes.proofs.Turns.{times-size}
 
 -- a number in −n..0
@@ -59,25 +63,38 @@ quality-gap-size q o h k = omega (arith, minus-abs o q)
 pub distance-size : (l b y : ℤ) → natAbs l ≤ 2 ^ 32 → natAbs b ≤ 2 ^ 32 → natAbs y ≤ 2 ^ 19 → natAbs ((l -ℤ b) +ℤ y) ≤ 2 ^ 33 + 2 ^ 20
 distance-size l b y hl hb hy = omega (arith, add-abs (l -ℤ b) y, minus-abs l b)
 
--- the numbers of a row
-module _ (who : List ℕ) (quals one-minus-quals lik turns : List ℤ) (v p : ℕ) where
-  pub row-size : RowIn (length lik) who quals one-minus-quals p → Within (2 ^ 32) lik → Within 1 turns → (w : ℕ) → natAbs (rowGaps turns lik (rowAt v who quals one-minus-quals p) w) ≤ 2 ^ 35
-  unfolding rowGaps rowAt
-  row-size R W A w =
-      let f = 2 * (getD who p 0 / 4) in
-      let g = getD one-minus-quals p (pos 0) -ℤ getD quals p (pos 0) in
-      let y = getD turns (getD who p 0 % 4) (pos 0) *ℤ g in
-      let hg = quality-gap-size (getD quals p (pos 0)) (getD one-minus-quals p (pos 0)) (R .qual-small) (R .one-minus-qual-small) in
-      gap-size (getD lik (f + 1) (pos 0)) ((getD lik f (pos 0) -ℤ getD lik (f + 1) (pos 0)) +ℤ y) g (W (f + 1))
-      (distance-size (getD lik f (pos 0)) (getD lik (f + 1) (pos 0)) y (W f) (W (f + 1)) (times-size (getD turns (getD who p 0 % 4) (pos 0)) g (2 ^ 19) (A (getD who p 0 % 4)) hg))
-      hg w
+pub either-size : (b : Bool) (q o : ℤ) (n : ℕ) → natAbs q ≤ n → natAbs o ≤ n → natAbs (cond b o q) ≤ n
+either-size true q o n hq ho = ho
+either-size false q o n hq ho = hq
 
-  -- from what the code has
-  pub row-values : (r : Gaps) (b d g : ℤ) → g ≡ getD one-minus-quals p (pos 0) -ℤ getD quals p (pos 0) → b ≡ getD lik (2 * (getD who p 0 / 4) + 1) (pos 0)
-      → d ≡ (getD lik (2 * (getD who p 0 / 4)) (pos 0) -ℤ b) +ℤ (getD turns (getD who p 0 % 4) (pos 0) *ℤ g)
-      → ((w : ℕ) → valueOf r w ≡ gapValue b d g w) → (w : ℕ) → valueOf r w ≡ rowGaps turns lik (rowAt v who quals one-minus-quals p) w
-  unfolding rowGaps rowAt
-  row-values r b d g eg eb ed f w = f w ∙ cc
+-- what a call adds when its variant's allele goes from old to new
+pub change-size : (s t : Bool) (q o : ℤ) → natAbs q ≤ 2 ^ 18 → natAbs o ≤ 2 ^ 18 → natAbs (cond s o q -ℤ cond t o q) ≤ 2 ^ 19
+change-size s t q o hq ho = omega (arith, minus-abs (cond s o q) (cond t o q), either-size s q o (2 ^ 18) hq ho, either-size t q o (2 ^ 18) hq ho)
+
+-- the numbers of a row
+module _ {n f : ℕ} {row : Row} (R : RowIn n f row) where
+  pub qual-size : natAbs (row .call .qual) ≤ 2 ^ 18
+  qual-size = down-abs 262144 (row .call .qual) (R .qual-in)
+
+  pub other-size : natAbs (row .call .one-minus-qual) ≤ 2 ^ 18
+  other-size = down-abs 262144 (row .call .one-minus-qual) (R .one-minus-qual-in)
+
+  pub row-gap-size : natAbs (rowGap row) ≤ 2 ^ 19
+  row-gap-size = quality-gap-size (row .call .qual) (row .call .one-minus-qual) qual-size other-size
+
+  pub row-size : (turns lik : List ℤ) → Within (2 ^ 32) lik → Within 1 turns → (w : ℕ) → natAbs (rowGaps turns lik row w) ≤ 2 ^ 35
+  unfolding rowGaps
+  row-size turns lik W A w =
+      let i = 2 * row .fragment in
+      let y = getD turns (row .call .allele) (pos 0) *ℤ rowGap row in
+      gap-size (getD lik (i + 1) (pos 0)) ((getD lik i (pos 0) -ℤ getD lik (i + 1) (pos 0)) +ℤ y) (rowGap row) (W (i + 1))
+      (distance-size (getD lik i (pos 0)) (getD lik (i + 1) (pos 0)) y (W i) (W (i + 1)) (times-size (getD turns (row .call .allele) (pos 0)) (rowGap row) (2 ^ 19) (A (row .call .allele)) row-gap-size))
+      row-gap-size w
+
+  -- what its call adds when its variant's allele goes from old to new
+  pub row-change-size : (old new : ℕ) → natAbs (callTerm (row .call) new -ℤ callTerm (row .call) old) ≤ 2 ^ 19
+  unfolding callTerm
+  row-change-size old new = change-size (eqb (row .call .allele) new) (eqb (row .call .allele) old) (row .call .qual) (row .call .one-minus-qual) qual-size other-size
 
 -- ---- the three parts of a pair's score
 pub base-size : (acc : List ℤ) (n : ℕ) → Within (2 ^ 50) acc → n ≤ 16384 → natAbs (baseSum acc n) ≤ 2 ^ 52
@@ -90,11 +107,3 @@ pair-size acc i j W = go (eqb i j)
     go : (t : Bool) → natAbs (cond t (getD acc (4 * i + 2) (pos 0)) (getD acc (4 * i) (pos 0) +ℤ getD acc (4 * j + 1) (pos 0))) ≤ 2 ^ 51
     go true = omega (arith, W (4 * i + 2))
     go false = omega (arith, add-abs (getD acc (4 * i) (pos 0)) (getD acc (4 * j + 1) (pos 0)), W (4 * i), W (4 * j + 1))
-
-pub either-size : (b : Bool) (q o : ℤ) (n : ℕ) → natAbs q ≤ n → natAbs o ≤ n → natAbs (cond b o q) ≤ n
-either-size true q o n hq ho = ho
-either-size false q o n hq ho = hq
-
--- what a call adds when its variant's allele goes from old to new
-pub change-size : (s t : Bool) (q o : ℤ) → natAbs q ≤ 2 ^ 18 → natAbs o ≤ 2 ^ 18 → natAbs (cond s o q -ℤ cond t o q) ≤ 2 ^ 19
-change-size s t q o hq ho = omega (arith, minus-abs (cond s o q) (cond t o q), either-size s q o (2 ^ 18) hq ho, either-size t q o (2 ^ 18) hq ho)

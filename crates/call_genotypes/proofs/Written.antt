@@ -4,16 +4,20 @@ use mathlib.Core.Bool.{cond}
 use mathlib.Core.List.{List}
 use Prim.Native.Nat.{ℕ, zero, suc, _+_, _-_, _*_, _/_, _%_, _<_, _≤_}
 use native.Mathlib.Omega.{arith}
-use lib.ListN.{length, set, length-set}
+use native.Mathlib.Nat.{div-mul-le-self, mod-eq-sub-div-mul, mul-le-mul-right}
+use lib.ListN.{length, getD, set, length-set}
 use lib.Seq.{sets}
-use lib.IntN.{ℤ}
+use lib.IntN.{ℤ, pos}
 use lib.Signed.{ltZ}
 use Rattle.steps.proofs.Signed.{by-test}
 use Rattle.variants_and_fragments.specs.Decode.{tabulateFrom, tabulate}
 use Rattle.variants_and_fragments.proofs.Tabulated.{table-start, table-more, table-end}
 use Rattle.genotype_probs.specs.Posteriors.{firstMaximum}
-use Rattle.genotype_probs.proofs.Maxima.{maximum-more, maximum-kept}
+use Rattle.genotype_probs.proofs.AlleleLaws.{nine}
+use Rattle.genotype_probs.proofs.Maxima.{meets, maximum-more, maximum-kept}
 use Rattle.genotype_probs.proofs.Pairs.{NextPair, pair-start, row-on, place-on}
+use Rattle.genotype_probs.proofs.TableSums.{place-in, pair-in}
+use Rattle.call_genotypes.specs.Visits.{bestAt, BestPair}
 
 -- p of the k × k values of g are written from `at` on, and (i, j) is the next pair
 pub record Writing (g : ℕ → ℤ) (at k : ℕ) (post₀ post : List ℤ) (p i j : ℕ) : Type 0 where
@@ -62,3 +66,24 @@ best-step f b b' g z z' s p q =
     (λ t.
     let e : b' ≡ b = rw t at p in
     record { is = e ∙ maximum-kept f b g (s .is) (rw (s .best) at t); best = (rw t at q) ∙ s .best ∙ ap f (sym e) })
+
+-- the pair of the first of the greatest, from what the code has of it: its number b and its row r
+module _ (post : List ℤ) (v k b : ℕ) (least : 1 ≤ k) (top : k ≤ 3) (e : b ≡ bestAt post v k) where
+  best-in : b < k * k
+  best-in = rw e (meets (λ g. getD post (9 * v + g) (pos 0)) (k * k) (omega (arith, place-in 0 0 k least least)) .inside)
+
+  pub best-few : b < 3 * k
+  best-few = omega (arith, best-in, mul-le-mul-right k top)
+
+  module _ (r : ℕ) (er : r ≡ b / k) where
+    pub row-low : r * k ≤ b
+    row-low = rw er (div-mul-le-self b k)
+
+    pub row-few : r * k < 9
+    row-few = omega (arith, row-low, best-in, nine k top)
+
+    pub best-pair : BestPair post v k (record { first = r; second = b - r * k })
+    best-pair =
+        let i = pair-in k b least best-in in
+        let m : b - r * k ≡ b % k = rw er (sym (mod-eq-sub-div-mul b k)) in
+        record { first = er ∙ ap (λ (x : ℕ). x / k) e; second = m ∙ ap (λ (x : ℕ). x % k) e; first-in = rw er (i .0); second-in = rw m (i .1) }

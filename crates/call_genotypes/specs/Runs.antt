@@ -42,3 +42,7 @@ pub record Ran (C : SweepCase) (orders : List ℕ) (plan : Plan) (before after :
   pub liks : Liks C (after .hap) (after .lik)
   -- each variant's latest scores
   pub scores : after .post ≡ posts rawScores C (orderOf orders (plan .n) (plan .m)) (before .hap) (before .post) (r .sweeps)
+
+-- whatever case stands
+abbrev pub RanFrom : SweepReads → SweepState → List ℕ → Plan → SweepState → RunAnswer → Type 0
+RanFrom reads before orders plan after r = (C : SweepCase) → RunStart C reads before orders plan → Ran C orders plan before after r

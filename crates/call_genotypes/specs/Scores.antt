@@ -11,11 +11,16 @@ use Rattle.steps.specs.Logs.{addExp}
 use Rattle.variants_and_fragments.specs.Pileup.{Row}
 use Rattle.variants_and_fragments.specs.Decode.{tabulate}
 use Rattle.variants_and_fragments.specs.Sums.{sumOver}
-use Rattle.sweeps.specs.Sweeps.{SweepCase, GoodHaps, score}
+use Rattle.sweeps.specs.Sweeps.{SweepCase, GoodHaps, allele0, allele1, score}
 use Rattle.sweeps.specs.Incremental.{alleleSum}
 use Rattle.call_genotypes.specs.declared.score.Gaps.{Gaps}
-use Rattle.pileup.specs.Packed.{rowAt, rowsAt}
+use Rattle.call_genotypes.specs.declared.score.Pair.{Pair}
+use Rattle.pileup.specs.Packed.{rowsAt, RowIn, RowsIn}
 use Rattle.likelihoods.specs.Held.{SweepReads, Held, Liks, Within}
+
+-- the pair that stands at v
+abbrev pub pairAt : List ℕ → ℕ → Pair
+pairAt h v = record { first = allele0 h v; second = allele1 h v }
 
 -- ln(1 + exp(d)), in steps
 abbrev pub onePlus : ℤ → ℤ
@@ -52,18 +57,13 @@ rowGaps turns lik row w =
 unfoldable pub turn : Bool → ℕ → ℕ → ℕ → ℤ
 turn phased g0 g1 x = cond phased (cond (eqb x g1) (pos 1) (pos 0) -ℤ cond (eqb x g0) (pos 1) (pos 0)) (pos 0)
 
--- the row at p: its ranges, there being room for n likelihoods
-pub record RowFits (n : ℕ) (piles : List ℕ) (p : ℕ) : Type 0 where
-  pub long : p < length piles
-  pub fragment-in : 2 * rowAt piles p .fragment + 1 < n
-  pub allele-in : rowAt piles p .call .allele < 3
-  pub qual-small : natAbs (rowAt piles p .call .qual) ≤ 2 ^ 18
-  pub one-minus-qual-small : natAbs (rowAt piles p .call .one-minus-qual) ≤ 2 ^ 18
+-- lik has the two likelihoods of the row's fragment, and the row's parts have their ranges
+abbrev pub RowFits : List ℤ → Row → Type 0
+RowFits lik row = RowIn 1024 (length lik / 2) row
 
--- the rows at a..e
-pub record PileFits (n : ℕ) (piles : List ℕ) (a e : ℕ) : Type 0 where
-  pub few : e ≤ a + 16384
-  pub rows-fit : (p : ℕ) → a ≤ p → p < e → RowFits n piles p
+-- the same of the rows at a..e
+abbrev pub PileFits : List ℤ → List ℕ → ℕ → ℕ → Type 0
+PileFits lik piles a e = RowsIn 1024 (length lik / 2) piles a e
 
 -- acc[4 × x + w] is the sum of value w over the rows of allele x
 pub record AlleleSums (value : Row → ℕ → ℤ) (rows : List Row) (acc : List ℤ) : Type 0 where
@@ -95,10 +95,6 @@ scoresOf pri acc base v k = tabulate (k * k) (λ p. (getD pri (9 * v + p) (pos 0
 unfoldable pub addFour : (ℕ → ℤ) → ℕ → List ℤ → List ℤ
 addFour value x acc = sets acc (4 * x) (tabulate 4 (λ w. getD acc (4 * x + w) (pos 0) +ℤ value w))
 
--- the scores' table as it is recorded at a visit: k × k of them, not normalised
-abbrev pub rawScores : ℕ → (ℕ → ℤ) → List ℤ
-rawScores k s = tabulate (k * k) s
-
 -- room for the nine priors and the nine scores of v
 pub record ScoresRoom (pri post : List ℤ) (v k : ℕ) : Type 0 where
   pub v-top : v < 1024
@@ -108,6 +104,7 @@ pub record ScoresRoom (pri post : List ℤ) (v k : ℕ) : Type 0 where
   pub post-long : 9 * v + 9 ≤ length post
   pub pri-small : (p : ℕ) → p < k * k → natAbs (getD pri (9 * v + p) (pos 0)) ≤ 2 ^ 21
 
+-- ---- what stands, and the scores of a variant
 -- there is a case of which P holds
 pub record Some (P : SweepCase → Type 0) : Type 0 where
   pub case : SweepCase
@@ -129,6 +126,19 @@ pub record Standing (C : SweepCase) (reads : SweepReads) (state : SweepState) : 
   pub liks : Liks C (state .hap) (state .lik)
   pub room : 9 * C .n ≤ length (state .post)
 
+-- what stands before a visit of v
+pub record VisitStart (C : SweepCase) (reads : SweepReads) (state : SweepState) (v : ℕ) : Type 0 where
+  pub standing : Standing C reads state
+  pub v-in : v < C .n
+
+-- the scores' table as it is recorded at a visit: k × k of them, not normalised
+abbrev pub rawScores : ℕ → (ℕ → ℤ) → List ℤ
+rawScores k s = tabulate (k * k) s
+
+-- the latest scores with those of v's pairs
+abbrev pub scoredAt : SweepCase → ℕ → SweepState → List ℤ
+scoredAt C v state = sets (state .post) (9 * v) (rawScores (C .k v) (score C v (state .hap)))
+
 -- the scores of v's pairs are written, whatever case stands
-pub record ScoresAre (C : SweepCase) (v : ℕ) (before : SweepState) (post' : List ℤ) : Type 0 where
-  pub are : post' ≡ sets (before .post) (9 * v) (rawScores (C .k v) (score C v (before .hap)))
+abbrev pub Scored : SweepReads → SweepState → ℕ → List ℤ → Type 0
+Scored reads before v post' = (C : SweepCase) → VisitStart C reads before v → post' ≡ scoredAt C v before

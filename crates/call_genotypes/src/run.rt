@@ -1,10 +1,9 @@
 // The run of sweeps.
 ghost use mathlib.Core.Path.{_≡_};
-ghost use Rattle.sweeps.specs.Sweeps.{SweepCase};
 ghost use Rattle.steps.specs.Lines.{lines};
 ghost use Rattle.likelihoods.specs.Held.{sweepReads};
 ghost use Rattle.call_genotypes.specs.Scores.{Some, sweepState};
-ghost use Rattle.call_genotypes.specs.Runs.{RunStart, Ran};
+ghost use Rattle.call_genotypes.specs.Runs.{RunStart, RanFrom};
 use crate::visit::sweep;
 
 // How many sweeps were made, the last included, and whether the last one changed nothing.
@@ -37,7 +36,7 @@ pub fn run_sweeps(
 ) -> RunAnswer
     requires { ⌜ now t ≡ lines ⌝ }
     requires { ⌜ Some (λ C. RunStart C (sweepReads (now ks) (now ph) (now pri) (now ends) (now piles)) (sweepState (now hap) (now lik) (now post)) (now orders) plan) ⌝ }
-    ensures { λ r. ⌜ ((C : SweepCase) → RunStart C (sweepReads (now (ks .entry)) (now (ph .entry)) (now (pri .entry)) (now (ends .entry)) (now (piles .entry))) (sweepState (now (hap .entry)) (now (lik .entry)) (now (post .entry))) (now (orders .entry)) plan → Ran C (now (orders .entry)) plan (sweepState (now (hap .entry)) (now (lik .entry)) (now (post .entry))) (sweepState (now (hap .exit)) (now (lik .exit)) (now (post .exit))) r) ⌝ }
+    ensures { λ r. ⌜ RanFrom (sweepReads (now (ks .entry)) (now (ph .entry)) (now (pri .entry)) (now (ends .entry)) (now (piles .entry))) (sweepState (now (hap .entry)) (now (lik .entry)) (now (post .entry))) (now (orders .entry)) plan (sweepState (now (hap .exit)) (now (lik .exit)) (now (post .exit))) r ⌝ }
 {
     let n = plan.n;
     let m = plan.m;

@@ -1,16 +1,24 @@
-// The scores of one variant's pairs. A pile's row is a u32 of `who`, 4 times the fragment plus the allele, with its qual in
-// `quals` and its one_minus_qual in `omqs`.
+// The scores of one variant's pairs.
 ghost use mathlib.Core.Path.{_≡_};
-ghost use Prim.Native.Nat.{ℕ, _+_, _-_, _*_, _/_, _%_, _^_, _<_, _≤_};
+ghost use Prim.Native.Nat.{ℕ, _+_, _-_, _*_, _^_, _<_, _≤_};
 ghost use lib.ListN.{length, getD, set, replicate};
 ghost use lib.Seq.{sets};
 ghost use lib.IntN.{pos, natAbs, _+ℤ_, _-ℤ_, _*ℤ_};
-ghost use Rattle.genotype_probs.specs.Posteriors.{firstMaximum};
-ghost use Rattle.sweeps.specs.Sweeps.{SweepCase, score};
 ghost use Rattle.steps.specs.Lines.{lines};
-ghost use Rattle.call_genotypes.specs.Scores.{valueOf, gapValue, rowAt, rowsAt, rowGaps, turn, RowIn, PileIn, Within, AlleleSums, addFour, QualsIn, qualSum, baseSum, neitherSum, pairGap, scoresOf, ScoresRoom, Some, Standing, rawScores};
-use pileup::piles::pile_start;
+ghost use Rattle.pileup.specs.Packed.{rowFrom, rowsAt, RowsIn};
+ghost use Rattle.genotype_probs.specs.Posteriors.{firstMaximum};
+ghost use Rattle.likelihoods.specs.Held.{Within, sweepReads};
+ghost use Rattle.call_genotypes.specs.Scores.{pairAt, valueOf, gapValue, rowGaps, turn, RowFits, PileFits, AlleleSums, addFour, qualSum, baseSum, neitherSum, pairGap, scoresOf, ScoresRoom, Some, sweepState, VisitStart, Scored};
+use pileup::piles::group_start;
+use pileup::row::Row;
+use pileup::row::unpack;
 use steps::one_plus::ln_one_plus_exp;
+
+// A variant's alleles on the two haplotypes.
+pub struct Pair {
+    pub first: usize,
+    pub second: usize,
+}
 
 // Of a call: how far a score rises over the one where neither haplotype has its allele, if the first has, the second has, both have;
 // and its read's second likelihood that stands plus ln(1 + exp(d)), the first being d above the second when both are without the call.
@@ -35,30 +43,6 @@ fn gaps_of(t: &[u32; 6420], b: i64, d: i64, g: i64) -> Gaps
         both: g,
         base: b + m0,
     }
-}
-
-// The fragment of the row at p.
-pub fn fragment_at(who: &[u32], p: usize) -> usize
-    requires { ⌜ p < length (now who) ⌝ }
-    ensures { λ r. ⌜ r ≡ getD (now (who .entry)) p 0 / 4 ⌝ }
-{
-    (who[p] / 4) as usize
-}
-
-// The allele of the row at p.
-pub fn allele_at(who: &[u32], p: usize) -> usize
-    requires { ⌜ p < length (now who) ⌝ }
-    ensures { λ r. ⌜ r ≡ getD (now (who .entry)) p 0 % 4 ⌝ }
-{
-    (who[p] % 4) as usize
-}
-
-// A quality of the row at p.
-pub fn quality_at(quals: &[i32], p: usize) -> i64
-    requires { ⌜ p < length (now quals) ⌝ }
-    ensures { λ r. ⌜ r ≡ getD (now (quals .entry)) p (pos 0) ⌝ }
-{
-    quals[p] as i64
 }
 
 // How far o is above q.
@@ -94,28 +78,17 @@ fn distance(l: i64, b: i64, y: i64) -> i64
     l - b + y
 }
 
-// The four numbers of the call at p.
-fn call_gaps(
-    t: &[u32; 6420],
-    who: &[u32],
-    quals: &[i32],
-    omqs: &[i32],
-    lik: &[i64],
-    turns: &[i64; 4],
-    p: usize,
-) -> Gaps
+// The four numbers of a row's call.
+fn call_gaps(t: &[u32; 6420], row: Row, lik: &[i64], turns: &[i64; 4]) -> Gaps
     requires { ⌜ now t ≡ lines ⌝ }
-    requires { ⌜ RowIn (length (now lik)) (now who) (now quals) (now omqs) p ⌝ }
-    requires { ⌜ Within (2 ^ 32) (now lik) ⌝ }
-    requires { ⌜ Within 1 (now turns) ⌝ }
-    ensures { λ r. ⌜ ((v w : ℕ) → valueOf r w ≡ rowGaps (now (turns .entry)) (now (lik .entry)) (rowAt v (now (who .entry)) (now (quals .entry)) (now (omqs .entry)) p) w) ⌝ }
+    requires { ⌜ RowFits (now lik) (rowFrom row) ⌝ }
+    requires { ⌜ Within (2 ^ 32) (now lik) × Within 1 (now turns) ⌝ }
+    ensures { λ r. ⌜ ((w : ℕ) → valueOf r w ≡ rowGaps (now (turns .entry)) (now (lik .entry)) (rowFrom row) w) ⌝ }
 {
-    let f = 2 * fragment_at(who, p);
-    let x = allele_at(who, p);
-    let q = quality_at(quals, p);
-    let g = gap(q, quality_at(omqs, p));
+    let f = 2 * row.fragment;
+    let g = gap(row.qual, row.one_minus_qual);
     let b = likelihood_at(lik, f + 1);
-    let d = distance(likelihood_at(lik, f), b, turned(turns, x, g));
+    let d = distance(likelihood_at(lik, f), b, turned(turns, row.allele, g));
     gaps_of(t, b, d, g)
 }
 
@@ -143,9 +116,7 @@ fn add_four(r: Gaps, acc: &mut [i64; 12], x: usize)
 // Sums the four numbers of the calls a..e per allele. At the loop's head the calls before p are in the sums.
 fn score_calls(
     t: &[u32; 6420],
-    who: &[u32],
-    quals: &[i32],
-    omqs: &[i32],
+    piles: &[u64],
     lik: &[i64],
     turns: &[i64; 4],
     acc: &mut [i64; 12],
@@ -153,17 +124,16 @@ fn score_calls(
     e: usize,
 )
     requires { ⌜ now t ≡ lines ⌝ }
-    requires { ⌜ PileIn (length (now lik)) (now who) (now quals) (now omqs) a e ⌝ }
-    requires { ⌜ Within (2 ^ 32) (now lik) ⌝ }
-    requires { ⌜ Within 1 (now turns) ⌝ }
+    requires { ⌜ PileFits (now lik) (now piles) a e ⌝ }
+    requires { ⌜ Within (2 ^ 32) (now lik) × Within 1 (now turns) ⌝ }
     requires { ⌜ now acc ≡ replicate 12 (pos 0) ⌝ }
-    ensures { λ _. ⌜ ((v : ℕ) → AlleleSums (rowGaps (now (turns .entry)) (now (lik .entry))) (rowsAt v (now (who .entry)) (now (quals .entry)) (now (omqs .entry)) a e) (now (acc .exit))) ⌝ }
+    ensures { λ _. ⌜ AlleleSums (rowGaps (now (turns .entry)) (now (lik .entry))) (rowsAt (now (piles .entry)) a e) (now (acc .exit)) ⌝ }
 {
     let mut p = a;
     while p < e {
-        let r = call_gaps(t, who, quals, omqs, lik, turns, p);
-        let x = allele_at(who, p);
-        add_four(r, acc, x);
+        let row = unpack(piles[p]);
+        let r = call_gaps(t, row, lik, turns);
+        add_four(r, acc, row.allele);
         p += 1;
     }
 }
@@ -180,14 +150,15 @@ fn make_turns(turns: &mut [i64; 4], phased: bool, g0: usize, g1: usize)
 }
 
 // The sum of the quals at a..e. At the loop's head those before p are in it.
-fn sum_quals(quals: &[i32], a: usize, e: usize) -> i64
-    requires { ⌜ QualsIn (now quals) a e ⌝ }
-    ensures { λ r. ⌜ (r ≡ qualSum (now (quals .entry)) a (e - a)) × (natAbs r ≤ 2 ^ 32) ⌝ }
+fn sum_quals(piles: &[u64], a: usize, e: usize) -> i64
+    requires { ⌜ RowsIn 1024 4096 (now piles) a e ⌝ }
+    ensures { λ r. ⌜ (r ≡ qualSum (rowsAt (now (piles .entry)) a e)) × (natAbs r ≤ 2 ^ 32) ⌝ }
 {
     let mut n: i64 = 0;
     let mut p = a;
     while p < e {
-        n += quality_at(quals, p);
+        let row = unpack(piles[p]);
+        n += row.qual;
         p += 1;
     }
     n
@@ -202,16 +173,16 @@ fn base_sum(acc: &[i64; 12], n: usize) -> i64
 }
 
 // What the calls a..e add to a score if neither haplotype has their alleles; g1 is the allele that stands on the second.
-fn neither_sum(quals: &[i32], acc: &[i64; 12], a: usize, e: usize, phased: bool, g1: usize) -> i64
-    requires { ⌜ QualsIn (now quals) a e × (a ≤ e) × (g1 < 3) ⌝ }
+fn neither_sum(piles: &[u64], acc: &[i64; 12], a: usize, e: usize, phased: bool, g1: usize) -> i64
+    requires { ⌜ RowsIn 1024 4096 (now piles) a e × (a ≤ e) × (g1 < 3) ⌝ }
     requires { ⌜ Within (2 ^ 50) (now acc) ⌝ }
-    ensures { λ r. ⌜ (r ≡ neitherSum phased g1 (now (quals .entry)) (now (acc .entry)) a e) × (natAbs r ≤ 2 ^ 53) ⌝ }
+    ensures { λ r. ⌜ (r ≡ neitherSum phased g1 (now (piles .entry)) (now (acc .entry)) a e) × (natAbs r ≤ 2 ^ 53) ⌝ }
 {
     let n = base_sum(acc, e - a);
     if phased {
         n - acc[4 * g1 + 2]
     } else {
-        n + sum_quals(quals, a, e)
+        n + sum_quals(piles, a, e)
     }
 }
 
@@ -278,6 +249,17 @@ pub fn first_max(s: &[i64], at: usize, m: usize) -> usize
     b
 }
 
+// The pair that stands at v.
+pub fn pair_at(hap: &[u8], v: usize) -> Pair
+    requires { ⌜ (v < 1024) × (2 * v + 1 < length (now hap)) ⌝ }
+    ensures { λ r. ⌜ r ≡ pairAt (now (hap .entry)) v ⌝ }
+{
+    Pair {
+        first: hap[2 * v] as usize,
+        second: hap[2 * v + 1] as usize,
+    }
+}
+
 // Writes the scores of v's pairs, not normalised, at 9 * v.
 pub fn scores(
     t: &[u32; 6420],
@@ -285,28 +267,25 @@ pub fn scores(
     ph: &[u8],
     pri: &[i64],
     ends: &[usize],
-    who: &[u32],
-    quals: &[i32],
-    omqs: &[i32],
+    piles: &[u64],
     hap: &[u8],
     lik: &[i64],
     post: &mut [i64],
     v: usize,
 )
     requires { ⌜ now t ≡ lines ⌝ }
-    requires { ⌜ Some (λ C. Standing C (now ks) (now ph) (now pri) (now ends) (now who) (now quals) (now omqs) (now hap) (now lik) (now post) v) ⌝ }
-    ensures { λ _. ⌜ ((C : SweepCase) → Standing C (now (ks .entry)) (now (ph .entry)) (now (pri .entry)) (now (ends .entry)) (now (who .entry)) (now (quals .entry)) (now (omqs .entry)) (now (hap .entry)) (now (lik .entry)) (now (post .entry)) v → now (post .exit) ≡ sets (now (post .entry)) (9 * v) (rawScores (C .k v) (score C v (now (hap .entry))))) ⌝ }
+    requires { ⌜ Some (λ C. VisitStart C (sweepReads (now ks) (now ph) (now pri) (now ends) (now piles)) (sweepState (now hap) (now lik) (now post)) v) ⌝ }
+    ensures { λ _. ⌜ Scored (sweepReads (now (ks .entry)) (now (ph .entry)) (now (pri .entry)) (now (ends .entry)) (now (piles .entry))) (sweepState (now (hap .entry)) (now (lik .entry)) (now (post .entry))) v (now (post .exit)) ⌝ }
 {
     let k = ks[v] as usize;
     let phased = ph[v] != 0;
-    let a = pile_start(ends, v);
+    let a = group_start(ends, v);
     let e = ends[v];
-    let g0 = hap[2 * v] as usize;
-    let g1 = hap[2 * v + 1] as usize;
+    let old = pair_at(hap, v);
     let mut turns = [0i64; 4];
-    make_turns(&mut turns, phased, g0, g1);
+    make_turns(&mut turns, phased, old.first, old.second);
     let mut acc = [0i64; 12];
-    score_calls(t, who, quals, omqs, lik, &turns, &mut acc, a, e);
-    let base = neither_sum(quals, &acc, a, e, phased, g1);
+    score_calls(t, piles, lik, &turns, &mut acc, a, e);
+    let base = neither_sum(piles, &acc, a, e, phased, old.second);
     write_scores(pri, post, &acc, base, v, k);
 }

@@ -5,18 +5,21 @@ use native.Mathlib.Omega.{arith}
 use borrow.Author.Tests.{not-true, not-false}
 use lib.ListN.{length}
 use Rattle.sweeps.specs.Sweeps.{SweepCase}
+use Rattle.likelihoods.specs.Held.{sweepReads}
+use Rattle.call_genotypes.specs.Scores.{sweepState}
 use Rattle.call_genotypes.specs.Runs.{orderOf, RunStart}
 use Rattle.call_genotypes.proofs.Running.{Running, end-fits, running-start, running-sweep, running-step, run-settles, run-out}
 use Rattle.call_genotypes.proofs.run.run_sweeps.Statement.{statement}
 use Rattle.call_genotypes.proofs.run.run_sweeps.Tie as tie
 
 abbrev Inv-loop : tie.InvT-loop
-Inv-loop t ks ph pri ends who quals omqs orders hap₀ lik₀ post₀ n m limit s₀ hap lik post s =
-    (C : SweepCase) → RunStart C ks ph pri ends who quals omqs orders hap₀ lik₀ post₀ n m limit → Running C (orderOf orders n m) limit hap₀ hap lik post₀ post s
+Inv-loop t ks ph pri ends piles orders hap₀ lik₀ post₀ n m limit s₀ hap lik post s =
+    (C : SweepCase) → RunStart C (sweepReads ks ph pri ends piles) (sweepState hap₀ lik₀ post₀) orders (record { n = n; m = m; limit = limit }) → Running C (orderOf orders n m) limit (sweepState hap₀ lik₀ post₀) (sweepState hap lik post) s
 
 abbrev μ-loop : tie.MeasureT-loop
-μ-loop t ks ph pri ends who quals omqs orders hap₀ lik₀ post₀ n m limit s₀ hap lik post s = limit - s
+μ-loop t ks ph pri ends piles orders hap₀ lik₀ post₀ n m limit s₀ hap lik post s = limit - s
 
+-- the places before
 abbrev st : tie.At-loop Inv-loop μ-loop → tie.Start Inv-loop μ-loop
 st c = c .before .before .before .before .before .before .before
 
@@ -26,7 +29,7 @@ swept c = c .before .before .before .before
 abbrev turn : tie.After-sweep Inv-loop μ-loop → tie.In-loop Inv-loop μ-loop
 turn c = c .before .before .before .before .before
 
-part-fits : (c : tie.In-loop Inv-loop μ-loop) → c .before .loop .s % st (c .before) .args .m * st (c .before) .args .n + st (c .before) .args .n ≤ length (st (c .before) .args .orders .now)
+part-fits : (c : tie.In-loop Inv-loop μ-loop) → let p = st (c .before) .args .plan in c .before .loop .s % p .m * p .n + p .n ≤ length (st (c .before) .args .orders .now)
 part-fits c = end-fits (st (c .before) .pre .1 .holds) (c .before .loop .s)
 
 loop-holds : tie.Need-loop-holds Inv-loop μ-loop
@@ -36,13 +39,13 @@ rem-a : tie.Need-rem-a Inv-loop μ-loop
 rem-a c = st (c .before) .pre .1 .holds .some-order
 
 mul-a : tie.Need-mul-a Inv-loop μ-loop
-mul-a c = omega (arith, part-fits c, st (c .before) .good .1 .1 .1 .1 .1 .1 .1 .1 .0 .0)
+mul-a c = omega (arith, part-fits c, st (c .before) .good .1 .1 .1 .1 .1 .1 .0 .0)
 
 add-e : tie.Need-add-e Inv-loop μ-loop
-add-e c = omega (arith, part-fits c, st (c .before) .good .1 .1 .1 .1 .1 .1 .1 .1 .0 .0)
+add-e c = omega (arith, part-fits c, st (c .before) .good .1 .1 .1 .1 .1 .1 .0 .0)
 
 mul-part : tie.Need-mul-part Inv-loop μ-loop
-mul-part c = omega (arith, part-fits c, st (c .before) .good .1 .1 .1 .1 .1 .1 .1 .1 .0 .1)
+mul-part c = omega (arith, part-fits c, st (c .before) .good .1 .1 .1 .1 .1 .1 .0 .1)
 
 sub-part : tie.Need-sub-part Inv-loop μ-loop
 sub-part c = omega arith
@@ -61,49 +64,51 @@ sweep-requires c κs =
     let l = c .before .before .before .before in
     let s = st (l .before) in
     let R = s .pre .1 .holds in
-    (s .pre .0, record { case = s .pre .1 .case; holds = running-sweep R _ _ _ _ (l .before .loop .inv _ R) })
+    (s .pre .0, record { case = s .pre .1 .case; holds = running-sweep R (l .before .loop .inv _ R) })
 
 same-length : tie.Need-same-length Inv-loop μ-loop
 same-length c = let w = swept (c .before) in
     let l = turn w .before in
-    let R = st l .pre .1 .holds in w .sweep .kept .1 .1 .1 .1 .1 .1 .1 .1 .1 .0 ∙ (l .loop .inv _ R .good .len ∙ sym (R .haps .len))
+    let R = st l .pre .1 .holds in w .sweep .kept .1 .1 .1 .1 .1 .1 .1 .0 ∙ (l .loop .inv _ R .good .len ∙ sym (R .standing .haps .len))
 
 same-length-2 : tie.Need-same-length-2 Inv-loop μ-loop
 same-length-2 c = let w = swept (c .before) in
     let l = turn w .before in
-    let R = st l .pre .1 .holds in w .sweep .kept .1 .1 .1 .1 .1 .1 .1 .1 .1 .1 .0 ∙ (l .loop .inv _ R .liks .long ∙ sym (R .liks .long))
+    let R = st l .pre .1 .holds in w .sweep .kept .1 .1 .1 .1 .1 .1 .1 .1 .0 ∙ (l .loop .inv _ R .liks .long ∙ sym (R .standing .liks .long))
 
 same-length-3 : tie.Need-same-length-3 Inv-loop μ-loop
 same-length-3 c = let w = swept (c .before) in
     let l = turn w .before in
-    let R = st l .pre .1 .holds in w .sweep .kept .1 .1 .1 .1 .1 .1 .1 .1 .1 .1 .1 .0 ∙ l .loop .inv _ R .long
+    let R = st l .pre .1 .holds in w .sweep .kept .1 .1 .1 .1 .1 .1 .1 .1 .1 .0 ∙ l .loop .inv _ R .long
 
 returns : tie.Need-returns Inv-loop μ-loop
 returns c C R =
     let w = swept (c .before) in
     let l = turn w in
-    run-settles R _ _ _ _ _ _ (l .before .loop .s) (w .sweep .result) (l .before .loop .inv C R) (l .loop-test .taken) (w .sweep .ensures C (running-sweep R _ _ _ _ (l .before .loop .inv C R))) (not-true _ (c .if1 .taken))
+    let i = l .before .loop .inv C R in
+    run-settles R i (l .loop-test .taken) (w .sweep .ensures C (running-sweep R i)) (not-true _ (c .if1 .taken))
 
 loop-less : tie.Need-loop-less Inv-loop μ-loop
-loop-less c = let l = turn (swept (c .before)) in omega (arith, l .loop-test .taken)
+loop-less c = omega (arith, turn (swept (c .before)) .loop-test .taken)
 
 loop-again : tie.Need-loop-again Inv-loop μ-loop
 loop-again c C R =
     let w = swept (c .before) in
     let l = turn w in
-    running-step R _ _ _ _ _ _ (l .before .loop .s) (w .sweep .result) (l .before .loop .inv C R) (l .loop-test .taken) (w .sweep .ensures C (running-sweep R _ _ _ _ (l .before .loop .inv C R))) (not-false _ (c .if1 .left))
+    let i = l .before .loop .inv C R in
+    running-step R i (l .loop-test .taken) (w .sweep .ensures C (running-sweep R i)) (not-false _ (c .if1 .left))
 
 same-length-4 : tie.Need-same-length-4 Inv-loop μ-loop
-same-length-4 c = let R = st (c .before) .pre .1 .holds in c .before .loop .inv _ R .good .len ∙ sym (R .haps .len)
+same-length-4 c = let R = st (c .before) .pre .1 .holds in c .before .loop .inv _ R .good .len ∙ sym (R .standing .haps .len)
 
 same-length-5 : tie.Need-same-length-5 Inv-loop μ-loop
-same-length-5 c = let R = st (c .before) .pre .1 .holds in c .before .loop .inv _ R .liks .long ∙ sym (R .liks .long)
+same-length-5 c = let R = st (c .before) .pre .1 .holds in c .before .loop .inv _ R .liks .long ∙ sym (R .standing .liks .long)
 
 same-length-6 : tie.Need-same-length-6 Inv-loop μ-loop
 same-length-6 c = let R = st (c .before) .pre .1 .holds in c .before .loop .inv _ R .long
 
 returns-2 : tie.Need-returns-2 Inv-loop μ-loop
-returns-2 c C R = run-out R _ _ _ _ (c .before .loop .inv C R) (c .loop-test .left)
+returns-2 c C R = run-out R (c .before .loop .inv C R) (c .loop-test .left)
 
 pub run-sweeps-spec : {M : Type 1} → statement M
 run-sweeps-spec =

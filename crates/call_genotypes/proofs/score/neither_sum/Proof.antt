@@ -12,15 +12,15 @@ use Rattle.call_genotypes.proofs.score.neither_sum.Statement.{statement
 use Rattle.call_genotypes.proofs.score.neither_sum.Tie as tie
 
 base-small : (c : tie.After-base-sum) → natAbs (c .base-sum .result) ≤ 2 ^ 52
-base-small c = let s = c .before in
+base-small c = let s = c .before .before in
     rw (c .base-sum .ensures) (base-size (s .args .acc .now) (s .args .e - s .args .a) (s .pre .1) (omega (arith, s .pre .0 .0 .few)))
 
 -- the gaps of the calls of the second haplotype's allele
 abbrev gaps : tie.Start → ℤ
 gaps s = getD (s .args .acc .now) (4 * s .args .g1 + 2) (pos 0)
 
-less-small : (c : tie.After-base-sum) → natAbs (c .base-sum .result) + natAbs (gaps (c .before)) ≤ 2 ^ 53
-less-small c = omega (arith, base-small c, c .before .pre .1 (4 * c .before .args .g1 + 2))
+less-small : (c : tie.After-base-sum) → natAbs (c .base-sum .result) + natAbs (gaps (c .before .before)) ≤ 2 ^ 53
+less-small c = omega (arith, base-small c, c .before .before .pre .1 (4 * c .before .before .args .g1 + 2))
 
 more-small : (c : tie.After-sum-quals) → natAbs (c .before .before .base-sum .result) + natAbs (c .sum-quals .result) ≤ 2 ^ 53
 more-small c = omega (arith, base-small (c .before .before), c .sum-quals .ensures .1)
@@ -44,7 +44,7 @@ element-copy-out-result : tie.Need-element-copy-out-result
 element-copy-out-result c = search needs
 
 sub-result : tie.Need-sub-result
-sub-result c = let b = c .before .before in minus-fits w64 (b .base-sum .result) (gaps (b .before)) (omega (arith, less-small b))
+sub-result c = let b = c .before .before in minus-fits w64 (b .base-sum .result) (gaps (b .before .before)) (omega (arith, less-small b))
 
 sum-quals-requires : tie.Need-sum-quals-requires
 sum-quals-requires c κs = search needs
@@ -55,8 +55,8 @@ add-result-2 c = plus-fits w64 (c .before .before .base-sum .result) (c .sum-qua
 returns : tie.Need-returns
 returns c =
     let b = c .before .before in
-    let e = minus-read w64 (b .base-sum .result) (gaps (b .before)) (omega (arith, less-small b)) in
-    (rw (c .before .if1 .taken) (e ∙ ap (λ (z : ℤ). z -ℤ gaps (b .before)) (b .base-sum .ensures)), rw e (omega (arith, minus-abs (b .base-sum .result) (gaps (b .before)), less-small b)))
+    let e = minus-read w64 (b .base-sum .result) (gaps (b .before .before)) (omega (arith, less-small b)) in
+    (rw (c .before .if1 .taken) (e ∙ ap (λ (z : ℤ). z -ℤ gaps (b .before .before)) (b .base-sum .ensures)), rw e (omega (arith, minus-abs (b .base-sum .result) (gaps (b .before .before)), less-small b)))
 
 returns-2 : tie.Need-returns-2
 returns-2 c =

@@ -1,62 +1,81 @@
 -- `call_genotypes::score::score_calls` meets its contract. The loop's invariant: the calls before p are in the sums. Assumes nothing.
+use mathlib.Core.Path.{_≡_, ap, _∙_}
 use Prim.Native.Nat.{ℕ, _-_, _^_, _<_, _≤_}
 use native.Mathlib.Omega.{arith}
-use lib.ListN.{length}
+use borrow.Author.Needs.{needs}
 use lib.IntN.{natAbs}
-use Rattle.call_genotypes.specs.Scores.{rowAt, rowGaps, valueOf, RowIn}
+use Rattle.variants_and_fragments.specs.Pileup.{Row}
+use Rattle.pileup.specs.Packed.{rowFrom, rowAt}
+use Rattle.call_genotypes.specs.Scores.{rowGaps, valueOf, RowFits}
 use Rattle.call_genotypes.proofs.Sizes.{row-size}
 use Rattle.call_genotypes.proofs.Fours.{Summing, summing-start, summing-step, summing-end}
 use Rattle.call_genotypes.proofs.score.score_calls.Statement.{statement}
 use Rattle.call_genotypes.proofs.score.score_calls.Tie as tie
 
 abbrev Inv-loop : tie.InvT-loop
-Inv-loop t who quals one-minus-quals lik turns acc₀ a e p₀ acc p =
-    (v : ℕ) → Summing (rowGaps turns lik) (rowAt v who quals one-minus-quals) a e p acc
+Inv-loop t piles lik turns acc₀ a e p₀ acc p = Summing (rowGaps turns lik) (rowAt piles) a e p acc
 
 abbrev μ-loop : tie.MeasureT-loop
-μ-loop t who quals one-minus-quals lik turns acc₀ a e p₀ acc p = e - p
+μ-loop t piles lik turns acc₀ a e p₀ acc p = e - p
 
 abbrev st : tie.In-loop Inv-loop μ-loop → tie.Start Inv-loop μ-loop
 st c = c .before .before .before
 
-row-in : (c : tie.In-loop Inv-loop μ-loop) → RowIn (length (st c .args .lik .now)) (st c .args .who .now) (st c .args .quals .now) (st c .args .omqs .now) (c .before .loop .p)
-row-in c = st c .pre .1 .0 .rows-in (c .before .loop .p) (c .before .loop .inv 0 .from) (c .loop-test .taken)
+-- the turn of the loop
+abbrev turn : tie.After-call-gaps Inv-loop μ-loop → tie.In-loop Inv-loop μ-loop
+turn c = c .before .before .before
+
+row-in : (c : tie.In-loop Inv-loop μ-loop) → RowFits (st c .args .lik .now) (rowAt (st c .args .piles .now) (c .before .loop .p))
+row-in c = st c .pre .1 .0 .rows-in (c .before .loop .p) (c .before .loop .inv .from) (c .loop-test .taken)
+
+-- the row that the loop unpacks
+row-is : (c : tie.After-unpack Inv-loop μ-loop) → rowFrom (c .unpack .result) ≡ rowAt (st (c .before .before) .args .piles .now) (c .before .before .before .loop .p)
+row-is c = ap rowFrom (c .unpack .ensures)
 
 value-small : (c : tie.After-call-gaps Inv-loop μ-loop) (w : ℕ) → natAbs (valueOf (c .call-gaps .result) w) ≤ 2 ^ 35
-value-small c w = let s = st (c .before) in
-    rw (c .call-gaps .ensures 0 w) (row-size (s .args .who .now) (s .args .quals .now) (s .args .omqs .now) (s .args .lik .now) (s .args .turns .now) 0 (c .before .before .loop .p) (row-in (c .before)) (s .pre .1 .1 .0) (s .pre .1 .1 .1 .0) w)
+value-small c w = let s = st (turn c) in
+    rw (c .call-gaps .ensures w, row-is (c .before)) (row-size (row-in (turn c)) (s .args .turns .now) (s .args .lik .now) (s .pre .1 .1 .0 .0) (s .pre .1 .1 .0 .1) w)
 
-allele-low : (c : tie.After-allele-at Inv-loop μ-loop) → c .allele-at .result < 3
-allele-low c = rw (c .allele-at .ensures) (row-in (c .before .before) .allele-in)
+allele-is : (c : tie.After-unpack Inv-loop μ-loop) → c .unpack .result .allele ≡ rowAt (st (c .before .before) .args .piles .now) (c .before .before .before .loop .p) .call .allele
+allele-is c = ap (λ (row : Row). row .call .allele) (row-is c)
+
+allele-low : (c : tie.After-unpack Inv-loop μ-loop) → c .unpack .result .allele < 3
+allele-low c = rw (allele-is c) (row-in (c .before .before) .allele-in)
 
 loop-holds : tie.Need-loop-holds Inv-loop μ-loop
-loop-holds c v = summing-start _ _ _ _ _ (c .before .pre .1 .1 .1 .1)
+loop-holds c = summing-start _ _ _ _ _ (c .before .pre .1 .1 .1)
+
+mul-unpack : tie.Need-mul-unpack Inv-loop μ-loop
+mul-unpack c = omega (arith, c .loop-test .taken, st c .pre .1 .0 .few)
+
+shared-slice-read-unpack : tie.Need-shared-slice-read-unpack Inv-loop μ-loop
+shared-slice-read-unpack c = omega (arith, c .before .loop-test .taken, st (c .before) .pre .1 .0 .long)
+
+unpack-requires : tie.Need-unpack-requires Inv-loop μ-loop
+unpack-requires c κs = search needs
 
 call-gaps-requires : tie.Need-call-gaps-requires Inv-loop μ-loop
-call-gaps-requires c κs = (st c .pre .0, (row-in c, (st c .pre .1 .1 .0, st c .pre .1 .1 .1 .0)))
-
-allele-at-requires : tie.Need-allele-at-requires Inv-loop μ-loop
-allele-at-requires c κs = row-in (c .before) .who-long
+call-gaps-requires c κs = let i = c .before .before in (st i .pre .0, (rw (row-is c) (row-in i), st i .pre .1 .1 .0))
 
 add-four-requires : tie.Need-add-four-requires Inv-loop μ-loop
-add-four-requires c κs =
-    let l = c .before .before .before in
-    ((allele-low (c .before), value-small (c .before .before)), λ i. let k = l .before .loop .inv 0 .small i in omega (arith, l .before .loop .inv 0 .few))
+add-four-requires c κs = let l = turn (c .before) .before .loop in
+    ((allele-low (c .before .before), value-small (c .before)), λ i. let k = l .inv .small i in omega (arith, l .inv .few))
 
 add-p : tie.Need-add-p Inv-loop μ-loop
-add-p c = let l = c .before .before .before .before in omega (arith, l .loop-test .taken, st l .fits .e .fits)
+add-p c = let i = turn (c .before .before) in omega (arith, i .loop-test .taken, st i .pre .1 .0 .few)
 
 loop-less : tie.Need-loop-less Inv-loop μ-loop
-loop-less c = omega (arith, c .before .before .before .before .loop-test .taken)
+loop-less c = omega (arith, turn (c .before .before) .loop-test .taken)
 
 loop-again : tie.Need-loop-again Inv-loop μ-loop
-unfolding rowAt
-loop-again c v =
-    let l = c .before .before .before .before in
-    summing-step _ _ _ _ _ _ _ (valueOf (c .before .before .before .call-gaps .result)) _ (l .before .loop .inv v) (l .loop-test .taken) (st l .pre .1 .0 .few) (c .before .before .allele-at .ensures) (allele-low (c .before .before)) (c .before .before .before .call-gaps .ensures v) (value-small (c .before .before .before)) (c .add-four .ensures)
+loop-again c =
+    let g = c .before .before in
+    let i = turn g in
+    summing-step _ _ _ _ _ _ _ (valueOf (g .call-gaps .result)) (g .before .unpack .result .allele) (i .before .loop .inv) (i .loop-test .taken) (omega (arith, st i .pre .1 .0 .few))
+    (allele-is (g .before)) (allele-low (g .before)) (λ w. g .call-gaps .ensures w ∙ ap (λ (row : Row). rowGaps (st i .args .turns .now) (st i .args .lik .now) row w) (row-is (g .before))) (value-small g) (c .add-four .ensures)
 
 returns : tie.Need-returns Inv-loop μ-loop
-returns c v = summing-end _ _ _ _ _ _ (c .before .loop .inv v) (c .loop-test .left)
+returns c = summing-end _ _ _ _ _ _ (c .before .loop .inv) (c .loop-test .left)
 
 pub score-calls-spec : {M : Type 1} → statement M
 score-calls-spec =
@@ -65,8 +84,10 @@ score-calls-spec =
     Inv-loop
     μ-loop
     loop-holds
+    mul-unpack
+    shared-slice-read-unpack
+    unpack-requires
     call-gaps-requires
-    allele-at-requires
     add-four-requires
     add-p
     loop-less

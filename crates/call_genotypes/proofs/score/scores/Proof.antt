@@ -1,15 +1,24 @@
 -- `call_genotypes::score::scores` meets its contract: the rows are the variant's pile, and the scores from their sums are the case's. Assumes nothing.
 use mathlib.Core.Path.{refl, _∙_}
-use Prim.Native.Nat.{_+_, _*_}
 use native.Mathlib.Omega.{arith}
 use borrow.Author.Needs.{needs}
 use mir.Syntax.{w64}
 use mir.Val.{toZ, ofZ}
 use Rattle.steps.proofs.Signed.{read-back}
 use Rattle.call_genotypes.proofs.Turns.{turn-small}
-use Rattle.call_genotypes.proofs.Linked.{lik-within, pile-in, quals-in, scores-room, first-three, second-three, scored}
+use Rattle.call_genotypes.proofs.Linked.{lik-within, pile-in, pile-fits, scores-room, pair-three, scored}
 use Rattle.call_genotypes.proofs.score.scores.Statement.{statement}
 use Rattle.call_genotypes.proofs.score.scores.Tie as tie
+
+-- the places before
+abbrev st : tie.After-group-start → tie.Start
+st c = c .before .before .before .before .before .before .before .before
+
+abbrev start : tie.After-pair-at → tie.After-group-start
+start c = c .before .before
+
+abbrev pair : tie.After-score-calls → tie.After-pair-at
+pair c = c .before .before .before .before .before
 
 shared-slice-read-k : tie.Need-shared-slice-read-k
 shared-slice-read-k c = search needs
@@ -20,8 +29,8 @@ cast-k c = omega (arith, c .shared-slice-known6 .given (c .before .before .befor
 shared-slice-read-phased : tie.Need-shared-slice-read-phased
 shared-slice-read-phased c = search needs
 
-pile-start-requires : tie.Need-pile-start-requires
-pile-start-requires c κs = search needs
+group-start-requires : tie.Need-group-start-requires
+group-start-requires c κs = search needs
 
 mul-e : tie.Need-mul-e
 mul-e c = search needs
@@ -29,53 +38,34 @@ mul-e c = search needs
 shared-slice-read-e : tie.Need-shared-slice-read-e
 shared-slice-read-e c = search needs
 
-mul-g0 : tie.Need-mul-g0
-mul-g0 c = search needs
-
-shared-slice-read-g0 : tie.Need-shared-slice-read-g0
-shared-slice-read-g0 c = search needs
-
-cast-g0 : tie.Need-cast-g0
-cast-g0 c = omega (arith, c .shared-slice-known9 .given (2 * c .before .before .before .before .before .before .before .before .before .before .args .v))
-
-mul-g1 : tie.Need-mul-g1
-mul-g1 c = search needs
-
-add-g1 : tie.Need-add-g1
-add-g1 c = search needs
-
-shared-slice-read-g1 : tie.Need-shared-slice-read-g1
-shared-slice-read-g1 c = search needs
-
-cast-g1 : tie.Need-cast-g1
-cast-g1 c = omega (arith, c .shared-slice-known10 .given (2 * c .before .before .before .before .before .before .before .before .before .before .before .args .v + 1))
+pair-at-requires : tie.Need-pair-at-requires
+pair-at-requires c κs = search needs
 
 make-turns-requires : tie.Need-make-turns-requires
-make-turns-requires c κs =
-    let s = c .before .before .before .before .before .before .before .before .before .before .before .before in
-    let S = s .pre .1 .holds in
-    (refl, first-three S, second-three S)
+make-turns-requires c κs = let i = pair-three (st (start (c .before)) .pre .1 .holds) (c .before .pair-at .result) (c .before .pair-at .ensures) in (refl, i .0, i .1)
 
 score-calls-requires : tie.Need-score-calls-requires
 score-calls-requires c κs =
-    let f = c .before .before .before .before .before .before .before in
-    let s = f .before .before .before .before .before .before .before .before in
+    let f = start (c .before .before .before .before) in
+    let s = st f in
     let S = s .pre .1 .holds in
-    (s .pre .0, (rw (f .pile-start .ensures) (pile-in (S .held) (s .args .v) (S .v-in) _ (S .liks .long)), (lik-within (S .held) _ _ (S .liks), (λ i. rw (c .before .before .make-turns .ensures i) (turn-small _ _ _ i), refl))))
+    (s .pre .0, (rw (f .group-start .ensures) (pile-fits (S .standing .held) (s .args .v) (S .v-in) (S .standing .liks)), ((lik-within (S .standing .held) _ _ (S .standing .liks), λ i. rw (c .before .before .make-turns .ensures i) (turn-small _ _ _ i)), refl)))
 
 neither-sum-requires : tie.Need-neither-sum-requires
 neither-sum-requires c κs =
-    let f = c .before .before .before .before .before .before .before .before .before in
-    let s = f .before .before .before .before .before .before .before .before in
+    let p = pair (c .before) in
+    let f = start p in
+    let s = st f in
     let S = s .pre .1 .holds in
-    ((rw (f .pile-start .ensures) (quals-in (S .held) (s .args .v) (S .v-in)), rw (f .pile-start .ensures) (S .held .rises (s .args .v) (S .v-in)), second-three S), c .before .score-calls .ensures 0 .small)
+    ((rw (f .group-start .ensures) (pile-in (S .standing .held) (s .args .v) (S .v-in)), rw (f .group-start .ensures) (S .standing .held .piles-are .rises (s .args .v) (S .v-in)), pair-three S (p .pair-at .result) (p .pair-at .ensures) .1), c .before .score-calls .ensures .small)
 
 write-scores-requires : tie.Need-write-scores-requires
 write-scores-requires c κs =
-    let k = c .before .before .before .before in
-    let s = k .before .before .before .before .before .before .before .before .before .before .before .before .before .before .before .before in
+    let n = c .before .before in
+    let k = n .before .before in
+    let s = st (start (pair k)) in
     let S = s .pre .1 .holds in
-    ((scores-room (S .held) (s .args .v) (S .v-in) _ (S .room), rw (read-back w64 _ (c .before .before .neither-sum .ok)) (c .before .before .neither-sum .ensures .1)), k .score-calls .ensures 0 .small)
+    ((scores-room (S .standing .held) (s .args .v) (S .v-in) _ (S .standing .room), rw (read-back w64 _ (n .neither-sum .ok)) (n .neither-sum .ensures .1)), k .score-calls .ensures .small)
 
 same-length : tie.Need-same-length
 same-length c = search needs
@@ -84,9 +74,10 @@ returns : tie.Need-returns
 returns c C S =
     let n = c .before .before .before .before in
     let k = n .before .before in
-    let f = k .before .before .before .before .before .before .before .before in
-    scored S (f .pile-start .result) (k .before .before .before .make-turns .last .0) (k .score-calls .last .1 .1 .1 .1 .1 .1 .0) _ (toZ w64 (ofZ w64 (n .neither-sum .result))) (f .pile-start .ensures)
-    (k .before .before .before .make-turns .ensures) (k .score-calls .ensures _) (read-back w64 _ (n .neither-sum .ok) ∙ n .neither-sum .ensures .0) (c .before .write-scores .ensures)
+    let p = pair k in
+    let t = k .before .before .before in
+    scored S (start p .group-start .result) (p .pair-at .result) (t .make-turns .last .0) (k .score-calls .last .1 .1 .1 .1 .0) _ (toZ w64 (ofZ w64 (n .neither-sum .result))) (start p .group-start .ensures)
+    (p .pair-at .ensures) (t .make-turns .ensures) (k .score-calls .ensures) (read-back w64 _ (n .neither-sum .ok) ∙ n .neither-sum .ensures .0) (c .before .write-scores .ensures)
 
 pub scores-spec : {M : Type 1} → statement M
 scores-spec =
@@ -95,16 +86,10 @@ scores-spec =
     shared-slice-read-k
     cast-k
     shared-slice-read-phased
-    pile-start-requires
+    group-start-requires
     mul-e
     shared-slice-read-e
-    mul-g0
-    shared-slice-read-g0
-    cast-g0
-    mul-g1
-    add-g1
-    shared-slice-read-g1
-    cast-g1
+    pair-at-requires
     make-turns-requires
     score-calls-requires
     neither-sum-requires

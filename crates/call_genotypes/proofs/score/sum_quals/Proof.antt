@@ -1,82 +1,87 @@
--- `call_genotypes::score::sum_quals` meets its contract: the loop's invariant: the quals before p are in the sum. Assumes nothing.
-use mathlib.Core.Path.{_≡_, sym, ap, _∙_}
-use Prim.Native.Nat.{ℕ, _+_, _-_, _*_, _^_, _<_, _≤_}
+-- `call_genotypes::score::sum_quals` meets its contract. The loop's invariant: the quals before p are in the sum. Assumes nothing.
+use mathlib.Core.Path.{_≡_, sym, _∙_}
+use Prim.Native.Nat.{_+_, _-_, _*_, _^_, _≤_}
 use native.Mathlib.Omega.{arith}
-use lib.ListN.{getD}
-use lib.IntN.{ℤ, pos, natAbs}
+use borrow.Author.Needs.{needs}
+use lib.IntN.{ℤ, natAbs, _+ℤ_, +ℤ-idl, +ℤ-idr, +ℤ-assoc}
 use mir.Syntax.{w64}
 use mir.Val.{toZ, ofZ}
-use Rattle.steps.proofs.Signed.{read-back}
+use Rattle.steps.proofs.Signed.{read-small, add-abs}
+use Rattle.variants_and_fragments.specs.Sums.{sumOver}
+use Rattle.variants_and_fragments.proofs.Tabulated.{table-more, table-end}
+use Rattle.pileup.specs.Packed.{rowAt, rowsAt}
+use Rattle.likelihoods.proofs.RunningSums.{added-fits, added-read}
 use Rattle.call_genotypes.specs.Scores.{qualSum}
-use Rattle.likelihoods.proofs.RunningSums.{table-sum, Running, running-start, running-more, running-end, added-fits, added-read}
+use Rattle.call_genotypes.proofs.Sizes.{qual-size}
 use Rattle.call_genotypes.proofs.score.sum_quals.Statement.{statement}
 use Rattle.call_genotypes.proofs.score.sum_quals.Tie as tie
 
--- n quals of at most 2^18 steps each
-abbrev top : ℕ → ℕ
-top n = 2 ^ 18 * n
-
 abbrev Inv-loop : tie.InvT-loop
-Inv-loop quals a e n₀ p₀ n p = (a ≤ p) × Running (λ j. getD quals (a + j) (pos 0)) top (e - a) (toZ w64 n) (p - a)
+Inv-loop piles a e n₀ p₀ n p = (a ≤ p) × (p ≤ a + 16384) × (natAbs (toZ w64 n) ≤ 2 ^ 18 * (p - a)) × (toZ w64 n +ℤ qualSum (rowsAt piles p e) ≡ qualSum (rowsAt piles a e))
 
 abbrev μ-loop : tie.MeasureT-loop
-μ-loop quals a e n₀ p₀ n p = e - p
+μ-loop piles a e n₀ p₀ n p = e - p
+
+abbrev st : tie.In-loop Inv-loop μ-loop → tie.Start Inv-loop μ-loop
+st c = c .before .before .before
+
+-- the turn of the loop
+abbrev turn : tie.After-struct-told Inv-loop μ-loop → tie.In-loop Inv-loop μ-loop
+turn c = c .before .before .before .before
 
 -- the qual that is added
-abbrev st : tie.In-loop Inv-loop μ-loop → tie.Start Inv-loop μ-loop
-st c = c .before .before
-
 abbrev its : tie.In-loop Inv-loop μ-loop → ℤ
-its c = getD (st c .args .quals .now) (st c .args .a + (c .before .loop .p - st c .args .a)) (pos 0)
-
-place : (c : tie.In-loop Inv-loop μ-loop) → c .before .loop .p ≡ st c .args .a + (c .before .loop .p - st c .args .a)
-place c = omega (arith, c .before .loop .inv .0)
-
-added : (c : tie.After-quality-at Inv-loop μ-loop) → toZ w64 (ofZ w64 (c .quality-at .result)) ≡ its (c .before)
-added c = read-back w64 _ (c .quality-at .ok) ∙ c .quality-at .ensures ∙ ap (λ (i : ℕ). getD (st (c .before) .args .quals .now) i (pos 0)) (place (c .before))
+its c = rowAt (st c .args .piles .now) (c .before .loop .p) .call .qual
 
 small : (c : tie.In-loop Inv-loop μ-loop) → natAbs (its c) ≤ 2 ^ 18
-small c = rw (← place c) (st c .pre .small (c .before .loop .p) (c .before .loop .inv .0) (c .loop-test .taken))
+small c = qual-size (st c .pre .rows-in (c .before .loop .p) (c .before .loop .inv .0) (c .loop-test .taken))
 
-few : (c : tie.In-loop Inv-loop μ-loop) → c .before .loop .p - st c .args .a < 16384
-few c = omega (arith, c .loop-test .taken, st c .pre .few, c .before .loop .inv .0)
+added : (c : tie.After-struct-told Inv-loop μ-loop) → toZ w64 (ofZ w64 (c .before .before .unpack .result .qual)) ≡ its (turn c)
+added c = cc (c .before .before .unpack .ensures, read-small w64 (its (turn c)) (omega (arith, small (turn c))))
+
+sum-small : (c : tie.In-loop Inv-loop μ-loop) → natAbs (toZ w64 (c .before .loop .n)) + natAbs (its c) ≤ 2 ^ 33
+sum-small c = omega (arith, c .before .loop .inv .2, small c, c .loop-test .taken, st c .pre .few)
 
 loop-holds : tie.Need-loop-holds Inv-loop μ-loop
-loop-holds c = (omega arith, let e : c .args .a - c .args .a ≡ 0 = omega arith in rw e (running-start _ top _))
+loop-holds c = (omega arith, omega arith, omega arith, +ℤ-idl _)
 
-quality-at-requires : tie.Need-quality-at-requires Inv-loop μ-loop
-quality-at-requires c κs = st c .pre .long (c .before .loop .p) (c .before .loop .inv .0) (c .loop-test .taken)
+mul-unpack : tie.Need-mul-unpack Inv-loop μ-loop
+mul-unpack c = omega (arith, c .loop-test .taken, st c .pre .few)
+
+shared-slice-read-unpack : tie.Need-shared-slice-read-unpack Inv-loop μ-loop
+shared-slice-read-unpack c = omega (arith, c .before .loop-test .taken, st (c .before) .pre .long)
+
+unpack-requires : tie.Need-unpack-requires Inv-loop μ-loop
+unpack-requires c κs = search needs
 
 add-n : tie.Need-add-n Inv-loop μ-loop
-add-n c =
-    let l = c .before .before .loop in
-    added-fits (toZ w64 (l .n)) (c .quality-at .result) (its (c .before)) (added c) (omega (arith, l .inv .1 .small, small (c .before), few (c .before)))
+add-n c = added-fits (toZ w64 (turn c .before .loop .n)) (c .before .before .unpack .result .qual) (its (turn c)) (added c) (omega (arith, sum-small (turn c)))
 
 add-p : tie.Need-add-p Inv-loop μ-loop
-add-p c = omega (arith, c .before .loop-test .taken, st (c .before) .fits .e .fits)
+add-p c = omega (arith, turn c .loop-test .taken, st (turn c) .pre .few)
 
 loop-less : tie.Need-loop-less Inv-loop μ-loop
-loop-less c = omega (arith, c .before .loop-test .taken)
+loop-less c = omega (arith, turn c .loop-test .taken)
 
 loop-again : tie.Need-loop-again Inv-loop μ-loop
+unfolding sumOver
 loop-again c =
-    let i = c .before in
+    let i = turn c in
     let l = i .before .loop in
     let s = st i in
-    let n : l .p + 1 - s .args .a ≡ (l .p - s .args .a) + 1 = omega (arith, l .inv .0) in (
+    let r = added-read (toZ w64 (l .n)) (c .before .before .unpack .result .qual) (its i) (added c) (omega (arith, sum-small i)) in (
       omega (arith, l .inv .0),
-      rw n (running-more _ top (s .args .e - s .args .a) (toZ w64 (l .n)) _ (l .p - s .args .a) (l .inv .1) (omega (arith, i .loop-test .taken, l .inv .0))
-          (added-read (toZ w64 (l .n)) (c .quality-at .result) (its i) (added c) (omega (arith, l .inv .1 .small, small i, few i)))
-          (omega (arith, small i))),
+      omega (arith, i .loop-test .taken, s .pre .few),
+      rw r (omega (arith, add-abs (toZ w64 (l .n)) (its i), small i, l .inv .0, l .inv .2)),
+      rw (r, +ℤ-assoc (toZ w64 (l .n)) (its i) (qualSum (rowsAt (s .args .piles .now) (l .p + 1) (s .args .e)))) (rw (table-more (rowAt (s .args .piles .now)) (s .args .e) (l .p) (i .loop-test .taken)) at (l .inv .3)),
     )
 
 returns : tie.Need-returns Inv-loop μ-loop
-unfolding qualSum
+unfolding sumOver
 returns c =
     let l = c .before .loop in
-    let s = c .before .before in
-    let r = running-end _ top (s .args .e - s .args .a) (toZ w64 (l .n)) (l .p - s .args .a) (l .inv .1) (omega (arith, c .loop-test .left)) in
-    (r .0 ∙ sym (table-sum (λ p. getD (s .args .quals .now) p (pos 0)) (λ q. q) (s .args .a) (s .args .e - s .args .a)), omega (arith, r .1, s .pre .few))
+    let s = c .before .before .before in
+    (sym (+ℤ-idr (toZ w64 (l .n))) ∙ (rw (table-end (rowAt (s .args .piles .now)) (s .args .e) (l .p) (c .loop-test .left)) at (l .inv .3)), omega (arith, l .inv .1, l .inv .2))
 
 pub sum-quals-spec : {M : Type 1} → statement M
 sum-quals-spec =
@@ -85,7 +90,9 @@ sum-quals-spec =
     Inv-loop
     μ-loop
     loop-holds
-    quality-at-requires
+    mul-unpack
+    shared-slice-read-unpack
+    unpack-requires
     add-n
     add-p
     loop-less

@@ -4,7 +4,7 @@ use Rattle.call_genotypes.proofs.visit.same_pair.Statement.{statement}
 use Rattle.call_genotypes.proofs.visit.same_pair.Tie as tie
 
 returns : tie.Need-returns
-returns c = rw (eq-eqb _ _ (c .if1 .taken))
+returns c = rw (eq-eqb _ _ (c .before .before .if1 .taken))
 
 returns-2 : tie.Need-returns-2
 returns-2 c = rw (ne-eqb _ _ (c .if1 .left))

@@ -5,18 +5,21 @@ use native.Mathlib.Omega.{arith}
 use borrow.Author.Needs.{needs}
 use lib.ListN.{length}
 use Rattle.sweeps.specs.Sweeps.{SweepCase}
+use Rattle.likelihoods.specs.Held.{sweepReads}
+use Rattle.call_genotypes.specs.Scores.{sweepState}
 use Rattle.call_genotypes.specs.Visits.{SweepStart}
-use Rattle.call_genotypes.proofs.Sweeping.{Sweeping, sweeping-start, sweeping-standing, sweeping-changed, sweeping-same, sweeping-end}
+use Rattle.call_genotypes.proofs.Sweeping.{Sweeping, sweeping-start, sweeping-visit, sweeping-changed, sweeping-same, sweeping-end}
 use Rattle.call_genotypes.proofs.visit.sweep.Statement.{statement}
 use Rattle.call_genotypes.proofs.visit.sweep.Tie as tie
 
 abbrev Inv-loop : tie.InvT-loop
-Inv-loop t ks ph pri ends who quals one-minus-quals order hap₀ lik₀ post₀ changed₀ p₀ hap lik post changed p =
-    (C : SweepCase) → SweepStart C ks ph pri ends who quals one-minus-quals order hap₀ lik₀ post₀ → Sweeping C order hap₀ hap lik post₀ post changed p
+Inv-loop t ks ph pri ends piles order hap₀ lik₀ post₀ changed₀ p₀ hap lik post changed p =
+    (C : SweepCase) → SweepStart C (sweepReads ks ph pri ends piles) (sweepState hap₀ lik₀ post₀) order → Sweeping C order (sweepState hap₀ lik₀ post₀) (sweepState hap lik post) changed p
 
 abbrev μ-loop : tie.MeasureT-loop
-μ-loop t ks ph pri ends who quals one-minus-quals order hap₀ lik₀ post₀ changed₀ p₀ hap lik post changed p = length order - p
+μ-loop t ks ph pri ends piles order hap₀ lik₀ post₀ changed₀ p₀ hap lik post changed p = length order - p
 
+-- the places before
 abbrev st : tie.At-loop Inv-loop μ-loop → tie.Start Inv-loop μ-loop
 st c = c .before .before .before .before .before .before .before
 
@@ -39,44 +42,46 @@ cast-v : tie.Need-cast-v Inv-loop μ-loop
 cast-v c = omega (arith, c .shared-slice-known6 .given (c .before .before .loop .p))
 
 add-p : tie.Need-add-p Inv-loop μ-loop
-add-p c = omega (arith, c .before .loop-test .taken, st (c .before .before) .good .1 .1 .1 .1 .1 .1 .1 .1 .0 .0)
+add-p c = omega (arith, c .before .loop-test .taken, st (c .before .before) .good .1 .1 .1 .1 .1 .1 .0 .0)
 
 visit-requires : tie.Need-visit-requires Inv-loop μ-loop
 visit-requires c κs =
     let l = c .before .before .before .before in
     let s = st (l .before) in
     let S = s .pre .1 .holds in
-    (s .pre .0, record { case = s .pre .1 .case; holds = sweeping-standing S _ _ _ _ _ (l .before .loop .inv _ S) (l .loop-test .taken) })
+    (s .pre .0, record { case = s .pre .1 .case; holds = sweeping-visit S (l .before .loop .inv _ S) (l .loop-test .taken) })
 
 loop-less : tie.Need-loop-less Inv-loop μ-loop
-loop-less c = let l = turn (visited (c .before)) in omega (arith, l .loop-test .taken)
+loop-less c = omega (arith, turn (visited (c .before)) .loop-test .taken)
 
 loop-again : tie.Need-loop-again Inv-loop μ-loop
 loop-again c C S =
     let w = visited (c .before) in
     let l = turn w in
-    sweeping-changed S _ _ _ _ _ _ _ _ _ (l .before .loop .inv C S) (l .loop-test .taken) (w .visit .ensures C (sweeping-standing S _ _ _ _ _ (l .before .loop .inv C S) (l .loop-test .taken))) (c .if1 .taken)
+    let i = l .before .loop .inv C S in
+    sweeping-changed S i (l .loop-test .taken) (w .visit .ensures C (sweeping-visit S i (l .loop-test .taken))) (c .if1 .taken)
 
 loop-less-2 : tie.Need-loop-less-2 Inv-loop μ-loop
-loop-less-2 c = let l = turn (visited (c .before)) in omega (arith, l .loop-test .taken)
+loop-less-2 c = omega (arith, turn (visited (c .before)) .loop-test .taken)
 
 loop-again-2 : tie.Need-loop-again-2 Inv-loop μ-loop
 loop-again-2 c C S =
     let w = visited (c .before) in
     let l = turn w in
-    sweeping-same S _ _ _ _ _ _ _ _ _ (l .before .loop .inv C S) (l .loop-test .taken) (w .visit .ensures C (sweeping-standing S _ _ _ _ _ (l .before .loop .inv C S) (l .loop-test .taken))) (c .if1 .left)
+    let i = l .before .loop .inv C S in
+    sweeping-same S i (l .loop-test .taken) (w .visit .ensures C (sweeping-visit S i (l .loop-test .taken))) (c .if1 .left)
 
 same-length : tie.Need-same-length Inv-loop μ-loop
-same-length c = let S = st (c .before) .pre .1 .holds in c .before .loop .inv _ S .good .len ∙ sym (S .haps .len)
+same-length c = let S = st (c .before) .pre .1 .holds in c .before .loop .inv _ S .good .len ∙ sym (S .standing .haps .len)
 
 same-length-2 : tie.Need-same-length-2 Inv-loop μ-loop
-same-length-2 c = let S = st (c .before) .pre .1 .holds in c .before .loop .inv _ S .liks .long ∙ sym (S .liks .long)
+same-length-2 c = let S = st (c .before) .pre .1 .holds in c .before .loop .inv _ S .liks .long ∙ sym (S .standing .liks .long)
 
 same-length-3 : tie.Need-same-length-3 Inv-loop μ-loop
 same-length-3 c = let S = st (c .before) .pre .1 .holds in c .before .loop .inv _ S .long
 
 returns : tie.Need-returns Inv-loop μ-loop
-returns c C S = sweeping-end S _ _ _ _ _ (c .before .loop .inv C S) (c .loop-test .left)
+returns c C S = sweeping-end S (c .before .loop .inv C S) (c .loop-test .left)
 
 pub sweep-spec : {M : Type 1} → statement M
 sweep-spec =
