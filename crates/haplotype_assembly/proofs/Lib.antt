@@ -13,6 +13,7 @@ pub mod Qualities
 pub mod Shown
 pub mod Pieces
 pub mod Tallies
+pub mod Counting
 pub mod Gathered
 pub mod LinesDecoded
 pub mod BufferAnswers

@@ -26,7 +26,7 @@ long : (c : tie.Start) → length (now (c .args .buffer)) < 2 ^ 64
 long c = omega arith
 
 abbrev start : tie.After-write-header → tie.Start
-start h = h .before .before
+start h = h .before .before .before .before
 
 abbrev from : tie.After-write-alleles → tie.After-write-header
 from a = a .before .before .before .before
@@ -35,7 +35,7 @@ abbrev past : tie.After-write-qualities → tie.After-write-alleles
 past q = q .before .before .before .before
 
 write-header-requires : tie.Need-write-header-requires
-write-header-requires c κs = omega (arith, fits (c .before))
+write-header-requires c κs = omega (arith, fits (c .before .before .before))
 
 write-alleles-requires : tie.Need-write-alleles-requires
 write-alleles-requires c κs = let h = c .before .before .before in
