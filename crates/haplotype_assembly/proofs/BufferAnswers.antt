@@ -15,9 +15,12 @@ use Rattle.variants_and_fragments.specs.declared.Refusal.the-variants.{Short}
 use Rattle.variants_and_fragments.specs.Refusals.{Outcome, refused, done, number, place, andThen, unless, afterwards}
 use Rattle.variants_and_fragments.specs.Check.{caseOf}
 use Rattle.variants_and_fragments.specs.Decode.{decode}
+use Rattle.variants_and_fragments.specs.Pileup.{fragmentRows}
+use Rattle.pileup.specs.Packed.{Grouped}
 use Rattle.haplotype_assembly.specs.declared.Buffered.the-variants.{Done, Refused}
+use Rattle.haplotype_assembly.specs.declared.tally.Counted.{Counted}
 use Rattle.haplotype_assembly.specs.Lines.{flistBuffer}
-use Rattle.haplotype_assembly.specs.LinesRead.{linesAt, linesCount}
+use Rattle.haplotype_assembly.specs.LinesRead.{shownFragments, linesOver, LinesCounted}
 use Rattle.haplotype_assembly.specs.FlistBuffer.{flistChecks, flistOutcome, bufferedOutcome, startingWith, FlistBuffer}
 use Rattle.haplotype_assembly.proofs.LinesDecoded.{buffer-is, lines-are}
 
@@ -36,25 +39,24 @@ module _ (w : List ℤ) (b : List ℕ) (single : Bool) (buffer : List ℕ) where
   unfolding flistOutcome andThen
   buffer-case x e = turned-down x (ap (λ (o : Outcome Sizes). andThen o (λ s. flistChecks (decode w b) single (length buffer))) e)
 
-  module _ (s : Sizes) (e : caseOf w b ≡ done s) where
+  module _ (s : Sizes) (e : caseOf w b ≡ done s) (rows ends : List ℕ) (grouped : Grouped (s .n) (s .f) (s .f) (fragmentRows (decode w b)) ends rows) (c : Counted) (counted : LinesCounted (s .n) single (shownFragments w s rows ends) c) where
     checks : flistOutcome w b single (length buffer) ≡ flistChecks (decode w b) single (length buffer)
     unfolding flistOutcome andThen
     checks = ap (λ (o : Outcome Sizes). andThen o (λ s. flistChecks (decode w b) single (length buffer))) e
 
-    need : (n : ℕ) → n ≡ length (linesAt w s single 0 0 (s .f)) → n ≡ length (flistBuffer (decode w b) single)
-    need n q = q ∙ ap length (buffer-is w b s e single)
+    need : c .bytes ≡ length (flistBuffer (decode w b) single)
+    need = counted .bytes-are ∙ ap length (buffer-is w b s e rows ends grouped single)
 
     -- 10
-    pub buffer-short : (n : ℕ) → n ≡ length (linesAt w s single 0 0 (s .f)) → length buffer < n → FlistBuffer w b single buffer (Refused (Short n)) buffer
+    pub buffer-short : length buffer < c .bytes → FlistBuffer w b single buffer (Refused (Short (c .bytes))) buffer
     unfolding flistChecks unless
-    buffer-short n q h = turned-down (Short n) (checks ∙ rw (← (need n q), lt-leb n (length buffer) h))
+    buffer-short h = turned-down (Short (c .bytes)) (checks ∙ rw (← need, lt-leb (c .bytes) (length buffer) h))
 
-    pub buffer-done : (n m : ℕ) → n ≡ length (linesAt w s single 0 0 (s .f)) → m ≡ linesCount w s single 0 (s .f) → n ≤ length buffer
-        → (buffer2 : List ℕ) → buffer2 ≡ sets buffer 0 (linesAt w s single 0 0 (s .f)) → FlistBuffer w b single buffer (Done n m) buffer2
+    pub buffer-done : c .bytes ≤ length buffer → (buffer2 : List ℕ) → buffer2 ≡ sets buffer 0 (linesOver (s .n) single 0 (shownFragments w s rows ends)) → FlistBuffer w b single buffer (Done (c .bytes) (c .lines)) buffer2
     unfolding flistChecks unless bufferedOutcome afterwards
-    buffer-done n m q p h buffer2 x = record {
-      outcome = done (record { bytes = n; lines = m });
-      outcome-is = sym (checks ∙ rw (← (need n q), ← (p ∙ lines-are w b s e single), le-leb n (length buffer) h));
+    buffer-done h buffer2 x = record {
+      outcome = done (record { bytes = c .bytes; lines = c .lines });
+      outcome-is = sym (checks ∙ rw (← need, ← (counted .lines-are ∙ lines-are w b s e rows ends grouped single), le-leb (c .bytes) (length buffer) h));
       answer = refl;
-      buffer-after = x ∙ ap (λ (y : List ℕ). sets buffer 0 y) (buffer-is w b s e single) ∙ starting (flistBuffer (decode w b) single) buffer (omega (arith, need n q));
+      buffer-after = x ∙ ap (λ (y : List ℕ). sets buffer 0 y) (buffer-is w b s e rows ends grouped single) ∙ starting (flistBuffer (decode w b) single) buffer (omega (arith, need));
     }

@@ -10,11 +10,11 @@ pub mod Least
 pub mod Stores
 pub mod Decimals
 pub mod Qualities
-pub mod Tallies
+pub mod Shown
 pub mod Pieces
+pub mod Tallies
+pub mod Counting
 pub mod Gathered
-pub mod LineParts
-pub mod Lengths
 pub mod LinesDecoded
 pub mod BufferAnswers
 pub mod LineSamples

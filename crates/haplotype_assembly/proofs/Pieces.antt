@@ -1,18 +1,20 @@
--- The pieces of a line, by the tests that choose them.
+-- The pieces of a line, by the tests that choose them, and their lengths.
 -- Assumes nothing.
-use mathlib.Core.Path.{_≡_, ap, _∙_}
+use mathlib.Core.Path.{_≡_, sym, ap, _∙_}
 use mathlib.Core.Bool.{Bool, true, false, cond}
-use mathlib.Core.List.{List, [], _∷_, _++_}
+use mathlib.Core.List.{List, [], _∷_, _++_, map, append-assoc}
 use Prim.Native.Nat.{ℕ, _+_, _≤_}
 use native.Mathlib.Omega.{arith}
+use native.Mathlib.Decide.{ℕ-discrete}
+use native.Mathlib.Numerals.{add-one}
 use borrow.Author.Tests.{eq-eqb, ne-eqb}
-use lib.IntN.{ℤ}
-use lib.ListN.{length, length-append}
-use Rattle.variants_and_fragments.specs.declared.Sizes.{Sizes}
-use Rattle.variants_and_fragments.specs.Layout.{callVariantAt, calledAlleleAt}
-use Rattle.variants_and_fragments.specs.Chain.{strandAt}
-use Rattle.haplotype_assembly.specs.Lines.{space, colon, digit, decimal, blockStart, strandByte, hasLine}
-use Rattle.haplotype_assembly.specs.LinesRead.{shownAt, pieceAt, nextAt, allelesAt, qualityAt, qualityPiece, qualitiesAt, tallyAt, headerOf, lineAt, fragmentLine, hasOne}
+use lib.ListN.{length, length-append, length-map}
+use Rattle.variants_and_fragments.specs.Case.{Fragment, Call}
+use Rattle.haplotype_assembly.specs.declared.tally.Tally.{Tally}
+use Rattle.haplotype_assembly.specs.declared.lines.Head.{Head}
+use Rattle.haplotype_assembly.specs.Lines.{space, colon, digit, decimal, blockStart, alleleBytes, callQuality, strandByte, hasLine}
+use Rattle.haplotype_assembly.specs.LinesRead.{Tallied, SmallTally, headerOf, lineWith, headAt, fragmentLine, hasOne}
+use Rattle.haplotype_assembly.proofs.Decimals.{decimal-top}
 
 -- ---- a block's start
 pub start-same : (next v : ℕ) → v ≡ next → blockStart next v ≡ []
@@ -26,79 +28,58 @@ start-new next v d = rw (ne-eqb v next d)
 pub new-length : (next v : ℕ) → (v ≡ next → ⊥) → length (blockStart next v) ≡ length (decimal (v + 1)) + 2
 new-length next v d = ap length (start-new next v d) ∙ omega (arith, length-append (decimal (v + 1)) (space ∷ []))
 
--- ---- what a record adds
-module _ (w : List ℤ) (s : Sizes) (next r : ℕ) where
-  pub piece-hidden : shownAt w s r ≡ false → pieceAt w s next r ≡ []
-  unfolding pieceAt
-  piece-hidden e = rw e
+pub start-top : (next v : ℕ) → length (blockStart next v) ≤ v + 4
+start-top next v = elim (ℕ-discrete v next) [
+  | yes e ↦ omega (arith, ap length (start-same next v e))
+  | no d ↦ omega (arith, new-length next v d, decimal-top (v + 1))
+]
 
-  pub next-hidden : shownAt w s r ≡ false → next ≡ nextAt w s next r
-  unfolding nextAt
-  next-hidden e = rw e
-
-  pub quality-hidden : shownAt w s r ≡ false → qualityPiece w s r ≡ []
-  unfolding qualityPiece
-  quality-hidden e = rw e
-
-  module _ (e : shownAt w s r ≡ true) where
-    pub piece-shown : (v a : ℕ) → v ≡ callVariantAt w s r → a ≡ calledAlleleAt w s r → blockStart next v ++ (digit a ∷ []) ≡ pieceAt w s next r
-    unfolding pieceAt
-    piece-shown v a p q = rw (e, p, q)
-
-    pub next-shown : (v : ℕ) → v ≡ callVariantAt w s r → v + 1 ≡ nextAt w s next r
-    unfolding nextAt
-    next-shown v p = rw (e, p)
-
-    pub quality-shown : (q : ℕ) → q ≡ qualityAt w s r → q ∷ [] ≡ qualityPiece w s r
-    unfolding qualityPiece
-    quality-shown q p = rw (e, p)
-
--- ---- the head of a line
-pub header-length : (blocks id strand : ℕ) → length (headerOf blocks id strand) ≡ length (decimal blocks) + length (decimal id) + 3
-unfolding headerOf
-header-length blocks id strand =
-    let tail = colon ∷ (strandByte strand ∷ []) in
-    omega (arith, length-append (decimal blocks) (space ∷ (decimal id ++ tail)), length-append (decimal id) tail)
+-- the first call of a line's alleles
+pub alleles-on : (next : ℕ) (call : Call) (calls : List Call) → alleleBytes next (call ∷ calls) ≡ (blockStart next (call .variant) ++ (digit (call .allele) ∷ [])) ++ alleleBytes (call .variant + 1) calls
+unfolding alleleBytes
+alleles-on next call calls = rw add-one (simp append-assoc)
 
 -- ---- a line
-module _ (w : List ℤ) (s : Sizes) (id f : ℕ) where
-  pub line-length : length (lineAt w s id f) ≡ length (headerOf (tallyAt w s f .blocks) id (strandAt w s f)) + length (allelesAt w s f) + length (qualitiesAt w s f) + 2
-  unfolding lineAt
-  line-length =
-      let header = headerOf (tallyAt w s f .blocks) id (strandAt w s f) in
-      let quals = qualitiesAt w s f ++ (0 ∷ []) in
-      omega (arith, length-append header (allelesAt w s f ++ (space ∷ quals)), length-append (allelesAt w s f) (space ∷ quals), length-append (qualitiesAt w s f) (0 ∷ []))
+pub header-length : (head : Head) → length (headerOf head) ≡ length (decimal (head .blocks)) + length (decimal (head .id)) + 3
+unfolding headerOf
+header-length head =
+    let tail = colon ∷ (strandByte (head .strand) ∷ []) in
+    omega (arith, length-append (decimal (head .blocks)) (space ∷ (decimal (head .id) ++ tail)), length-append (decimal (head .id)) tail)
 
-  pub line-parts : (blocks strand : ℕ) → blocks ≡ tallyAt w s f .blocks → strand ≡ strandAt w s f
-      → length (lineAt w s id f) ≡ length (headerOf blocks id strand) + length (allelesAt w s f) + length (qualitiesAt w s f) + 2
-  line-parts blocks strand e p = rw (e, p) line-length
-
-  pub line-is : (blocks strand : ℕ) → blocks ≡ tallyAt w s f .blocks → strand ≡ strandAt w s f
-      → headerOf blocks id strand ++ (allelesAt w s f ++ ((space ∷ []) ++ (qualitiesAt w s f ++ (0 ∷ [])))) ≡ lineAt w s id f
-  unfolding lineAt
-  line-is blocks strand e p = rw (e, p)
+pub line-length : (n : ℕ) (head : Head) (calls : List Call) → length (lineWith n head calls) ≡ length (headerOf head) + length (alleleBytes n calls) + length (map callQuality calls) + 2
+unfolding lineWith
+line-length n head calls =
+    let quals = map callQuality calls ++ (0 ∷ []) in
+    omega (arith, length-append (headerOf head) (alleleBytes n calls ++ (space ∷ quals)), length-append (alleleBytes n calls) (space ∷ quals), length-append (map callQuality calls) (0 ∷ []))
 
 -- ---- a fragment's line, where it has one
-module _ (w : List ℤ) (s : Sizes) (single : Bool) (id f calls : ℕ) (e : calls ≡ tallyAt w s f .calls) where
-  pub line-none : hasLine single calls ≡ false → fragmentLine w s single id f ≡ []
+module _ (n : ℕ) (single : Bool) (id : ℕ) (fragment : Fragment) (t : Tally) (e : Tallied n (fragment .calls) t) where
+  pub line-none : hasLine single (t .calls) ≡ false → fragmentLine n single id fragment ≡ []
   unfolding fragmentLine
-  line-none h = rw (← e, h)
+  line-none h = rw (← e .calls-are, h)
 
-  pub one-none : hasLine single calls ≡ false → hasOne w s single f ≡ 0
+  pub one-none : hasLine single (t .calls) ≡ false → hasOne single fragment ≡ 0
   unfolding hasOne
-  one-none h = rw (← e, h)
+  one-none h = rw (← e .calls-are, h)
 
-  pub line-some : hasLine single calls ≡ true → fragmentLine w s single id f ≡ lineAt w s id f
+  pub line-some : hasLine single (t .calls) ≡ true → fragmentLine n single id fragment ≡ lineWith n (headAt n id fragment) (fragment .calls)
   unfolding fragmentLine
-  line-some h = rw (← e, h)
+  line-some h = rw (← e .calls-are, h)
 
-  pub one-some : hasLine single calls ≡ true → hasOne w s single f ≡ 1
+  pub one-some : hasLine single (t .calls) ≡ true → hasOne single fragment ≡ 1
   unfolding hasOne
-  one-some h = rw (← e, h)
+  one-some h = rw (← e .calls-are, h)
 
-pub one-top : (w : List ℤ) (s : Sizes) (single : Bool) (f : ℕ) → hasOne w s single f ≤ 1
+  -- its length is known from the tally
+  pub line-count : length (lineWith n (headAt n id fragment) (fragment .calls)) ≡ length (decimal (t .blocks)) + length (decimal id) + (t .bytes + t .calls + 5)
+  line-count = omega (arith, line-length n (headAt n id fragment) (fragment .calls), header-length (headAt n id fragment), ap (λ (x : ℕ). length (decimal x)) (e .blocks-are), e .bytes-are, e .calls-are, length-map (fragment .calls) callQuality)
+
+  pub line-top : id ≤ 4096 → SmallTally t 16384 → length (lineWith n (headAt n id fragment) (fragment .calls)) ≤ 33554432
+  line-top h i = omega (arith, line-count, decimal-top id, decimal-top (t .blocks), i .calls-top, i .blocks-top, i .bytes-top)
+
+pub one-top : (single : Bool) (fragment : Fragment) → hasOne single fragment ≤ 1
 unfolding hasOne
-one-top w s single f = go (hasLine single (tallyAt w s f .calls))
+one-top single fragment = go (hasLine single (length (fragment .calls)))
   where
     go : (b : Bool) → cond b 1 0 ≤ 1
     go true = omega arith

@@ -1,40 +1,27 @@
--- A quality that lacks d to 0, as a log probability: it is finite and small.
+-- A quality as a log probability: it is finite and small.
 -- Assumes nothing.
-use mathlib.Core.Path.{_≡_, refl}
-use mathlib.Core.Bool.{false}
+use mathlib.Core.Path.{_≡_}
 use Prim.Native.Nat.{ℕ, zero, suc, _≤_, _<_, _^_}
 use native.Mathlib.Omega.{arith}
-use borrow.Author.Tests.{ne-eqb}
-use lib.Dec.{lit<}
-use lib.IntN.{pos, negℤ, _-ℤ_}
+use borrow.Author.Tests.{leb-true}
+use lib.IntN.{ℤ, pos, negsuc, natAbs}
 use mir.Syntax.{w64}
-use mir.Val.{SFits, toZ, ofZ}
-use Rattle.steps.specs.Logs.{steps, isMark, logOf, size}
-use Rattle.haplotype_assembly.proofs.Cited.{of-steps, minus-fits, minus-back}
+use mir.Val.{SFits}
+use Rattle.steps.specs.Logs.{steps, logOf, size}
+use Rattle.variants_and_fragments.specs.Sums.{DownTo}
+use Rattle.haplotype_assembly.proofs.Cited.{of-small, size-steps, size-fits}
 
-finite : (d : ℕ) → d ≤ 262144 → isMark (negℤ (pos d)) ≡ false
-unfolding isMark
-finite zero h = refl
-finite (suc d) h = ne-eqb d 9223372036854775807 (λ e. omega arith)
+down-abs : (z : ℤ) → DownTo 262144 z → natAbs z ≤ 262144
+down-abs (pos zero) h = omega arith
+down-abs (pos (suc n)) h = omega (arith, leb-true (suc n) 0 (h .high))
+down-abs (negsuc n) h = omega (arith, leb-true n 262143 (h .low))
 
-log-is : (d : ℕ) → d ≤ 262144 → logOf (negℤ (pos d)) ≡ steps (negℤ (pos d))
-log-is d h = of-steps (negℤ (pos d)) (finite d h)
+module _ (z : ℤ) (h : DownTo 262144 z) where
+  pub quality-log : logOf z ≡ steps z
+  quality-log = of-small z (omega (arith, down-abs z h))
 
-size-is : (d : ℕ) → d ≤ 262144 → size (steps (negℤ (pos d))) < 2 ^ 52
-unfolding size
-size-is zero h = lit< tt
-size-is (suc d) h = omega arith
+  pub quality-small : size (logOf z) < 2 ^ 52
+  quality-small = rw quality-log (omega (arith, size-steps z, down-abs z h))
 
-module _ (d : ℕ) (h : d ≤ 262144) where
-  -- d taken from 0 at 64 bits
-  pub taken : toZ w64 (ofZ w64 (pos 0 -ℤ toZ w64 d)) ≡ negℤ (pos d)
-  taken = minus-back d (omega arith)
-
-  pub taken-fits : SFits w64 (pos 0 -ℤ toZ w64 d)
-  taken-fits = minus-fits d (omega arith)
-
-  pub taken-small : size (logOf (toZ w64 (ofZ w64 (pos 0 -ℤ toZ w64 d)))) < 2 ^ 52
-  taken-small = rw (taken, log-is d h) (size-is d h)
-
-  pub taken-log : logOf (toZ w64 (ofZ w64 (pos 0 -ℤ toZ w64 d))) ≡ steps (negℤ (pos d))
-  taken-log = rw taken (log-is d h)
+  pub quality-fits : SFits w64 z
+  quality-fits = size-fits z (omega (arith, quality-small))

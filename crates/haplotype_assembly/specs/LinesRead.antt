@@ -1,117 +1,113 @@
--- The fragment lines read off the words of an accepted case, as the functions below the operation gather them along a chain.
+-- The fragment lines of an accepted case, read off its rows, as the functions below the operation count and write them.
 -- `proofs/LinesDecoded.antt` ties them to the definitions over the decoded case.
 -- Assumes nothing.
 use mathlib.Core.Path.{_≡_}
-use mathlib.Core.Bool.{Bool, cond, _&&_}
-use mathlib.Core.List.{List, [], _∷_, _++_}
-use Prim.Native.Nat.{ℕ, zero, suc, _+_, _*_, _≤_}
-use lib.Dec.{ltb, eqb}
+use mathlib.Core.Bool.{Bool, cond}
+use mathlib.Core.List.{List, [], _∷_, _++_, map}
+use Prim.Native.Nat.{ℕ, _+_, _*_, _≤_, _<_}
+use lib.Dec.{eqb}
 use lib.IntN.{ℤ}
-use lib.ListN.{length}
+use lib.ListN.{length, getD}
 use lib.Seq.{sets}
-use Rattle.steps.specs.Logs.{steps}
-use Rattle.steps.specs.Phred.{phredOf, qualityByte}
 use Rattle.variants_and_fragments.specs.declared.Sizes.{Sizes}
-use Rattle.variants_and_fragments.specs.Words.{debtAt}
-use Rattle.variants_and_fragments.specs.Layout.{callAt, callVariantAt, calledAlleleAt, qualAt}
-use Rattle.variants_and_fragments.specs.Chain.{strandAt, chainOf}
-use Rattle.variants_and_fragments.specs.Fold.{fold}
-use Rattle.haplotype_assembly.specs.declared.lines.Tally.{Tally}
+use Rattle.variants_and_fragments.specs.Accepted.{CaseIn}
+use Rattle.variants_and_fragments.specs.Chain.{strandAt}
+use Rattle.variants_and_fragments.specs.Case.{Fragment, Call}
+use Rattle.variants_and_fragments.specs.Decode.{tabulate}
+use Rattle.variants_and_fragments.specs.Pileup.{Row}
+use Rattle.pileup.specs.Packed.{rowsAt, RowsIn, groupStart}
+use Rattle.haplotype_assembly.specs.declared.tally.Tally.{Tally}
+use Rattle.haplotype_assembly.specs.declared.tally.Counted.{Counted}
+use Rattle.haplotype_assembly.specs.declared.lines.Head.{Head}
 use Rattle.haplotype_assembly.specs.PhaseRead.{ruleAt}
-use Rattle.haplotype_assembly.specs.Lines.{space, colon, digit, decimal, blockStart, strandByte, hasLine}
+use Rattle.haplotype_assembly.specs.Lines.{space, colon, decimal, blocks, blockStart, alleleBytes, callQuality, strandByte, hasLine}
 
 -- bytes stored one after the other from `at` on, the rest of the slice as before; `end` is the place after them
 pub record Put (before after : List ℕ) (at end : ℕ) (bytes : List ℕ) : Type 0 where
   pub stored : after ≡ sets before at bytes
   pub end-is : end ≡ at + length bytes
 
--- record r is shown: usable, and at a variant under the phased rule
-unfoldable pub shownAt : List ℤ → Sizes → ℕ → Bool
-shownAt w s r = ruleAt w (callVariantAt w s r) && ltb (s .cut) (debtAt w (callAt s r + 2))
+-- ---- what a line shows
+-- of rows, which are usable: the calls at variants under the phased rule
+unfoldable pub shownCalls : List ℤ → List Row → List Call
+shownCalls w [] = []
+shownCalls w (row ∷ rows) = cond (ruleAt w (row .call .variant)) (row .call ∷ shownCalls w rows) (shownCalls w rows)
 
--- ---- the alleles
-pub record Alleles : Type 0 where
-  pub next : ℕ
-  pub bytes : List ℕ
+-- of the rows at a..e
+abbrev pub shownAt : List ℤ → List ℕ → ℕ → ℕ → List Call
+shownAt w rows a e = shownCalls w (rowsAt rows a e)
 
--- what record r adds
-unfoldable pub pieceAt : List ℤ → Sizes → ℕ → ℕ → List ℕ
-pieceAt w s next r = cond (shownAt w s r) (blockStart next (callVariantAt w s r) ++ (digit (calledAlleleAt w s r) ∷ [])) []
+-- of fragment f, with its strand
+abbrev pub shownFragment : List ℤ → Sizes → List ℕ → List ℕ → ℕ → Fragment
+shownFragment w s rows ends f = record { strand = strandAt w s f; calls = shownAt w rows (groupStart ends f) (getD ends f 0) }
 
-unfoldable pub nextAt : List ℤ → Sizes → ℕ → ℕ → ℕ
-nextAt w s next r = cond (shownAt w s r) (callVariantAt w s r + 1) next
+abbrev pub shownFragments : List ℤ → Sizes → List ℕ → List ℕ → List Fragment
+shownFragments w s rows ends = tabulate (s .f) (shownFragment w s rows ends)
 
-unfoldable pub allelesStep : List ℤ → Sizes → Alleles → ℕ → Alleles
-allelesStep w s a r = record { next = nextAt w s (a .next) r; bytes = a .bytes ++ pieceAt w s (a .next) r }
+-- what the functions are given: an accepted case, and where the rows of each fragment stand
+pub record LinesGiven (w : List ℤ) (s : Sizes) (rows ends : List ℕ) : Type 0 where
+  pub case-in : CaseIn w s
+  pub ends-long : s .f ≤ length ends
+  pub rows-in : (f : ℕ) → f < s .f → RowsIn (s .n) (s .f) rows (groupStart ends f) (getD ends f 0)
 
-abbrev pub noAlleles : Sizes → Alleles
-noAlleles s = record { next = s .n; bytes = [] }
+-- ---- the numbers of shown calls, of blocks and of allele bytes, of n variants
+-- with a call at v
+unfoldable pub tallyStep : Tally → ℕ → Tally
+tallyStep t v = record {
+  calls = t .calls + 1;
+  blocks = t .blocks + cond (eqb v (t .next)) 0 1;
+  bytes = t .bytes + (length (blockStart (t .next) v) + 1);
+  next = v + 1;
+}
 
-unfoldable pub allelesAt : List ℤ → Sizes → ℕ → List ℕ
-allelesAt w s f = fold (allelesStep w s) (noAlleles s) (chainOf w s f) .bytes
+pub record Tallied (n : ℕ) (calls : List Call) (t : Tally) : Type 0 where
+  pub calls-are : t .calls ≡ length calls
+  pub blocks-are : t .blocks ≡ blocks n calls
+  pub bytes-are : t .bytes ≡ length (alleleBytes n calls)
 
--- ---- the qualities
-unfoldable pub qualityAt : List ℤ → Sizes → ℕ → ℕ
-qualityAt w s r = qualityByte (phredOf (steps (qualAt w s r)))
-
-unfoldable pub qualityPiece : List ℤ → Sizes → ℕ → List ℕ
-qualityPiece w s r = cond (shownAt w s r) (qualityAt w s r ∷ []) []
-
-unfoldable pub qualitiesStep : List ℤ → Sizes → List ℕ → ℕ → List ℕ
-qualitiesStep w s bytes r = bytes ++ qualityPiece w s r
-
-unfoldable pub qualitiesAt : List ℤ → Sizes → ℕ → List ℕ
-qualitiesAt w s f = fold (qualitiesStep w s) [] (chainOf w s f)
-
--- ---- the numbers of shown calls, of blocks and of allele bytes
-unfoldable pub tallyStep : List ℤ → Sizes → Tally → ℕ → Tally
-tallyStep w s t r =
-    cond (shownAt w s r)
-    (cond (eqb (callVariantAt w s r) (t .next))
-    (record { calls = t .calls + 1; blocks = t .blocks; bytes = t .bytes + 1; next = callVariantAt w s r + 1 })
-    (record {
-      calls = t .calls + 1;
-      blocks = t .blocks + 1;
-      bytes = t .bytes + (length (decimal (callVariantAt w s r + 1)) + 3);
-      next = callVariantAt w s r + 1;
-    }))
-    t
-
-abbrev pub noTally : Sizes → Tally
-noTally s = record { calls = 0; blocks = 0; bytes = 0; next = s .n }
-
-unfoldable pub tallyAt : List ℤ → Sizes → ℕ → Tally
-tallyAt w s f = fold (tallyStep w s) (noTally s) (chainOf w s f)
-
--- what k records can add
+-- what k rows can add
 pub record SmallTally (t : Tally) (k : ℕ) : Type 0 where
   pub calls-top : t .calls ≤ k
   pub blocks-top : t .blocks ≤ k
   pub bytes-top : t .bytes ≤ 1030 * k
 
 -- ---- the lines
-unfoldable pub headerOf : ℕ → ℕ → ℕ → List ℕ
-headerOf blocks id strand = decimal blocks ++ (space ∷ (decimal id ++ (colon ∷ (strandByte strand ∷ []))))
+unfoldable pub headerOf : Head → List ℕ
+headerOf head = decimal (head .blocks) ++ (space ∷ (decimal (head .id) ++ (colon ∷ (strandByte (head .strand) ∷ []))))
 
-unfoldable pub lineAt : List ℤ → Sizes → ℕ → ℕ → List ℕ
-lineAt w s id f =
-    headerOf (tallyAt w s f .blocks) id (strandAt w s f)
-    ++ (allelesAt w s f ++ (space ∷ (qualitiesAt w s f ++ (0 ∷ []))))
+-- of n variants, with these calls
+unfoldable pub lineWith : ℕ → Head → List Call → List ℕ
+lineWith n head calls = headerOf head ++ (alleleBytes n calls ++ (space ∷ (map callQuality calls ++ (0 ∷ []))))
 
--- fragment f's line, where it has one
-unfoldable pub fragmentLine : List ℤ → Sizes → Bool → ℕ → ℕ → List ℕ
-fragmentLine w s single id f = cond (hasLine single (tallyAt w s f .calls)) (lineAt w s id f) []
+abbrev pub headAt : ℕ → ℕ → Fragment → Head
+headAt n id fragment = record { blocks = blocks n (fragment .calls); id = id; strand = fragment .strand }
+
+-- the line of a fragment that has these calls alone, where it has one
+unfoldable pub fragmentLine : ℕ → Bool → ℕ → Fragment → List ℕ
+fragmentLine n single id fragment = cond (hasLine single (length (fragment .calls))) (lineWith n (headAt n id fragment) (fragment .calls)) []
 
 -- 1 where it has one
-unfoldable pub hasOne : List ℤ → Sizes → Bool → ℕ → ℕ
-hasOne w s single f = cond (hasLine single (tallyAt w s f .calls)) 1 0
+unfoldable pub hasOne : Bool → Fragment → ℕ
+hasOne single fragment = cond (hasLine single (length (fragment .calls))) 1 0
 
--- of n fragments from f on
-unfoldable pub linesAt : List ℤ → Sizes → Bool → ℕ → ℕ → ℕ → List ℕ
-linesAt w s single id f zero = []
-linesAt w s single id f (suc n) =
-    fragmentLine w s single id f ++ linesAt w s single (id + hasOne w s single f) (suc f) n
+-- of several
+unfoldable pub linesOver : ℕ → Bool → ℕ → List Fragment → List ℕ
+linesOver n single id [] = []
+linesOver n single id (fragment ∷ fragments) =
+    fragmentLine n single id fragment ++ linesOver n single (id + hasOne single fragment) fragments
 
-unfoldable pub linesCount : List ℤ → Sizes → Bool → ℕ → ℕ → ℕ
-linesCount w s single f zero = 0
-linesCount w s single f (suc n) = hasOne w s single f + linesCount w s single (suc f) n
+unfoldable pub linesCount : Bool → List Fragment → ℕ
+linesCount single [] = 0
+linesCount single (fragment ∷ fragments) = hasOne single fragment + linesCount single fragments
+
+-- ---- counting them
+-- one fragment more
+pub record CountedOn (n : ℕ) (single : Bool) (fragment : Fragment) (before after : Counted) : Type 0 where
+  pub bytes-are : after .bytes ≡ before .bytes + length (fragmentLine n single (before .lines) fragment)
+  pub lines-are : after .lines ≡ before .lines + hasOne single fragment
+  pub bytes-top : after .bytes ≤ before .bytes + 33554432
+
+-- all
+pub record LinesCounted (n : ℕ) (single : Bool) (fragments : List Fragment) (c : Counted) : Type 0 where
+  pub bytes-are : c .bytes ≡ length (linesOver n single 0 fragments)
+  pub lines-are : c .lines ≡ linesCount single fragments

@@ -3,12 +3,15 @@ ghost use mathlib.Core.Path.{_≡_};
 ghost use Prim.Native.Nat.{_≤_};
 ghost use Rattle.haplotype_assembly.specs.GivenPhase.{phaseShort, shortOf, GivenPhase};
 ghost use Rattle.haplotype_assembly.specs.FlistBuffer.{FlistBuffer};
-use crate::lines::count_lines;
 use crate::lines::write_lines;
 use crate::phase::earlier;
 use crate::phase::name_sets;
 use crate::phase::phase_fault;
 use crate::phase::write_phase;
+use crate::tally::count_lines;
+use pileup::rows::make_rows;
+use pileup::scratch::call_words;
+use pileup::scratch::fragment_ends;
 use variants_and_fragments::Checked;
 use variants_and_fragments::Refusal;
 use variants_and_fragments::check_case;
@@ -17,6 +20,7 @@ pub mod fields;
 pub mod lines;
 pub mod numbers;
 pub mod phase;
+pub mod tally;
 
 // What `given_phase` answers.
 pub enum Phased {
@@ -96,13 +100,17 @@ pub fn generate_flist_buffer(
     match checked {
         Checked::Refused(x) => Buffered::Refused(x),
         Checked::Accepted(s) => {
-            let counted = count_lines(words, s, single_reads);
+            let mut rows = call_words();
+            let mut ends = fragment_ends();
+            let mut none = [0usize; 0];
+            make_rows(words, s, &mut rows, &mut ends, &mut none);
+            let counted = count_lines(words, s, &rows, &ends, single_reads);
             let bytes = counted.bytes;
             let lines = counted.lines;
             if buffer.len() < bytes {
                 return Buffered::Refused(Refusal::Short(bytes));
             }
-            write_lines(words, s, single_reads, buffer);
+            write_lines(words, s, &rows, &ends, single_reads, buffer);
             Buffered::Done { bytes, lines }
         }
     }

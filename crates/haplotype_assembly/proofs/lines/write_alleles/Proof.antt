@@ -1,74 +1,108 @@
--- `lines::write_alleles` meets its contract. The loop's invariant: what is put is gathered over the records before r.
+-- `lines::write_alleles` meets its contract. The loop's invariant: what is put, with the alleles of the rows from p on, is the whole.
 -- Assumes nothing.
-use mathlib.Core.List.{List, [], _++_}
-use mathlib.Core.Path.{refl}
-use Prim.Native.Nat.{ℕ, _+_, _-_}
+use mathlib.Core.List.{List, [], _∷_, _++_}
+use mathlib.Core.Bool.{true}
+use mathlib.Core.Logic.{⊎-elim}
+use mathlib.Core.Path.{_≡_, ap, _∙_}
+use Prim.Native.Nat.{ℕ, _+_, _-_, _≤_, _<_}
 use native.Mathlib.Omega.{arith}
 use borrow.Author.Needs.{needs}
 use denote.Ref.{now}
-use Rattle.haplotype_assembly.specs.LinesRead.{pieceAt, noAlleles, allelesAt, allelesStep}
-use Rattle.haplotype_assembly.proofs.Cited.{onward-call}
-use Rattle.haplotype_assembly.proofs.Gathered.{Gathered, gather-start, gather-end, gather-out, gather-room, gather-on}
-use Rattle.haplotype_assembly.proofs.LineParts.{alleles}
-use Rattle.haplotype_assembly.proofs.Stores.{put-length}
+use Rattle.variants_and_fragments.specs.Case.{Call}
+use Rattle.pileup.specs.Packed.{RowIn, rowFrom}
+use Rattle.haplotype_assembly.specs.Lines.{digit, blockStart, alleleBytes}
+use Rattle.haplotype_assembly.specs.LinesRead.{shownAt}
+use Rattle.haplotype_assembly.proofs.Gathered.{Gathered, gather-start, gather-as, gather-length, gather-room, gather-on, gather-end}
+use Rattle.haplotype_assembly.proofs.Pieces.{alleles-on}
+use Rattle.haplotype_assembly.proofs.Shown.{read-in, shown-on, shown-skip, shown-end}
 use Rattle.haplotype_assembly.proofs.lines.write_alleles.Statement.{statement}
 use Rattle.haplotype_assembly.proofs.lines.write_alleles.Tie as tie
 
 abbrev Inv-loop : tie.InvT-loop
-Inv-loop words s f buffer₀ at c end₀ next₀ r₀ k₀ buffer end next r k = (done : List ℕ) × Gathered (alleles words s) words s f (noAlleles s) (record { next = next; bytes = done }) buffer₀ buffer at end r k
+Inv-loop words s rows a e buffer₀ at end₀ next₀ p₀ buffer end next p = (a ≤ p) × Gathered (alleleBytes (s .n) (shownAt words rows a e)) (alleleBytes next (shownAt words rows p e)) buffer₀ buffer at end
 
 abbrev μ-loop : tie.MeasureT-loop
-μ-loop words s f buffer₀ at c end₀ next₀ r₀ k₀ buffer end next r k = c - k
+μ-loop words s rows a e buffer₀ at end₀ next₀ p₀ buffer end next p = e - p
 
-first-call-requires : tie.Need-first-call-requires Inv-loop μ-loop
-first-call-requires c κs = search needs
+abbrev head : tie.In-loop Inv-loop μ-loop → tie.At-loop Inv-loop μ-loop
+head c = c .before
+
+abbrev st : tie.In-loop Inv-loop μ-loop → tie.Start Inv-loop μ-loop
+st c = c .before .before .before .before
+
+-- the turn in which a row is read
+abbrev turn : tie.After-unpack Inv-loop μ-loop → tie.In-loop Inv-loop μ-loop
+turn c = c .before .before
+
+row-in : (c : tie.After-unpack Inv-loop μ-loop) → RowIn (st (turn c) .args .s .n) (st (turn c) .args .s .f) (rowFrom (c .unpack .result))
+row-in c = read-in _ _ _ (c .unpack .ensures) (st (turn c) .pre .1 .0) (head (turn c) .loop .inv .0) (turn c .loop-test .taken)
+
+low : (c : tie.After-unpack Inv-loop μ-loop) → c .unpack .result .variant < 1024
+low c = omega (arith, row-in c .variant-in, st (turn c) .pre .0 .sized .n-top)
+
+abbrev wrote : tie.After-struct-known Inv-loop μ-loop → tie.After-write-call Inv-loop μ-loop
+wrote c = c .before .before .before
+
+-- where the row is shown, its piece and what the rows after it add are left
+abbrev piece : tie.After-unpack Inv-loop μ-loop → List ℕ
+piece c = blockStart (head (turn c) .loop .next) (c .unpack .result .variant) ++ (digit (c .unpack .result .allele) ∷ [])
+
+abbrev after : tie.After-unpack Inv-loop μ-loop → List Call
+after c = shownAt (now (st (turn c) .args .words)) (now (st (turn c) .args .rows)) (head (turn c) .loop .p + 1) (st (turn c) .args .e)
+
+left-is : (c : tie.After-phased-rule Inv-loop μ-loop) → c .phased-rule .result ≡ true → alleleBytes (head (turn (c .before)) .loop .next) (shownAt (now (st (turn (c .before)) .args .words)) (now (st (turn (c .before)) .args .rows)) (head (turn (c .before)) .loop .p) (st (turn (c .before)) .args .e)) ≡ piece (c .before) ++ alleleBytes (c .before .unpack .result .variant + 1) (after (c .before))
+left-is c t = let u = c .before in
+    ap (alleleBytes (head (turn u) .loop .next)) (shown-on (now (st (turn u) .args .rows)) _ _ (u .unpack .ensures) _ _ (turn u .loop-test .taken) _ (c .phased-rule .ensures) t) ∙ alleles-on _ (rowFrom (u .unpack .result) .call) (after u)
 
 loop-holds : tie.Need-loop-holds Inv-loop μ-loop
-loop-holds c = let st = c .before .before in
-    ([], gather-start _ _ _ _ (noAlleles (st .args .s)) refl _ _ _ (c .first-call .ensures) (st .pre .0 .frags _ (st .pre .1 .0)))
+loop-holds c = (omega arith, gather-start _ _ _)
 
-same-length : tie.Need-same-length Inv-loop μ-loop
-same-length c = put-length (c .before .before .loop .inv .1 .put)
+mul-unpack : tie.Need-mul-unpack Inv-loop μ-loop
+mul-unpack c = omega (arith, st c .pre .1 .0 .few)
 
-returns : tie.Need-returns Inv-loop μ-loop
-unfolding allelesAt
-returns c = gather-end (c .before .before .loop .inv .1) (c .if1 .taken)
+shared-slice-read-unpack : tie.Need-shared-slice-read-unpack Inv-loop μ-loop
+shared-slice-read-unpack c = omega (arith, st (c .before) .pre .1 .0 .long)
+
+unpack-requires : tie.Need-unpack-requires Inv-loop μ-loop
+unpack-requires c κs = search needs
+
+phased-rule-requires : tie.Need-phased-rule-requires Inv-loop μ-loop
+phased-rule-requires c κs = (st (turn c) .pre .0, row-in c .variant-in)
 
 write-call-requires : tie.Need-write-call-requires Inv-loop μ-loop
-unfolding allelesAt
-write-call-requires c κs = let st = c .before .before .before .before .before .before in
-    let l = c .before .before .before .loop .inv .1 in
-    let more = c .before .before .loop-test .taken in
-    let some = c .before .if1 .left in
-    (st .pre .0, (((omega arith, l .onward .r-top), onward-call (l .onward) more some), omega (arith, gather-room l more some, put-length (l .put), st .pre .1 .1)))
+write-call-requires c κs = let r = c .before .before in
+    let u = r .before in
+    let i = head (turn u) .loop .inv .1 in
+    ((low u, row-in u .allele-in), gather-room i (piece u) _ (left-is r (c .before .if1 .taken)) (st (turn u) .pre .1 .1))
 
-next-call-requires : tie.Need-next-call-requires Inv-loop μ-loop
-next-call-requires c κs = let st = c .before .before .before .before .before .before .before .before .before in
-    (st .pre .0 .sized, (omega (arith, c .before .before .before .before .if1 .left), c .before .before .before .before .before .before .loop .inv .1 .onward .r-top))
+add-next : tie.Need-add-next Inv-loop μ-loop
+add-next c = omega (arith, low (wrote c .before .before .before .before))
 
-add-k : tie.Need-add-k Inv-loop μ-loop
-add-k c = omega (arith, c .before .before .before .before .before .before .loop-test, c .before .before .before .before .before .before .before .before .before .before .pre .0 .sized)
+add-p : tie.Need-add-p Inv-loop μ-loop
+add-p c = omega (arith, st (turn (c .before .before)) .pre .1 .0 .few)
 
 loop-less : tie.Need-loop-less Inv-loop μ-loop
-loop-less c = omega (arith, c .before .before .before .before .before .before .loop-test)
+loop-less c = omega arith
 
 loop-again : tie.Need-loop-again Inv-loop μ-loop
-unfolding allelesStep
-loop-again c = let at = c .before .before .before .before .before .before .before in
-    let st = at .before .before .before in
-    let l = at .loop .inv .1 in
-    let more = c .before .before .before .before .before .before .loop-test .taken in
-    let some = c .before .before .before .before .before .if1 .left in
-    let wrote = c .before .before .before .write-call in
-    let piece = pieceAt (now (st .args .words)) (st .args .s) (at .loop .next) (at .loop .r) in
-    (at .loop .inv .0 ++ piece, gather-on l more some (record { next = wrote .result .next; bytes = at .loop .inv .0 ++ piece }) (rw (wrote .ensures .1)) _ (c .next-call .ensures) _ _ (wrote .ensures .0))
+loop-again c =
+    let r = c .before in
+    let u = r .before in
+    let i = head (turn u) .loop .inv in
+    let more = turn u .loop-test .taken in
+    (omega (arith, i .0), ⊎-elim
+    (λ x. rw (x .6, x .7, x .8) (gather-on (i .1) (piece u) _ (left-is r (x .0 .taken)) (x .2 .ensures)))
+    (λ x. rw (x .1, x .2, x .3) (gather-as (i .1) (ap (alleleBytes _) (shown-skip (now (st (turn u) .args .rows)) _ _ (u .unpack .ensures) _ _ more _ (r .phased-rule .ensures) (x .0 .left)))))
+    (c .if1 .came))
 
-same-length-2 : tie.Need-same-length-2 Inv-loop μ-loop
-same-length-2 c = put-length (c .before .loop .inv .1 .put)
+same-length : tie.Need-same-length Inv-loop μ-loop
+same-length c = gather-length (c .before .loop .inv .1)
 
-returns-2 : tie.Need-returns-2 Inv-loop μ-loop
-unfolding allelesAt
-returns-2 c = gather-out (c .before .loop .inv .1) (c .loop-test .left)
+returns : tie.Need-returns Inv-loop μ-loop
+unfolding alleleBytes
+returns c = let l = c .before .loop in
+    let args = c .before .before .before .before .args in
+    gather-end (l .inv .1) (ap (alleleBytes (l .next)) (shown-end (now (args .words)) (now (args .rows)) (l .p) (args .e) (c .loop-test .left)))
 
 pub write-alleles-spec : {M : Type 1} → statement M
 write-alleles-spec =
@@ -76,14 +110,15 @@ write-alleles-spec =
     (tie.spec
     Inv-loop
     μ-loop
-    first-call-requires
     loop-holds
-    same-length
-    returns
+    mul-unpack
+    shared-slice-read-unpack
+    unpack-requires
+    phased-rule-requires
     write-call-requires
-    next-call-requires
-    add-k
+    add-next
+    add-p
     loop-less
     loop-again
-    same-length-2
-    returns-2)
+    same-length
+    returns)

@@ -18,24 +18,24 @@ abbrev one : tie.After-slice-known3 → tie.After-write-number
 one c = c .before .before .before .before .before .before
 
 write-number-requires : tie.Need-write-number-requires
-write-number-requires c κs = omega (arith, header-length (c .before .before .args .blocks) (c .before .before .args .id) (c .before .before .args .strand))
+write-number-requires c κs = omega (arith, header-length (c .before .before .args .head))
 
 slice-write-buffer : tie.Need-slice-write-buffer
 slice-write-buffer c = let n = c .before .before in
-    omega (arith, n .write-number .ensures .end-is, put-length (n .write-number .ensures), header-length (st n .args .blocks) (st n .args .id) (st n .args .strand))
+    omega (arith, n .write-number .ensures .end-is, put-length (n .write-number .ensures), header-length (st n .args .head))
 
 add-write-number : tie.Need-add-write-number
 add-write-number c = let n = c .before .before .before in
-    omega (arith, n .write-number .ensures .end-is, header-length (st n .args .blocks) (st n .args .id) (st n .args .strand))
+    omega (arith, n .write-number .ensures .end-is, header-length (st n .args .head))
 
 write-number-requires-2 : tie.Need-write-number-requires-2
 write-number-requires-2 c κs = let n = c .before .before .before in
-    simp length-set (omega (arith, n .write-number .ensures .end-is, put-length (n .write-number .ensures), header-length (st n .args .blocks) (st n .args .id) (st n .args .strand)))
+    simp length-set (omega (arith, n .write-number .ensures .end-is, put-length (n .write-number .ensures), header-length (st n .args .head)))
 
 slice-write-buffer-2 : tie.Need-slice-write-buffer-2
 slice-write-buffer-2 c = let m = c .before .before .write-number2 .ensures in
     let n = one c in
-    omega (arith, m .end-is, simp length-set at (put-length m), n .write-number .ensures .end-is, put-length (n .write-number .ensures), header-length (st n .args .blocks) (st n .args .id) (st n .args .strand))
+    omega (arith, m .end-is, simp length-set at (put-length m), n .write-number .ensures .end-is, put-length (n .write-number .ensures), header-length (st n .args .head))
 
 strand-byte-requires : tie.Need-strand-byte-requires
 strand-byte-requires c κs = search needs
@@ -43,17 +43,17 @@ strand-byte-requires c κs = search needs
 add-buffer : tie.Need-add-buffer
 add-buffer c = let m = c .before .before .before .write-number2 .ensures in
     let n = one (c .before) in
-    omega (arith, m .end-is, n .write-number .ensures .end-is, header-length (st n .args .blocks) (st n .args .id) (st n .args .strand))
+    omega (arith, m .end-is, n .write-number .ensures .end-is, header-length (st n .args .head))
 
 slice-write-buffer-3 : tie.Need-slice-write-buffer-3
 slice-write-buffer-3 c = let m = c .before .before .before .write-number2 .ensures in
     let n = one (c .before) in
-    simp length-set (omega (arith, m .end-is, simp length-set at (put-length m), n .write-number .ensures .end-is, put-length (n .write-number .ensures), header-length (st n .args .blocks) (st n .args .id) (st n .args .strand)))
+    simp length-set (omega (arith, m .end-is, simp length-set at (put-length m), n .write-number .ensures .end-is, put-length (n .write-number .ensures), header-length (st n .args .head)))
 
 add-result : tie.Need-add-result
 add-result c = let m = c .before .before .before .write-number2 .ensures in
     let n = one (c .before) in
-    omega (arith, m .end-is, n .write-number .ensures .end-is, header-length (st n .args .blocks) (st n .args .id) (st n .args .strand))
+    omega (arith, m .end-is, n .write-number .ensures .end-is, header-length (st n .args .head))
 
 same-length : tie.Need-same-length
 same-length c = let m = c .before .before .before .write-number2 .ensures in

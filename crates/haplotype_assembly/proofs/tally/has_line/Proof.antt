@@ -1,8 +1,8 @@
--- `lines::has_line` meets its contract, by its one test.
+-- `tally::has_line` meets its contract, by its one test.
 -- Assumes nothing.
 use Rattle.haplotype_assembly.specs.Lines.{hasLine}
-use Rattle.haplotype_assembly.proofs.lines.has_line.Statement.{statement}
-use Rattle.haplotype_assembly.proofs.lines.has_line.Tie as tie
+use Rattle.haplotype_assembly.proofs.tally.has_line.Statement.{statement}
+use Rattle.haplotype_assembly.proofs.tally.has_line.Tie as tie
 
 returns : tie.Need-returns
 unfolding hasLine

@@ -1,10 +1,10 @@
--- `lines::line_bytes` meets its contract; nothing wraps, since a number has no more digits than itself and one.
+-- `tally::line_bytes` meets its contract; nothing wraps, since a number has no more digits than itself and one.
 -- Assumes nothing.
 use native.Mathlib.Omega.{arith}
 use borrow.Author.Needs.{needs}
 use Rattle.haplotype_assembly.proofs.Decimals.{decimal-top}
-use Rattle.haplotype_assembly.proofs.lines.line_bytes.Statement.{statement}
-use Rattle.haplotype_assembly.proofs.lines.line_bytes.Tie as tie
+use Rattle.haplotype_assembly.proofs.tally.line_bytes.Statement.{statement}
+use Rattle.haplotype_assembly.proofs.tally.line_bytes.Tie as tie
 
 digit-count-requires : tie.Need-digit-count-requires
 digit-count-requires c κs = search needs
