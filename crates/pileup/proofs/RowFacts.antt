@@ -17,8 +17,8 @@ use Rattle.variants_and_fragments.specs.Pileup.{rowOf, usableCalls, rowsFrom}
 use Rattle.variants_and_fragments.proofs.Alls.{all-map}
 use Rattle.variants_and_fragments.proofs.Bools.{both}
 use Rattle.variants_and_fragments.proofs.Decoded.{debt-down}
+use Rattle.variants_and_fragments.proofs.Only.{only-all}
 use Rattle.variants_and_fragments.proofs.Records.{call-facts}
-use Rattle.variants_and_fragments.proofs.Usable.{only-all}
 use Rattle.pileup.specs.Packed.{RowIn}
 
 all-append : {X : Type 0} {P : X → Type 0} {xs ys : List X} → All P xs → All P ys → All P (xs ++ ys)

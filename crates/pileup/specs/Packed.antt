@@ -4,7 +4,7 @@ use mathlib.Core.Path.{_≡_}
 use mathlib.Core.Bool.{Bool}
 use mathlib.Core.List.{List, map}
 use Prim.Native.Nat.{ℕ, zero, suc, _+_, _*_, _-_, _/_, _%_, _≤_, _<_}
-use lib.IntN.{ℤ, pos, negℤ}
+use lib.IntN.{ℤ, pos, negℤ, _-ℤ_}
 use lib.ListN.{length, getD}
 use lib.Seq.{slice}
 use Rattle.variants_and_fragments.specs.Words.{debtOf}
@@ -38,19 +38,22 @@ pub record RowIn (n f : ℕ) (row : Row) : Type 0 where
 abbrev pub Packable : Row → Type 0
 Packable row = RowIn 1024 4096 row
 
--- the row's word: its variant, its allele, its fragment and how far its two qualities lie below 0, one above the other
+-- the row's word, from the lowest bits on: its variant (10 bits), its allele (2), how far qual lies below 0 (19), the gap
+-- one-minus-qual − qual plus 262144, so that it is not negative (20), and its fragment (12): 63 bits
 unfoldable pub packed : Row → ℕ
 packed row =
-    row .call .variant
-    + 1024 * (row .call .allele + 4 * (row .fragment + 4096 * (debtOf (row .call .qual) + 524288 * debtOf (row .call .one-minus-qual))))
+    let q = debtOf (row .call .qual) in
+    let gap = 262144 + q - debtOf (row .call .one-minus-qual) in
+    row .call .variant + 1024 * (row .call .allele + 4 * (q + 524288 * (gap + 1048576 * row .fragment)))
 
--- the row of a word; of the word of a packable row it is that row (proofs/Packing, unpack-pack)
+-- the row of a word, whose parts start at bits 0, 10, 12, 31 (2147483648) and 51 (2251799813685248); one-minus-qual is qual and the gap.
+-- Of the word of a packable row it is that row (proofs/Packing, unpack-pack)
 unfoldable pub unpacked : ℕ → Row
-unpacked w = rowOf (w / 4096 % 4096) (record {
+unpacked w = rowOf (w / 2251799813685248) (record {
   variant = w % 1024;
   allele = w / 1024 % 4;
-  qual = negℤ (pos (w / 16777216 % 524288));
-  one-minus-qual = negℤ (pos (w / 8796093022208));
+  qual = negℤ (pos (w / 4096 % 524288));
+  one-minus-qual = pos (w / 2147483648 % 1048576) -ℤ pos (262144 + w / 4096 % 524288);
 })
 
 -- the code's test is the definition's, for every call of this quality of every fragment of this strand

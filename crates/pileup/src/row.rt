@@ -1,7 +1,7 @@
 // A usable call: as a struct by value, and as the one word that rows and piles hold of it.
 ghost use mathlib.Core.Path.{_≡_};
-ghost use Prim.Native.Nat.{_<_, _≤_};
-ghost use lib.IntN.{pos, negℤ};
+ghost use Prim.Native.Nat.{_+_, _<_, _≤_};
+ghost use lib.IntN.{pos, negℤ, _-ℤ_};
 ghost use Rattle.variants_and_fragments.specs.Words.{debtOf};
 ghost use Rattle.variants_and_fragments.specs.Sums.{DownTo};
 ghost use Rattle.pileup.specs.Packed.{Packable, heldRow, rowFrom, packed, unpacked, UsableIs};
@@ -25,33 +25,44 @@ fn debt(qual: i64) -> u64
 
 // The number that lies so far below 0.
 fn below(debt: u64) -> i64
-    requires { ⌜ debt < 2097152 ⌝ }
+    requires { ⌜ debt < 524288 ⌝ }
     ensures { λ q. ⌜ q ≡ negℤ (pos debt) ⌝ }
 {
     0 - debt as i64
 }
 
-// The row as one word: from the lowest bits on, 10 for the variant, 2 for the allele, 12 for the fragment, and 19 for how far each quality
-// lies below 0.
+// The quality that lies gap - 262144 over the one that lies `qual` below 0.
+fn above(qual: u64, gap: u64) -> i64
+    requires { ⌜ (qual < 524288) × (gap < 1048576) ⌝ }
+    ensures { λ q. ⌜ q ≡ pos gap -ℤ pos (262144 + qual) ⌝ }
+{
+    gap as i64 - (262144 + qual) as i64
+}
+
+// The row as one word: from the lowest bits on, 10 for the variant, 2 for the allele, 19 for how far the quality lies below 0, 20 for the gap
+// one_minus_qual - qual plus 262144, so that it is not negative, and 12 for the fragment.
 pub fn pack(row: Row) -> u64
     requires { ⌜ Packable (rowFrom row) ⌝ }
     ensures { λ w. ⌜ w ≡ packed (rowFrom row) ⌝ }
 {
-    let qualities = debt(row.qual) + 524288 * debt(row.one_minus_qual);
-    let who = row.allele as u64 + 4 * (row.fragment as u64 + 4096 * qualities);
-    row.variant as u64 + 1024 * who
+    let qual = debt(row.qual);
+    let other = debt(row.one_minus_qual);
+    let gap = 262144 + qual - other;
+    row.variant as u64
+        + 1024 * (row.allele as u64 + 4 * (qual + 524288 * (gap + 1048576 * row.fragment as u64)))
 }
 
-// The row of a word.
+// The row of a word. In one_minus_qual - qual all but the gap cancels.
 pub fn unpack(word: u64) -> Row
     ensures { λ r. ⌜ r ≡ heldRow (unpacked word) ⌝ }
 {
+    let qual = word / 4096 % 524288;
     Row {
-        fragment: (word / 4096 % 4096) as usize,
+        fragment: (word / 2251799813685248) as usize,
         variant: (word % 1024) as usize,
         allele: (word / 1024 % 4) as usize,
-        qual: below(word / 16777216 % 524288),
-        one_minus_qual: below(word / 8796093022208),
+        qual: below(qual),
+        one_minus_qual: above(qual, word / 2147483648 % 1048576),
     }
 }
 

@@ -10,7 +10,7 @@ use Rattle.pileup.proofs.row.unpack.Tie as tie
 
 returns : tie.Need-returns
 unfolding unpacked
-returns c = rw (toZ-ofZ (sfits-of {w = w64} (c .before .below .ok)), toZ-ofZ (sfits-of {w = w64} (c .below2 .ok)), c .before .below .ensures, c .below2 .ensures) refl
+returns c = rw (toZ-ofZ (sfits-of {w = w64} (c .before .below .ok)), toZ-ofZ (sfits-of {w = w64} (c .above .ok)), c .before .below .ensures, c .above .ensures) refl
 
 pub unpack-spec : {M : Type 1} → statement M
 unpack-spec = tie.close (tie.spec (λ c κs. search needs) (λ c κs. search needs) returns)
