@@ -50,6 +50,13 @@ none-short c = sym (c .before .phase-short .ensures) ∙ c .if2 .left
 roomy : (c : tie.Else2) → Room (sizes (from1 (from2 c)) .n) (length (now (st2 c .args .haplotypes))) (length (now (st2 c .args .phased))) (length (now (st2 c .args .names)))
 roomy c = room _ _ _ _ (none-short c)
 
+-- what is written before the names
+abbrev wrote : tie.After-name-sets-arg → tie.After-write-phase
+wrote c = c .before .before .before .before .before
+
+abbrev fits : tie.After-write-phase → tie.Else2
+fits c = c .before .before .before
+
 check-case-requires : tie.Need-check-case-requires
 check-case-requires c κs = search needs
 
@@ -78,7 +85,7 @@ write-phase-requires c κs = let e2 = c .before .before in
     (inside (from1 (from2 e2)), (omega (arith, right (from2 e2) .bytes-long), (r .haplotypes-room, r .phased-room)))
 
 name-sets-requires : tie.Need-name-sets-requires
-name-sets-requires c κs = let e2 = c .before .before .before .before .before .before .before .before in
+name-sets-requires c κs = let e2 = fits (wrote c) in
     let r = roomy e2 in
     let f = right (from2 e2) in
     (inside (from1 (from2 e2)), ((omega (arith, f .bytes-long), (omega (arith, f .sets-long), r .names-room)), f .sets-ok))
@@ -97,9 +104,9 @@ same-length-3 c = search needs
 
 returns-4 : tie.Need-returns-4
 returns-4 c = let named = c .before .before in
-    let wrote = named .before .before .before .before .before .before in
-    let e2 = wrote .before .before .before in
-    answer-done _ _ _ _ _ _ _ _ (accepted (from1 (from2 e2))) (clean (from2 e2)) (none-short e2) _ _ _ (wrote .write-phase .ensures .0) (wrote .write-phase .ensures .1) (named .name-sets .ensures)
+    let w = wrote (named .before) in
+    let e2 = fits w in
+    answer-done _ _ _ _ _ _ _ _ (accepted (from1 (from2 e2))) (clean (from2 e2)) (none-short e2) _ _ _ (w .write-phase .ensures .0) (w .write-phase .ensures .1) (named .name-sets .ensures)
 
 pub given-phase-spec : {M : Type 1} → statement M
 given-phase-spec =

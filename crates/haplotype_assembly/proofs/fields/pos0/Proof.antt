@@ -1,6 +1,5 @@
 -- `haplotype_assembly::fields::pos0` meets its contract: the layout's own reading of the position.
 -- Assumes nothing.
-use borrow.Author.Needs.{needs}
 use Rattle.haplotype_assembly.proofs.fields.pos0.Statement.{statement}
 use Rattle.haplotype_assembly.proofs.fields.pos0.Tie as tie
 

@@ -47,12 +47,13 @@ wrote c = c .before .before .before
 abbrev piece : tie.After-unpack Inv-loop μ-loop → List ℕ
 piece c = blockStart (head (turn c) .loop .next) (c .unpack .result .variant) ++ (digit (c .unpack .result .allele) ∷ [])
 
-abbrev after : tie.After-unpack Inv-loop μ-loop → List Call
-after c = shownAt (now (st (turn c) .args .words)) (now (st (turn c) .args .rows)) (head (turn c) .loop .p + 1) (st (turn c) .args .e)
+abbrev from : tie.After-unpack Inv-loop μ-loop → ℕ → List Call
+from c p = shownAt (now (st (turn c) .args .words)) (now (st (turn c) .args .rows)) p (st (turn c) .args .e)
 
-left-is : (c : tie.After-phased-rule Inv-loop μ-loop) → c .phased-rule .result ≡ true → alleleBytes (head (turn (c .before)) .loop .next) (shownAt (now (st (turn (c .before)) .args .words)) (now (st (turn (c .before)) .args .rows)) (head (turn (c .before)) .loop .p) (st (turn (c .before)) .args .e)) ≡ piece (c .before) ++ alleleBytes (c .before .unpack .result .variant + 1) (after (c .before))
+left-is : (c : tie.After-phased-rule Inv-loop μ-loop) → c .phased-rule .result ≡ true
+    → alleleBytes (head (turn (c .before)) .loop .next) (from (c .before) (head (turn (c .before)) .loop .p)) ≡ piece (c .before) ++ alleleBytes (c .before .unpack .result .variant + 1) (from (c .before) (head (turn (c .before)) .loop .p + 1))
 left-is c t = let u = c .before in
-    ap (alleleBytes (head (turn u) .loop .next)) (shown-on (now (st (turn u) .args .rows)) _ _ (u .unpack .ensures) _ _ (turn u .loop-test .taken) _ (c .phased-rule .ensures) t) ∙ alleles-on _ (rowFrom (u .unpack .result) .call) (after u)
+    ap (alleleBytes (head (turn u) .loop .next)) (shown-on (now (st (turn u) .args .rows)) _ _ (u .unpack .ensures) _ _ (turn u .loop-test .taken) _ (c .phased-rule .ensures) t) ∙ alleles-on _ (rowFrom (u .unpack .result) .call) _
 
 loop-holds : tie.Need-loop-holds Inv-loop μ-loop
 loop-holds c = (omega arith, gather-start _ _ _)
@@ -89,11 +90,13 @@ loop-again c =
     let r = c .before in
     let u = r .before in
     let i = head (turn u) .loop .inv in
-    let more = turn u .loop-test .taken in
-    (omega (arith, i .0), ⊎-elim
-    (λ x. rw (x .6, x .7, x .8) (gather-on (i .1) (piece u) _ (left-is r (x .0 .taken)) (x .2 .ensures)))
-    (λ x. rw (x .1, x .2, x .3) (gather-as (i .1) (ap (alleleBytes _) (shown-skip (now (st (turn u) .args .rows)) _ _ (u .unpack .ensures) _ _ more _ (r .phased-rule .ensures) (x .0 .left)))))
-    (c .if1 .came))
+    let more = turn u .loop-test .taken in (
+      omega (arith, i .0),
+      ⊎-elim
+          (λ x. rw (x .6, x .7, x .8) (gather-on (i .1) (piece u) _ (left-is r (x .0 .taken)) (x .2 .ensures)))
+          (λ x. rw (x .1, x .2, x .3) (gather-as (i .1) (ap (alleleBytes _) (shown-skip (now (st (turn u) .args .rows)) _ _ (u .unpack .ensures) _ _ more _ (r .phased-rule .ensures) (x .0 .left)))))
+          (c .if1 .came),
+    )
 
 same-length : tie.Need-same-length Inv-loop μ-loop
 same-length c = gather-length (c .before .loop .inv .1)

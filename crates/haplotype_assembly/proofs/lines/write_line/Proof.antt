@@ -4,7 +4,6 @@ use mathlib.Core.List.{List, map}
 use mathlib.Core.Path.{_∙_}
 use Prim.Native.Nat.{_+_, _≤_, _<_, _^_}
 use native.Mathlib.Omega.{arith}
-use borrow.Author.Needs.{needs}
 use denote.Ref.{now}
 use lib.ListN.{length, length-set}
 use Rattle.variants_and_fragments.specs.Case.{Call}

@@ -42,10 +42,11 @@ row-in c = read-in _ _ _ (c .unpack .ensures) (st (turn c) .pre .1 .0) (head (tu
 abbrev piece : tie.After-unpack Inv-loop μ-loop → List ℕ
 piece c = callQuality (rowFrom (c .unpack .result) .call) ∷ []
 
-abbrev after : tie.After-unpack Inv-loop μ-loop → List Call
-after c = shownAt (now (st (turn c) .args .words)) (now (st (turn c) .args .rows)) (head (turn c) .loop .p + 1) (st (turn c) .args .e)
+abbrev from : tie.After-unpack Inv-loop μ-loop → ℕ → List Call
+from c p = shownAt (now (st (turn c) .args .words)) (now (st (turn c) .args .rows)) p (st (turn c) .args .e)
 
-left-is : (c : tie.After-phased-rule Inv-loop μ-loop) → c .phased-rule .result ≡ true → map callQuality (shownAt (now (st (turn (c .before)) .args .words)) (now (st (turn (c .before)) .args .rows)) (head (turn (c .before)) .loop .p) (st (turn (c .before)) .args .e)) ≡ piece (c .before) ++ map callQuality (after (c .before))
+left-is : (c : tie.After-phased-rule Inv-loop μ-loop) → c .phased-rule .result ≡ true
+    → map callQuality (from (c .before) (head (turn (c .before)) .loop .p)) ≡ piece (c .before) ++ map callQuality (from (c .before) (head (turn (c .before)) .loop .p + 1))
 left-is c t = let u = c .before in
     ap (map callQuality) (shown-on (now (st (turn u) .args .rows)) _ _ (u .unpack .ensures) _ _ (turn u .loop-test .taken) _ (c .phased-rule .ensures) t)
 
@@ -89,11 +90,13 @@ loop-again c =
     let r = c .before in
     let u = r .before in
     let i = head (turn u) .loop .inv in
-    let more = turn u .loop-test .taken in
-    (omega (arith, i .0), ⊎-elim
-    (λ x. rw (x .2, x .3, x .1 .ensures) (gather-on (i .1) (piece u) _ (left-is r (x .0 .taken)) (put-one _ _ _)))
-    (λ x. rw (x .1, x .2) (gather-as (i .1) (ap (map callQuality) (shown-skip (now (st (turn u) .args .rows)) _ _ (u .unpack .ensures) _ _ more _ (r .phased-rule .ensures) (x .0 .left)))))
-    (c .if1 .came))
+    let more = turn u .loop-test .taken in (
+      omega (arith, i .0),
+      ⊎-elim
+          (λ x. rw (x .2, x .3, x .1 .ensures) (gather-on (i .1) (piece u) _ (left-is r (x .0 .taken)) (put-one _ _ _)))
+          (λ x. rw (x .1, x .2) (gather-as (i .1) (ap (map callQuality) (shown-skip (now (st (turn u) .args .rows)) _ _ (u .unpack .ensures) _ _ more _ (r .phased-rule .ensures) (x .0 .left)))))
+          (c .if1 .came),
+    )
 
 same-length : tie.Need-same-length Inv-loop μ-loop
 same-length c = gather-length (c .before .loop .inv .1)

@@ -15,30 +15,37 @@ Inv-loop words s sets least₀ n v₀ least v = (v ≤ n) × (NamedTo words sets
 abbrev μ-loop : tie.MeasureT-loop
 μ-loop words s sets least₀ n v₀ least v = n - v
 
+-- the turn that ends here, and the start
+abbrev turn : tie.After-slice-known2 Inv-loop μ-loop → tie.In-loop Inv-loop μ-loop
+turn c = c .before .before .before .before
+
+abbrev st : tie.At-loop Inv-loop μ-loop → tie.Start Inv-loop μ-loop
+st c = c .before .before
+
 loop-holds : tie.Need-loop-holds Inv-loop μ-loop
 loop-holds c = (omega arith, (c .before .pre .1 .1, refl))
 
 note-name-requires : tie.Need-note-name-requires Inv-loop μ-loop
-note-name-requires c κs = (c .before .before .before .before .pre .0, ((omega arith, omega arith), c .before .before .loop .inv .1 .0))
+note-name-requires c κs = (st (c .before .before) .pre .0, ((omega arith, omega arith), c .before .before .loop .inv .1 .0))
 
 add-v : tie.Need-add-v Inv-loop μ-loop
-add-v c = omega (arith, c .before .before .before .before .loop-test)
+add-v c = omega (arith, turn c .loop-test)
 
 loop-less : tie.Need-loop-less Inv-loop μ-loop
-loop-less c = omega (arith, c .before .before .before .before .loop-test)
+loop-less c = omega (arith, turn c .loop-test)
 
 loop-again : tie.Need-loop-again Inv-loop μ-loop
-loop-again c = let l = c .before .before .before .before .before .loop .inv in
+loop-again c = let l = turn c .before .loop .inv in
     let d = c .before .before .note-name in
-    (omega (arith, c .before .before .before .before .loop-test), (rw add-one (d .ensures), d .kept .1 .1 .1 .1 .0 ∙ l .1 .1))
+    (omega (arith, turn c .loop-test), (rw add-one (d .ensures), d .kept .1 .1 .1 .1 .0 ∙ l .1 .1))
 
 same-length : tie.Need-same-length Inv-loop μ-loop
 same-length c = c .before .loop .inv .1 .1
 
 returns : tie.Need-returns Inv-loop μ-loop
-returns c = let st = c .before .before .before in
-    let e : c .before .loop .v ≡ st .args .s .n = omega arith in
-    subst (λ (x : ℕ). NamedTo (now (st .args .words)) (now (st .args .sets)) (st .args .s .n) x (c .before .loop .least)) e (c .before .loop .inv .1 .0)
+returns c = let args = st (c .before) .args in
+    let e : c .before .loop .v ≡ args .s .n = omega arith in
+    subst (λ (x : ℕ). NamedTo (now (args .words)) (now (args .sets)) (args .s .n) x (c .before .loop .least)) e (c .before .loop .inv .1 .0)
 
 pub least-names-spec : {M : Type 1} → statement M
 least-names-spec =

@@ -8,6 +8,13 @@ use Rattle.haplotype_assembly.proofs.Names.{unnamed, named, no-name, it
 use Rattle.haplotype_assembly.proofs.phase.name_at.Statement.{statement}
 use Rattle.haplotype_assembly.proofs.phase.name_at.Tie as tie
 
+abbrev st : tie.After-nat-at → tie.Start
+st c = c .before .before .before .before .before
+
+-- past both tests
+abbrev read : tie.After-shared-slice-known4 → tie.After-nat-at
+read c = c .before .before
+
 shared-slice-read-byte : tie.Need-shared-slice-read-byte
 shared-slice-read-byte c = search needs
 
@@ -19,8 +26,7 @@ nat-at-requires c κs = search needs
 
 returns-2 : tie.Need-returns-2
 unfolding setsOk
-returns-2 c = let st = c .before .before .before .before .before .before in
-    named _ _ _ _ _ (c .before .before .if1 .left) 0 (no-name _ _ _ _ (st .pre .1 .0) (c .before .nat-at .ensures) (c .if2 .taken))
+returns-2 c = named _ _ _ _ _ (c .before .before .if1 .left) 0 (no-name _ _ _ _ (st (c .before) .pre .1 .0) (c .before .nat-at .ensures) (c .if2 .taken))
 
 mul-result : tie.Need-mul-result
 mul-result c = search needs
@@ -29,13 +35,11 @@ shared-slice-read-result : tie.Need-shared-slice-read-result
 shared-slice-read-result c = search needs
 
 cast-result : tie.Need-cast-result
-cast-result c = let st = c .before .before .before .before .before .before .before in
-    record { fits = st .pre .1 .1 .top _ (c .before .if2 .left) }
+cast-result c = record { fits = st (read c) .pre .1 .1 .top _ (c .before .if2 .left) }
 
 returns-3 : tie.Need-returns-3
-returns-3 c = let st = c .before .before .before .before .before .before .before in
-    let i = st .pre .1 .1 in
-    named _ _ _ _ _ (c .before .before .before .if1 .left) _ (i .names _ (c .before .if2 .left) ∙ its-name _ _ _ (c .before .before .nat-at .ensures) (omega (arith, i .small)))
+returns-3 c = let i = st (read c) .pre .1 .1 in
+    named _ _ _ _ _ (read c .before .if1 .left) _ (i .names _ (c .before .if2 .left) ∙ its-name _ _ _ (read c .nat-at .ensures) (omega (arith, i .small)))
 
 pub name-at-spec : {M : Type 1} → statement M
 name-at-spec =

@@ -5,6 +5,13 @@ use Rattle.haplotype_assembly.proofs.Names.{named-past, named-on}
 use Rattle.haplotype_assembly.proofs.phase.note_name.Statement.{statement}
 use Rattle.haplotype_assembly.proofs.phase.note_name.Tie as tie
 
+-- variant v's set is one of n
+abbrev inside : tie.After-earlier → tie.Then1
+inside c = c .before .before .before
+
+abbrev st : tie.After-nat-at → tie.Start
+st c = c .before .before
+
 nat-at-requires : tie.Need-nat-at-requires
 nat-at-requires c κs = search needs
 
@@ -33,12 +40,11 @@ same-length : tie.Need-same-length
 same-length c = search needs
 
 returns : tie.Need-returns
-returns c = let st = c .before .before .before .before .before .before in
-    rw (c .earlier .ensures) (named-on (st .pre .1 .1) _ (c .before .before .before .before .nat-at .ensures) (c .before .before .before .if1 .taken) _ (c .before .before .pos0 .ensures .0) (c .before .before .pos0 .ensures .1))
+returns c = let p = c .before .before .pos0 in
+    rw (c .earlier .ensures) (named-on (st (inside c .before) .pre .1 .1) _ (inside c .before .nat-at .ensures) (inside c .if1 .taken) _ (p .ensures .0) (p .ensures .1))
 
 returns-2 : tie.Need-returns-2
-returns-2 c = let st = c .before .before .before in
-    named-past (st .pre .1 .1) _ (c .before .nat-at .ensures) (c .if1 .left)
+returns-2 c = named-past (st (c .before) .pre .1 .1) _ (c .before .nat-at .ensures) (c .if1 .left)
 
 pub note-name-spec : {M : Type 1} → statement M
 note-name-spec =

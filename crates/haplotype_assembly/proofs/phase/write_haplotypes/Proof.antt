@@ -18,6 +18,10 @@ Inv-loop words s phase haplotypes₀ n v₀ haplotypes v = (v ≤ n) × (haploty
 abbrev μ-loop : tie.MeasureT-loop
 μ-loop words s phase haplotypes₀ n v₀ haplotypes v = n - v
 
+-- the loop's head, in the turn that ends here
+abbrev head : tie.After-ordered-second Inv-loop μ-loop → tie.At-loop Inv-loop μ-loop
+head c = c .before .before .before .before .before .before
+
 loop-holds : tie.Need-loop-holds Inv-loop μ-loop
 unfolding written
 loop-holds c = (omega arith, refl)
@@ -41,7 +45,7 @@ mul-haplotypes : tie.Need-mul-haplotypes Inv-loop μ-loop
 mul-haplotypes c = search needs
 
 slice-write-haplotypes : tie.Need-slice-write-haplotypes Inv-loop μ-loop
-slice-write-haplotypes c = omega (arith, same-room _ _ _ _ (c .before .before .before .before .before .before .loop .inv .1))
+slice-write-haplotypes c = omega (arith, same-room _ _ _ _ (head c .loop .inv .1))
 
 mul-haplotypes-2 : tie.Need-mul-haplotypes-2 Inv-loop μ-loop
 mul-haplotypes-2 c = search needs
@@ -50,7 +54,7 @@ add-haplotypes : tie.Need-add-haplotypes Inv-loop μ-loop
 add-haplotypes c = search needs
 
 slice-write-haplotypes-2 : tie.Need-slice-write-haplotypes-2 Inv-loop μ-loop
-slice-write-haplotypes-2 c = simp length-set (omega (arith, same-room _ _ _ _ (c .before .before .before .before .before .before .loop .inv .1)))
+slice-write-haplotypes-2 c = simp length-set (omega (arith, same-room _ _ _ _ (head c .loop .inv .1)))
 
 add-v : tie.Need-add-v Inv-loop μ-loop
 add-v c = search needs
@@ -63,7 +67,7 @@ unfolding startAt
 loop-again c = let g2 = c .before .before in
     let a = g2 .before .genotype .ensures in
     let b = g2 .genotype2 .ensures in
-    (omega arith, pair-on _ _ _ _ _ _ _ (c .before .before .before .before .before .before .loop .inv .1) (rw (a, b) at (c .before .ordered-first .ensures)) (rw (a, b) at (c .ordered-second .ensures)))
+    (omega arith, pair-on _ _ _ _ _ _ _ (head c .loop .inv .1) (rw (a, b) at (c .before .ordered-first .ensures)) (rw (a, b) at (c .ordered-second .ensures)))
 
 same-length : tie.Need-same-length Inv-loop μ-loop
 same-length c = same-room _ _ _ _ (c .before .loop .inv .1)

@@ -17,16 +17,18 @@ Inv-loop words s phase sets least names₀ n v₀ names v = (v ≤ n) × (names 
 abbrev μ-loop : tie.MeasureT-loop
 μ-loop words s phase sets least names₀ n v₀ names v = n - v
 
+abbrev st : tie.In-loop Inv-loop μ-loop → tie.Start Inv-loop μ-loop
+st c = c .before .before .before .before .before
+
 loop-holds : tie.Need-loop-holds Inv-loop μ-loop
 unfolding written
 loop-holds c = (omega arith, refl)
 
 name-at-requires : tie.Need-name-at-requires Inv-loop μ-loop
-name-at-requires c κs = let st = c .before .before .before .before .before in
-    ((c .loop-test .taken, (omega arith, omega arith)), (st .pre .1 .0 _ (c .loop-test .taken), st .pre .1 .1))
+name-at-requires c κs = ((c .loop-test .taken, (omega arith, omega arith)), (st c .pre .1 .0 _ (c .loop-test .taken), st c .pre .1 .1))
 
 mul-names : tie.Need-mul-names Inv-loop μ-loop
-mul-names c = record { fits = omega (arith, c .before .before .before .before .before .before .pre .1 .1 .small) }
+mul-names c = record { fits = omega (arith, st (c .before) .pre .1 .1 .small) }
 
 slice-write-names : tie.Need-slice-write-names Inv-loop μ-loop
 slice-write-names c = omega (arith, same-room _ _ _ _ (c .before .before .loop .inv .1))

@@ -1,6 +1,5 @@
 -- `tally::count_fragment` meets its contract: a fragment without a line adds nothing, another its line's length.
 -- Assumes nothing.
-use mathlib.Core.Bool.{true}
 use mathlib.Core.Path.{_≡_, sym, ap, _∙_}
 use Prim.Native.Nat.{_≤_}
 use native.Mathlib.Omega.{arith}

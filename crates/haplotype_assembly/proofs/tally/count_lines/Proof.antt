@@ -1,6 +1,6 @@
 -- `tally::count_lines` meets its contract. The loop's invariant: what is counted and what the fragments from f on add make the whole.
 -- Assumes nothing.
-use Prim.Native.Nat.{_-_, _≤_}
+use Prim.Native.Nat.{_-_}
 use native.Mathlib.Omega.{arith}
 use Rattle.haplotype_assembly.specs.LinesRead.{shownFragment}
 use Rattle.haplotype_assembly.proofs.Counting.{CountedTo, counted-start, counted-on, counted-end}
