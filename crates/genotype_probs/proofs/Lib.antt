@@ -14,3 +14,4 @@ pub mod NormalizedLaws
 pub mod PriorSizes
 pub mod SameTables
 pub mod TableSizes
+pub mod ListLaws

@@ -6,16 +6,9 @@ use mathlib.Core.List.{List, []}
 use Prim.Native.Nat.{ℕ, zero, suc, _+_, _*_, _-_, _≤_, _<_}
 use native.Mathlib.Omega.{arith}
 use borrow.Author.Tests.{lt-ltb, le-ltb}
-use lib.IntN.{ℤ}
-use lib.ListN.{length, getD}
-use Rattle.variants_and_fragments.specs.declared.Sizes.{Sizes}
-use Rattle.variants_and_fragments.specs.Decode.{decode}
-use Rattle.variants_and_fragments.specs.Layout.{depthAt}
-use Rattle.pileup.specs.Piles.{pileStart}
-use Rattle.variants_and_fragments.proofs.Decoded.{dp-is}
+use lib.ListN.{getD}
 use Rattle.genotype_probs.specs.declared.posteriors.Genotype.{Genotype}
-use Rattle.no_haplotypes.specs.NoHaplotypes.{callsAt, depthAfter}
-use Rattle.no_haplotypes.specs.Tally.{CallsCounted, answerValues}
+use Rattle.no_haplotypes.specs.Calling.{answerValues, larger}
 
 -- ---- number by number
 module _ (g : Genotype) (counts : List ℕ) (ambiguous depth : ℕ) where
@@ -60,20 +53,10 @@ module _ (g : Genotype) (counts : List ℕ) (ambiguous depth : ℕ) where
   depth-value p e = rw e
 
 -- ---- the depth
-module _ {w : List ℤ} {s : Sizes} {ambiguous ends : List ℕ} (k : CallsCounted w s ambiguous ends) (b : List ℕ) (v : ℕ) (h : v < s .n) where
-  calls-is : (calls : ℕ) → calls ≡ getD ends v 0 + getD ambiguous v 0 - pileStart ends v → calls ≡ callsAt (decode w b) v
-  calls-is calls e = omega (arith, k .calls-are b v h)
+pub larger-calls : (dp calls : ℕ) → dp < calls → calls ≡ larger dp calls
+unfolding larger
+larger-calls dp calls l = rw (lt-ltb dp calls l)
 
-  pub depth-calls : (dp calls : ℕ) → dp ≡ depthAt w v → calls ≡ getD ends v 0 + getD ambiguous v 0 - pileStart ends v → dp < calls → calls ≡ depthAfter (decode w b) v
-  unfolding depthAfter
-  depth-calls dp calls e f l =
-      let q = dp-is (k .case-in) b v h in
-      let c = calls-is calls f in
-      rw (q, ← e, ← c, lt-ltb dp calls l)
-
-  pub depth-case : (dp calls : ℕ) → dp ≡ depthAt w v → calls ≡ getD ends v 0 + getD ambiguous v 0 - pileStart ends v → calls ≤ dp → dp ≡ depthAfter (decode w b) v
-  unfolding depthAfter
-  depth-case dp calls e f l =
-      let q = dp-is (k .case-in) b v h in
-      let c = calls-is calls f in
-      rw (q, ← e, ← c, le-ltb dp calls l)
+pub larger-depth : (dp calls : ℕ) → calls ≤ dp → dp ≡ larger dp calls
+unfolding larger
+larger-depth dp calls l = rw (le-ltb dp calls l)

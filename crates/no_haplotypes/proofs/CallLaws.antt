@@ -1,15 +1,13 @@
 -- One variant called: what its nine places fix of its answer, and the words that the counts over its pile make.
 -- Assumes nothing.
 use mathlib.Core.Path.{_≡_, refl, sym, ap, _∙_}
-use mathlib.Core.Bool.{Bool, true, false, cond, _||_}
+use mathlib.Core.Bool.{Bool, true, false, cond, _&&_, _||_}
 use mathlib.Core.List.{List, [], _∷_}
 use Prim.Native.Nat.{ℕ, zero, suc, _+_, _*_, _-_, _/_, _%_, _^_, _≤_, _<_}
-use native.Mathlib.Nat.{le-refl}
 use native.Mathlib.Omega.{arith}
-use borrow.Author.Tests.{lt-ltb, le-ltb, ltb-true}
-use lib.Dec.{eqb, ltb}
+use lib.Dec.{eqb}
 use lib.Ieee.{Float}
-use lib.IntN.{ℤ, pos, natAbs, _+ℤ_}
+use lib.IntN.{ℤ, pos, natAbs}
 use lib.ListN.{length, getD, drop, set}
 use lib.Seq.{getD-drop}
 use lib.Signed.{leZ, ltZ}
@@ -17,26 +15,29 @@ use Rattle.steps.specs.Logs.{steps, addExp}
 use Rattle.steps.specs.OneMinus.{lnOneMinusExp}
 use Rattle.steps.specs.Phred.{phredOf, capped}
 use Rattle.steps.proofs.AddExp.{add-size}
-use Rattle.steps.proofs.Signed.{by-test, zlin, le-true, false-lt}
+use Rattle.steps.proofs.Signed.{by-test, le-true, false-lt}
 use Rattle.variants_and_fragments.specs.declared.Sizes.{Sizes}
-use Rattle.variants_and_fragments.specs.Accepted.{CaseIn}
-use Rattle.variants_and_fragments.specs.Case.{Case, alleleCount, variantOf}
-use Rattle.variants_and_fragments.specs.Decode.{tabulate, decode}
-use Rattle.variants_and_fragments.specs.Layout.{alleleCountAt}
-use Rattle.pileup.specs.Piles.{keep}
-use Rattle.variants_and_fragments.specs.Pileup.{pileOf, ambiguousCount}
-use Rattle.variants_and_fragments.proofs.Decoded.{tabulate-at}
+use Rattle.variants_and_fragments.specs.Case.{All}
+use Rattle.variants_and_fragments.specs.Decode.{decode}
+use Rattle.variants_and_fragments.specs.Layout.{alleleCountAt, depthAt}
+use Rattle.variants_and_fragments.specs.Pileup.{Row, only, pileOf}
+use Rattle.variants_and_fragments.proofs.Alls.{all-imp}
+use Rattle.variants_and_fragments.proofs.Decoded.{strand-is, dp-is}
+use Rattle.pileup.specs.Packed.{rowAt}
 use Rattle.genotype_probs.specs.declared.posteriors.Genotype.{Genotype}
 use Rattle.genotype_probs.specs.declared.posteriors.GenotypePost.{GenotypePost}
 use Rattle.genotype_probs.specs.Places.{writtenFrom}
-use Rattle.genotype_probs.specs.Posteriors.{entryAt, postOf, postAt, firstMaximum, maxGenotype, atMostOne, maxGenotypePost, normalized, TableAt}
+use Rattle.genotype_probs.specs.Posteriors.{entryAt, postOf, postAt, maxGenotype, atMostOne, maxGenotypePost, TableAt}
 use Rattle.genotype_probs.proofs.AlleleLaws.{nine}
+use Rattle.genotype_probs.proofs.ListLaws.{table-length}
 use Rattle.genotype_probs.proofs.Maxima.{genotype-maximum}
 use Rattle.genotype_probs.proofs.TableSums.{tabulate-cong, place-in, pair-in}
 use Rattle.genotype_probs.proofs.SameTables.{post-same, genotype-same}
-use Rattle.no_haplotypes.specs.NoHaplotypes.{calledFrom, qualFrom, gqFrom, alleleCalls, strandCalls, depthAfter, answerFrom}
-use Rattle.no_haplotypes.specs.Tally.{countPlace, scoredFrom, PosteriorsMade, madeFrom, answerValues, VariantCalled}
-use Rattle.no_haplotypes.proofs.CountLaws.{pile-counted, place-count, forward-reverse}
+use Rattle.no_haplotypes.specs.declared.tally.Pile.{Pile}
+use Rattle.no_haplotypes.specs.NoHaplotypes.{rowStrand, calledFrom, qualFrom, gqFrom, alleleCalls, strandCalls, callsAt, depthAfter, answerFrom}
+use Rattle.no_haplotypes.specs.Tally.{pileRows, shownOn, scoredFrom, posteriorsFrom, PosteriorsMade}
+use Rattle.no_haplotypes.specs.Calling.{PileHeld, answerValues, larger, madeFrom, VariantCalled}
+use Rattle.no_haplotypes.proofs.CountLaws.{only-same, all-calls, forward-reverse, case-strands}
 
 -- ---- the genotype and the quality go by the k × k entries
 module _ (tab other : List ℤ) (k : ℕ) (low : 1 ≤ k) (same : (p : ℕ) → p < k * k → getD tab p (pos 0) ≡ getD other p (pos 0)) where
@@ -82,57 +83,50 @@ module _ (post : List ℤ) (at k : ℕ) (t : TableAt post at k) where
       let b = entry-small (p % k * k + p / k) (place-in (p % k) (p / k) k (q .1) (q .0)) in
       capped-size (2 ^ 41) (postAt false tab k p) (by-cond (false || eqb (p / k) (p % k)) _ _ (2 ^ 41) (omega arith) (omega (arith, add-size (entryAt tab k (p / k) (p % k)) (entryAt tab k (p % k) (p / k)) (2 ^ 40) a b)))
 
--- ---- the words
-zero-strand : (x : ℕ) → 3 * 0 + x ≡ x
-zero-strand x = omega arith
+-- ---- a pile that is held: its counts, its calls, and the words that they make
+module _ {w : List ℤ} {s : Sizes} {piles : List ℕ} {v : ℕ} {pile : Pile} (held : PileHeld w s piles v pile) (b : List ℕ) where
+  shown-alike : (strand x : ℕ) → All (λ row. shownOn w s strand x row ≡ (eqb (rowStrand (decode w b) row) strand && eqb (row .call .allele) x)) (pileOf (decode w b) v)
+  shown-alike strand x = all-imp (λ row i. rw (strand-is (held .case-in) b (row .fragment) (i .fragment-in))) (held .rows-in b)
 
-one-strand : (x : ℕ) → 3 * 1 + x ≡ 3 + x
-one-strand x = omega arith
-
-module _ {w : List ℤ} {s : Sizes} (b : List ℕ) (v : ℕ) (k : CaseIn w s) (counts : List ℕ) (c : (p : ℕ) → p < 6 → getD counts p 0 ≡ length (keep (countPlace (decode w b)) p (pileOf (decode w b) v))) where
-  strand-is : (strand x : ℕ) → x < 3 → 3 * strand + x < 6 → getD counts (3 * strand + x) 0 ≡ strandCalls (decode w b) v strand x
+  shown-same : (strand x : ℕ) → length (only (shownOn w s strand x) (pileRows piles pile)) ≡ strandCalls (decode w b) v strand x
   unfolding strandCalls
-  strand-is strand x h l = c (3 * strand + x) l ∙ place-count (decode w b) strand x h (pileOf (decode w b) v) (pile-counted w s b v k)
+  shown-same strand x = rw (held .rows-are b) (ap length (only-same (shown-alike strand x)))
 
-  sum-is : (x : ℕ) → x < 3 → getD counts x 0 + getD counts (3 + x) 0 ≡ alleleCalls (decode w b) v x
-  sum-is x h =
-      let f = ap (λ (i : ℕ). getD counts i 0) (zero-strand x) in
-      let r = ap (λ (i : ℕ). getD counts i 0) (one-strand x) in
-      omega (arith, f, r, strand-is 0 x h (omega arith), strand-is 1 x h (omega arith), forward-reverse w s b v k x)
+  calls-is : pile .end - pile .start + pile .ambiguous ≡ callsAt (decode w b) v
+  calls-is = omega (arith, table-length (rowAt piles) (pile .start) (pile .end - pile .start), ap length (held .rows-are b), held .ambiguous-is b, all-calls (decode w b) v)
 
-  pub words-are : (g : Genotype) (ambiguous depth : ℕ) → ambiguous ≡ ambiguousCount (decode w b) v → depth ≡ depthAfter (decode w b) v → (post : List ℤ) (n : ℕ) → g ≡ calledFrom post n .genotype → (p : ℕ) → pos (getD (answerValues g counts ambiguous depth) p 0) ≡ answerFrom post n (decode w b) v p
-  unfolding answerValues answerFrom
-  words-are g ambiguous depth e f post n q p =
-      let s0 : getD counts 0 0 + getD counts 3 0 ≡ alleleCalls (decode w b) v 0 = sum-is 0 (omega arith) in
-      let s1 : getD counts 1 0 + getD counts 4 0 ≡ alleleCalls (decode w b) v 1 = sum-is 1 (omega arith) in
-      let s2 : getD counts 2 0 + getD counts 5 0 ≡ alleleCalls (decode w b) v 2 = sum-is 2 (omega arith) in
-      let f0 : getD counts 0 0 ≡ strandCalls (decode w b) v 0 0 = strand-is 0 0 (omega arith) (omega arith) in
-      let f1 : getD counts 1 0 ≡ strandCalls (decode w b) v 0 1 = strand-is 0 1 (omega arith) (omega arith) in
-      let f2 : getD counts 2 0 ≡ strandCalls (decode w b) v 0 2 = strand-is 0 2 (omega arith) (omega arith) in
-      let r0 : getD counts 3 0 ≡ strandCalls (decode w b) v 1 0 = strand-is 1 0 (omega arith) (omega arith) in
-      let r1 : getD counts 4 0 ≡ strandCalls (decode w b) v 1 1 = strand-is 1 1 (omega arith) (omega arith) in
-      let r2 : getD counts 5 0 ≡ strandCalls (decode w b) v 1 2 = strand-is 1 2 (omega arith) (omega arith) in
-      cc (ap (λ (x : Genotype). x .0) q, ap (λ (x : Genotype). x .1) q)
+  pub depth-is : (depth : ℕ) → depth ≡ larger (depthAt w v) (pile .end - pile .start + pile .ambiguous) → depth ≡ depthAfter (decode w b) v
+  unfolding larger depthAfter
+  depth-is depth e = e ∙ rw (calls-is, dp-is (held .case-in) b v (held .variant-in))
 
--- ---- its nine places
-module _ {case : Case} {v k : ℕ} {before after : List ℤ} {counts : List ℕ} (made : PosteriorsMade case v k before after counts) (low : 1 ≤ k) (top : k ≤ 3) (room : 9 * v + 9 ≤ length after) where
-  pub made-table : TableAt after (9 * v) k
-  made-table = record { k-low = low; k-high = top; inside = room; small = λ p h. made .small p (omega (arith, nine k top)) }
+  module _ (counts : List ℕ) (c : (strand x : ℕ) → strand < 2 → x < 3 → getD counts (3 * strand + x) 0 ≡ length (only (shownOn w s strand x) (pileRows piles pile))) where
+    counted : (strand x : ℕ) → strand < 2 → x < 3 → getD counts (3 * strand + x) 0 ≡ strandCalls (decode w b) v strand x
+    counted strand x l h = c strand x l h ∙ shown-same strand x
 
-  pub made-same : (p : ℕ) → p < k * k → getD (drop (9 * v) after) p (pos 0) ≡ getD (tabulate 9 (normalized (tabulate 9 (scoredFrom (drop (9 * v) before) k (pileOf case v))) k)) p (pos 0)
-  made-same p h =
-      let l : p < 9 = omega (arith, nine k top) in
-      getD-drop (9 * v) after p (pos 0) ∙ made .here p l ∙ sym (tabulate-at 9 (normalized (tabulate 9 (scoredFrom (drop (9 * v) before) k (pileOf case v))) k) p (pos 0) l)
+    pub words-are : (g : Genotype) (depth : ℕ) → depth ≡ depthAfter (decode w b) v → (post : List ℤ) (n : ℕ) → g ≡ calledFrom post n .genotype → (p : ℕ) → pos (getD (answerValues g counts (pile .ambiguous) depth) p 0) ≡ answerFrom post n (decode w b) v p
+    unfolding answerValues answerFrom
+    words-are g depth f post n q p =
+        let sum = forward-reverse (decode w b) (case-strands (held .case-in) b) v in
+        let f0 : getD counts 0 0 ≡ strandCalls (decode w b) v 0 0 = counted 0 0 (omega arith) (omega arith) in
+        let f1 : getD counts 1 0 ≡ strandCalls (decode w b) v 0 1 = counted 0 1 (omega arith) (omega arith) in
+        let f2 : getD counts 2 0 ≡ strandCalls (decode w b) v 0 2 = counted 0 2 (omega arith) (omega arith) in
+        let r0 : getD counts 3 0 ≡ strandCalls (decode w b) v 1 0 = counted 1 0 (omega arith) (omega arith) in
+        let r1 : getD counts 4 0 ≡ strandCalls (decode w b) v 1 1 = counted 1 1 (omega arith) (omega arith) in
+        let r2 : getD counts 5 0 ≡ strandCalls (decode w b) v 1 2 = counted 1 2 (omega arith) (omega arith) in
+        cc (held .ambiguous-is b, sum 0, sum 1, sum 2, ap (λ (x : Genotype). x .0) q, ap (λ (x : Genotype). x .1) q)
 
--- the posteriors that are made go by the nine priors
-module _ (w priors other : List ℤ) (case : Case) (v : ℕ) (same : (p : ℕ) → p < 9 → getD priors (9 * v + p) (pos 0) ≡ getD other (9 * v + p) (pos 0)) where
-  scored-same : (p : ℕ) → p < 9 → scoredFrom (drop (9 * v) priors) (alleleCountAt w v) (pileOf case v) p ≡ scoredFrom (drop (9 * v) other) (alleleCountAt w v) (pileOf case v) p
+-- ---- the posteriors that are made go by the nine priors
+module _ (w priors other : List ℤ) (b : List ℕ) (v : ℕ) (same : (p : ℕ) → p < 9 → getD priors (9 * v + p) (pos 0) ≡ getD other (9 * v + p) (pos 0)) where
+  abbrev rows : List Row
+  rows = pileOf (decode w b) v
+
+  scored-same : (p : ℕ) → p < 9 → scoredFrom (drop (9 * v) priors) (alleleCountAt w v) rows p ≡ scoredFrom (drop (9 * v) other) (alleleCountAt w v) rows p
   unfolding scoredFrom
   scored-same p h = rw (getD-drop (9 * v) priors p (pos 0) ∙ same p h ∙ sym (getD-drop (9 * v) other p (pos 0)))
 
-  pub from-same : madeFrom w priors case v ≡ madeFrom w other case v
-  unfolding madeFrom
-  from-same = rw (tabulate-cong 9 (scoredFrom (drop (9 * v) priors) (alleleCountAt w v) (pileOf case v)) (scoredFrom (drop (9 * v) other) (alleleCountAt w v) (pileOf case v)) scored-same)
+  pub from-same : madeFrom w priors b v ≡ madeFrom w other b v
+  unfolding posteriorsFrom
+  from-same = rw (tabulate-cong 9 (scoredFrom (drop (9 * v) priors) (alleleCountAt w v) rows) (scoredFrom (drop (9 * v) other) (alleleCountAt w v) rows) scored-same)
 
 -- ---- one variant
 from-each : {X : Type 0} (g h : ℕ → X) (at n : ℕ) (l : List X) → ((p : ℕ) → g p ≡ h p) → writtenFrom g at n l ≡ writtenFrom h at n l
@@ -140,29 +134,33 @@ unfolding writtenFrom
 from-each g h at zero l e = refl
 from-each g h at (suc n) l e = rw (from-each g h at n l e, e n)
 
-module _ {w : List ℤ} {s : Sizes} (b : List ℕ) (v : ℕ) (k : CaseIn w s) (h : v < s .n) {post post' : List ℤ} {counts : List ℕ} (made : PosteriorsMade (decode w b) v (alleleCountAt w v) post post' counts) (room : 9 * v + 9 ≤ length post') where
-  low : 1 ≤ alleleCountAt w v
-  low = k .variants .each v h .k-low
+module _ {w : List ℤ} {s : Sizes} {piles : List ℕ} {v : ℕ} {pile : Pile} (held : PileHeld w s piles v pile) {post post' : List ℤ} {counts : List ℕ} (made : PosteriorsMade w s (pileRows piles pile) v post post' counts) (room : 9 * v + 9 ≤ length post') where
+  abbrev k : ℕ
+  k = alleleCountAt w v
 
-  top : alleleCountAt w v ≤ 3
-  top = k .variants .each v h .k-high
+  low : 1 ≤ k
+  low = held .case-in .variants .each v (held .variant-in) .k-low
 
-  same : (p : ℕ) → p < alleleCountAt w v * alleleCountAt w v → getD (drop (9 * v) post') p (pos 0) ≡ getD (madeFrom w post (decode w b) v) p (pos 0)
-  unfolding madeFrom
-  same = made-same made low top room
+  top : k ≤ 3
+  top = held .case-in .variants .each v (held .variant-in) .k-high
 
-  pub variant-called : (g : GenotypePost) (ambiguous depth : ℕ) (q x : Float) {variants variants' : List ℤ} {quals gqs : List Float} → g ≡ calledFrom (drop (9 * v) post') (alleleCountAt w v) → ambiguous ≡ ambiguousCount (decode w b) v → depth ≡ depthAfter (decode w b) v
-      → variants' ≡ writtenFrom (λ p. pos (getD (answerValues (g .genotype) counts ambiguous depth) p 0)) (13 * v) 13 variants
+  -- its nine places
+  pub made-table : TableAt post' (9 * v) k
+  made-table = record { k-low = low; k-high = top; inside = room; small = λ p h. made .small p (omega (arith, nine k top)) }
+
+  same : (b : List ℕ) (p : ℕ) → p < k * k → getD (drop (9 * v) post') p (pos 0) ≡ getD (madeFrom w post b v) p (pos 0)
+  same b p h = getD-drop (9 * v) post' p (pos 0) ∙ made .here p (omega (arith, nine k top)) ∙ rw (held .rows-are b)
+
+  pub variant-called : (g : GenotypePost) (depth : ℕ) (q x : Float) {variants variants' : List ℤ} {quals gqs : List Float} → g ≡ calledFrom (drop (9 * v) post') k → depth ≡ larger (depthAt w v) (pile .end - pile .start + pile .ambiguous)
+      → variants' ≡ writtenFrom (λ p. pos (getD (answerValues (g .genotype) counts (pile .ambiguous) depth) p 0)) (13 * v) 13 variants
       → q ≡ qualFrom (drop (9 * v) post') → x ≡ capped (phredOf (lnOneMinusExp (steps (g .post .0))))
-      → VariantCalled w (decode w b) v post variants quals gqs post' variants' (set quals v q) (set gqs v x)
+      → VariantCalled w v post variants quals gqs post' variants' (set quals v q) (set gqs v x)
   unfolding gqFrom
-  variant-called g ambiguous depth q x {variants} {variants'} {quals} {gqs} e a d f i j =
-      let m = madeFrom w post (decode w b) v in
-      let n = alleleCountAt w v in
-      let c : g ≡ calledFrom m n = e ∙ called-same (drop (9 * v) post') m n low same in
+  variant-called g depth q x {variants} {variants'} {quals} {gqs} e d f i j =
+      let c : (b : List ℕ) → g ≡ calledFrom (madeFrom w post b v) k = λ b. e ∙ called-same (drop (9 * v) post') (madeFrom w post b v) k low (same b) in
       record {
         past = made .past;
-        variants-are = f ∙ from-each (λ p. pos (getD (answerValues (g .genotype) counts ambiguous depth) p 0)) (answerFrom m n (decode w b) v) (13 * v) 13 variants (words-are b v k counts (made .counts-are) (g .genotype) ambiguous depth a d m n (ap (λ (r : GenotypePost). r .genotype) c));
-        quals-are = ap (set quals v) (i ∙ qual-same (drop (9 * v) post') m n low same);
-        gqs-are = ap (set gqs v) (j ∙ ap (λ (r : GenotypePost). capped (phredOf (lnOneMinusExp (steps (r .post .0))))) c);
+        variants-are = λ b. f ∙ from-each (λ p. pos (getD (answerValues (g .genotype) counts (pile .ambiguous) depth) p 0)) (answerFrom (madeFrom w post b v) k (decode w b) v) (13 * v) 13 variants (words-are held b counts (made .counts-are) (g .genotype) depth (depth-is held b depth d) (madeFrom w post b v) k (ap (λ (r : GenotypePost). r .genotype) (c b)));
+        quals-are = λ b. ap (set quals v) (i ∙ qual-same (drop (9 * v) post') (madeFrom w post b v) k low (same b));
+        gqs-are = λ b. ap (set gqs v) (j ∙ ap (λ (r : GenotypePost). capped (phredOf (lnOneMinusExp (steps (r .post .0))))) (c b));
       }

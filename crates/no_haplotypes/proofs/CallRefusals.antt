@@ -33,9 +33,24 @@ use Rattle.genotype_probs.proofs.AlleleLaws.{nine}
 use Rattle.no_haplotypes.specs.declared.Called.the-variants.{Done, Refused}
 use Rattle.genotype_probs.specs.Normalized.{firstNotNormal}
 use Rattle.no_haplotypes.specs.NoHaplotypes.{scoreAt, posteriors, calledOf, outcomeOf, CalledNoHaplotypes}
-use Rattle.no_haplotypes.specs.Tally.{FewCalls, AcceptedCalled}
+use Rattle.no_haplotypes.specs.Calling.{FewCalls, AcceptedCalled}
 use Rattle.no_haplotypes.proofs.Calling.{few-calls}
 use Rattle.genotype_probs.proofs.NormalizedLaws.{none-not-normal}
+
+-- what an accepted case gives
+module _ (w : List ℤ) (b : List ℕ) (s : Sizes) (accepted : check.outcomeOf (Accepted s) ≡ caseOf w b) where
+  is-done : caseOf w b ≡ done s
+  unfolding check.outcomeOf
+  is-done = sym accepted
+
+  pub accepted-case : CaseIn w s
+  accepted-case = case-in w b s is-done
+
+  pub accepted-bases : BasesIn w s b
+  accepted-bases = bases-in w b s is-done
+
+  pub accepted-few : FewCalls w
+  accepted-few = few-calls w b s is-done
 
 module _ (w : List ℤ) (b : List ℕ) (rates : Rates) (variants : List ℤ) (quals gqs : List Float) where
   -- what the operation is to answer
@@ -51,18 +66,8 @@ module _ (w : List ℤ) (b : List ℕ) (rates : Rates) (variants : List ℤ) (qu
   case-refused x e = refused-with x (rw (← e))
 
   module _ (s : Sizes) (accepted : check.outcomeOf (Accepted s) ≡ caseOf w b) where
-    is-done : caseOf w b ≡ done s
-    unfolding check.outcomeOf
-    is-done = sym accepted
-
-    pub accepted-case : CaseIn w s
-    accepted-case = case-in w b s is-done
-
-    pub accepted-bases : BasesIn w s b
-    accepted-bases = bases-in w b s is-done
-
-    pub accepted-few : FewCalls w
-    accepted-few = few-calls w b s is-done
+    abbrev case-of : CaseIn w s
+    case-of = accepted-case w b s accepted
 
     -- 12 is never given
     abbrev counted : ℕ → ℕ
@@ -72,15 +77,15 @@ module _ (w : List ℤ) (b : List ℕ) (rates : Rates) (variants : List ℤ) (qu
     unfolding posteriors
     normal =
         none-not-normal (posteriors (priorTable rates) (decode w b)) (λ v. tabulate 9 (scoreAt (priorTable rates) (decode w b) v)) counted (s .n)
-        (λ v h. omega (arith, allele-count-is accepted-case b v h, accepted-case .variants .each v h .k-low))
+        (λ v h. omega (arith, allele-count-is case-of b v h, case-of .variants .each v h .k-low))
         (λ v h p l. tabulate-at 9 (normalized (tabulate 9 (scoreAt (priorTable rates) (decode w b) v)) (counted v)) p (pos 0)
-        (omega (arith, nine (counted v) (omega (arith, allele-count-is accepted-case b v h, accepted-case .variants .each v h .k-high)))))
+        (omega (arith, nine (counted v) (omega (arith, allele-count-is case-of b v h, case-of .variants .each v h .k-high)))))
 
     past-case : answers ≡ unless (eqb (ratesFault rates) 7) 6 (ratesFault rates) (unless (leb (s .n) (length quals) && leb (s .n) (length gqs)) 10 (s .n) (unless (leb (13 * (s .n)) (length variants)) 10 (13 * (s .n)) (done tt)))
     unfolding calledOf andThen
     past-case =
         let z : _≡_ {A = Outcome Unit} (done tt) (stop 12 (firstNotNormal (posteriors (priorTable rates) (decode w b)) counted (s .n)) (s .n) (done tt)) = stop-on 12 (firstNotNormal (posteriors (priorTable rates) (decode w b)) counted (s .n)) (s .n) (done tt) (omega (arith, normal)) in
-        rw (is-done, ← z)
+        rw (is-done w b s accepted, ← z)
 
     pub rates-refused : (p : ℕ) → p ≡ ratesFault rates → p < 7 → CalledNoHaplotypes w b rates variants quals gqs (Refused (BadRates p)) variants quals gqs
     unfolding outcomeOf unless
@@ -111,7 +116,7 @@ module _ (w : List ℤ) (b : List ℕ) (rates : Rates) (variants : List ℤ) (qu
         pub all-called : 13 * (s .n) ≤ length variants → {variants' : List ℤ} {quals' gqs' : List Float} → AcceptedCalled w b rates (s .n) variants quals gqs variants' quals' gqs' → CalledNoHaplotypes w b rates variants quals gqs Done variants' quals' gqs'
         unfolding outcomeOf unless afterwards
         all-called h c =
-            let n = variants-are accepted-case b in
+            let n = variants-are case-of b in
             record {
               answer = rw (past-quals, le-leb (13 * (s .n)) (length variants) h);
               variants-after = rw n (c .variants-are);

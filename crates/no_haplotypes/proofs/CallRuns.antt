@@ -15,7 +15,8 @@ use Rattle.variants_and_fragments.proofs.Written.{written-on, written-length}
 use Rattle.genotype_probs.specs.Places.{writtenFrom}
 use Rattle.genotype_probs.proofs.Places.{from-after}
 use Rattle.no_haplotypes.specs.NoHaplotypes.{answerFrom, qualFrom, gqFrom}
-use Rattle.no_haplotypes.specs.Tally.{PriorsAt, PriorsIn, madeFrom, VariantCalled, VariantsCalled}
+use Rattle.no_haplotypes.specs.Tally.{PriorsAt}
+use Rattle.no_haplotypes.specs.Calling.{PriorsIn, madeFrom, VariantCalled, VariantsCalled}
 use Rattle.no_haplotypes.proofs.CallLaws.{from-same}
 
 -- the variants before v are called
@@ -23,7 +24,7 @@ pub record CallingTo (w : List ℤ) (s : Sizes) (post₀ variants₀ : List ℤ)
   pub inside : v ≤ s .n
   pub long : length post ≡ length post₀
   pub rest : (e : ℕ) → 9 * v ≤ e → getD post e (pos 0) ≡ getD post₀ e (pos 0)
-  pub called : (b : List ℕ) → VariantsCalled w (decode w b) v post₀ variants₀ quals₀ gqs₀ variants quals gqs
+  pub called : VariantsCalled w v post₀ variants₀ quals₀ gqs₀ variants quals gqs
 
 pub calling-start : {w : List ℤ} {s : Sizes} {post variants : List ℤ} {quals gqs : List Float} → CallingTo w s post variants quals gqs 0 post variants quals gqs
 unfolding written
@@ -31,19 +32,19 @@ calling-start = record {
   inside = omega arith;
   long = refl;
   rest = λ e h. refl;
-  called = λ b. record { variants-are = refl; quals-are = refl; gqs-are = refl };
+  called = record { variants-are = λ b. refl; quals-are = λ b. refl; gqs-are = λ b. refl };
 }
 
 module _ {w : List ℤ} {s : Sizes} {post₀ variants₀ : List ℤ} {quals₀ gqs₀ : List Float} {v : ℕ} {post variants : List ℤ} {quals gqs : List Float} (c : CallingTo w s post₀ variants₀ quals₀ gqs₀ v post variants quals gqs) where
   -- the lent slices are as long as they were
   pub variants-long : length variants ≡ length variants₀
-  variants-long = ap length (c .called [] .variants-are) ∙ written-length _ (13 * v) variants₀
+  variants-long = ap length (c .called .variants-are []) ∙ written-length _ (13 * v) variants₀
 
   pub quals-long : length quals ≡ length quals₀
-  quals-long = ap length (c .called [] .quals-are) ∙ written-length _ v quals₀
+  quals-long = ap length (c .called .quals-are []) ∙ written-length _ v quals₀
 
   pub gqs-long : length gqs ≡ length gqs₀
-  gqs-long = ap length (c .called [] .gqs-are) ∙ written-length _ v gqs₀
+  gqs-long = ap length (c .called .gqs-are []) ∙ written-length _ v gqs₀
 
   pub priors-at : PriorsIn post₀ (s .n) → v < s .n → PriorsAt post (9 * v)
   priors-at p h = record {
@@ -51,26 +52,26 @@ module _ {w : List ℤ} {s : Sizes} {post₀ variants₀ : List ℤ} {quals₀ g
     small = λ q l. omega (arith, ap natAbs (c .rest (9 * v + q) (omega arith)), p .small (9 * v + q) (omega arith));
   }
 
-  pub calling-on : {post' variants' : List ℤ} {quals' gqs' : List Float} → v < s .n → length post' ≡ length post → ((b : List ℕ) → VariantCalled w (decode w b) v post variants quals gqs post' variants' quals' gqs') → CallingTo w s post₀ variants₀ quals₀ gqs₀ (v + 1) post' variants' quals' gqs'
-  calling-on {post'} {variants'} {quals'} {gqs'} h l f = record {
-    inside = omega arith;
-    long = l ∙ c .long;
-    rest = λ e m. f [] .past e (omega arith) ∙ c .rest e (omega arith);
-    called = λ b.
-        let case = decode w b in
-        let same = from-same w post post₀ case v (λ p m. c .rest (9 * v + p) (omega arith)) in
-        let g : ℕ → ℤ = λ e. answerFrom (madeFrom w post₀ case (e / 13)) (alleleCountAt w (e / 13)) case (e / 13) (e % 13) in
-        let z : 13 * v + 13 ≡ 13 * (v + 1) = omega arith in
-        record {
-          variants-are =
-              f b .variants-are
-              ∙ ap (writtenFrom (answerFrom (madeFrom w post case v) (alleleCountAt w v) case v) (13 * v) 13) (c .called b .variants-are)
-              ∙ from-after g (answerFrom (madeFrom w post case v) (alleleCountAt w v) case v) (13 * v) 13 variants₀ (λ p m. let q : (13 * v + p) / 13 ≡ v = omega arith in let r : (13 * v + p) % 13 ≡ p = omega arith in rw (q, r, same))
+  pub calling-on : {post' variants' : List ℤ} {quals' gqs' : List Float} → v < s .n → length post' ≡ length post → VariantCalled w v post variants quals gqs post' variants' quals' gqs' → CallingTo w s post₀ variants₀ quals₀ gqs₀ (v + 1) post' variants' quals' gqs'
+  calling-on h l f =
+      let n = alleleCountAt w v in
+      let same : (b : List ℕ) → madeFrom w post b v ≡ madeFrom w post₀ b v = λ b. from-same w post post₀ b v (λ p m. c .rest (9 * v + p) (omega arith)) in
+      let z : 13 * v + 13 ≡ 13 * (v + 1) = omega arith in
+      record {
+        inside = omega arith;
+        long = l ∙ c .long;
+        rest = λ e m. f .past e (omega arith) ∙ c .rest e (omega arith);
+        called = record {
+          variants-are = λ b.
+              let g : ℕ → ℤ = λ e. answerFrom (madeFrom w post₀ b (e / 13)) (alleleCountAt w (e / 13)) (decode w b) (e / 13) (e % 13) in
+              f .variants-are b
+              ∙ ap (writtenFrom (answerFrom (madeFrom w post b v) n (decode w b) v) (13 * v) 13) (c .called .variants-are b)
+              ∙ from-after g (answerFrom (madeFrom w post b v) n (decode w b) v) (13 * v) 13 variants₀ (λ p m. let q : (13 * v + p) / 13 ≡ v = omega arith in let r : (13 * v + p) % 13 ≡ p = omega arith in rw (q, r, same b))
               ∙ ap (λ (k : ℕ). written g k variants₀) z;
-          quals-are = f b .quals-are ∙ written-on (λ u. qualFrom (madeFrom w post₀ case u)) v quals₀ quals (qualFrom (madeFrom w post case v)) (c .called b .quals-are) (ap qualFrom same);
-          gqs-are = f b .gqs-are ∙ written-on (λ u. gqFrom (madeFrom w post₀ case u) (alleleCountAt w u)) v gqs₀ gqs (gqFrom (madeFrom w post case v) (alleleCountAt w v)) (c .called b .gqs-are) (ap (λ (m : List ℤ). gqFrom m (alleleCountAt w v)) same);
+          quals-are = λ b. f .quals-are b ∙ written-on (λ u. qualFrom (madeFrom w post₀ b u)) v quals₀ quals (qualFrom (madeFrom w post b v)) (c .called .quals-are b) (ap qualFrom (same b));
+          gqs-are = λ b. f .gqs-are b ∙ written-on (λ u. gqFrom (madeFrom w post₀ b u) (alleleCountAt w u)) v gqs₀ gqs (gqFrom (madeFrom w post b v) n) (c .called .gqs-are b) (ap (λ (m : List ℤ). gqFrom m n) (same b));
         };
-  }
+      }
 
-  pub calling-end : s .n ≤ v → (b : List ℕ) → VariantsCalled w (decode w b) (s .n) post₀ variants₀ quals₀ gqs₀ variants quals gqs
-  calling-end h b = let i = c .inside in let e : v ≡ s .n = omega arith in rw e at (c .called b)
+  pub calling-end : s .n ≤ v → VariantsCalled w (s .n) post₀ variants₀ quals₀ gqs₀ variants quals gqs
+  calling-end h = let i = c .inside in let e : v ≡ s .n = omega arith in rw e at (c .called)

@@ -1,52 +1,47 @@
--- Calling an accepted case: its piles and counts, its priors, and that what is made from them are the posteriors of the definition.
+-- Calling an accepted case: its piles, its priors, and that what is made from them are the posteriors of the definition.
 -- Assumes nothing.
 use mathlib.Core.Path.{_≡_, refl, sym, ap, _∙_}
-use mathlib.Core.Bool.{Bool, true, false, cond}
-use mathlib.Core.List.{List, [], _∷_}
-use Prim.Native.Nat.{ℕ, zero, suc, _+_, _*_, _-_, _/_, _%_, _^_, _≤_, _<_}
+use mathlib.Core.List.{List, []}
+use Prim.Native.Nat.{ℕ, zero, suc, _+_, _*_, _/_, _%_, _^_, _≤_, _<_}
 use native.Mathlib.Omega.{arith}
-use borrow.Author.Tests.{ltb-true}
 use lib.Dec.{eqb, ltb}
 use lib.Ieee.{Float}
-use lib.IntN.{ℤ, pos, natAbs, _+ℤ_}
+use lib.IntN.{ℤ, pos, natAbs}
 use lib.ListN.{length, getD, drop}
 use lib.Seq.{getD-drop}
 use Rattle.steps.proofs.Signed.{by-test}
 use Rattle.variants_and_fragments.specs.declared.Sizes.{Sizes}
 use Rattle.variants_and_fragments.specs.Accepted.{CaseIn}
-use Rattle.variants_and_fragments.specs.Case.{Case, Call, Fragment, alleleCount, variantOf, callCount}
+use Rattle.variants_and_fragments.specs.Case.{Case, Variant, Call, alleleCount, variantOf, callCount}
 use Rattle.variants_and_fragments.specs.Check.{caseOf}
-use Rattle.variants_and_fragments.specs.Decode.{tabulate, decode}
+use Rattle.variants_and_fragments.specs.Decode.{decode}
 use Rattle.variants_and_fragments.specs.Layout.{alleleCountAt}
-use Rattle.pileup.specs.Piles.{pileStart, CallsPiled}
-use Rattle.variants_and_fragments.specs.Pileup.{only, pileOf, ambiguousCount}
+use Rattle.variants_and_fragments.specs.Pileup.{only, pileOf}
 use Rattle.variants_and_fragments.specs.Refusals.{done}
-use Rattle.pileup.specs.Rows.{RowSlices}
-use Rattle.variants_and_fragments.specs.Sums.{sumOver, countOver}
 use Rattle.variants_and_fragments.specs.Written.{written}
-use Rattle.variants_and_fragments.proofs.Decoded.{variants-are, allele-count-is, tabulate-at}
+use Rattle.variants_and_fragments.proofs.Decoded.{allele-count-is}
 use Rattle.variants_and_fragments.proofs.GoodCases.{good-case}
 use Rattle.variants_and_fragments.proofs.Sums.{count-le}
+use Rattle.variants_and_fragments.proofs.Usable.{only-length}
 use Rattle.variants_and_fragments.proofs.Written.{written-at, written-length}
+use Rattle.pileup.specs.Packed.{Grouped}
+use Rattle.pileup.proofs.Groups.{group-rows, group-in}
 use Rattle.genotype_probs.specs.declared.Rates.{Rates}
-use Rattle.genotype_probs.specs.Places.{TableIn}
-use Rattle.genotype_probs.specs.Posteriors.{normalized}
 use Rattle.genotype_probs.specs.Priors.{priorTable, getPrior, allPriors, priorAt}
 use Rattle.genotype_probs.specs.Rates.{ratesFault}
-use Rattle.genotype_probs.proofs.AlleleLaws.{nine}
+use Rattle.genotype_probs.proofs.PriorSizes.{prior-small}
+use Rattle.genotype_probs.proofs.TableSizes.{by-cond}
 use Rattle.genotype_probs.proofs.TableSums.{tabulate-cong}
-use Rattle.genotype_probs.proofs.AcceptedPriors.{table-in}
-use Rattle.no_haplotypes.specs.NoHaplotypes.{callScore, pairScore, scoreAt, posteriors, callsAt, answerFrom, qualFrom, gqFrom, variantAnswer, answerAt, qualAt, gqAt}
-use Rattle.no_haplotypes.specs.Tally.{Piled, scoredFrom, madeFrom, CallsCounted, PriorsIn, VariantsCalled, Scratch, FewCalls, AcceptedCalled}
-use Rattle.no_haplotypes.proofs.CountLaws.{only-few, all-calls}
-use Rattle.no_haplotypes.proofs.ScoreLaws.{prior-small}
-use Rattle.no_haplotypes.proofs.TallyLaws.{starts-low, ends-few, pile-length}
+use Rattle.no_haplotypes.specs.NoHaplotypes.{pairScore, scoreAt, posteriors, callsAt, variantAnswer, answerAt, qualAt, gqAt}
+use Rattle.no_haplotypes.specs.Tally.{scoredFrom, posteriorsFrom}
+use Rattle.no_haplotypes.specs.Calling.{FewCalls, Piled, pileAt, PileHeld, madeFrom, PriorsIn, VariantsCalled, AcceptedCalled}
+use Rattle.no_haplotypes.proofs.CountLaws.{all-calls}
 
 -- ---- how many calls
 calls-of : (case : Case) (v : ℕ) → callsAt case v ≤ callCount case
 unfolding callsAt
 calls-of case v =
-    count-le (case .fragments) (λ fragment. length (only (λ (call : Call). eqb (call .variant) v) (fragment .calls))) (λ fragment. length (fragment .calls)) (λ fragment. only-few (λ (call : Call). eqb (call .variant) v) (fragment .calls))
+    count-le (case .fragments) (λ fragment. length (only (λ (call : Call). eqb (call .variant) v) (fragment .calls))) (λ fragment. length (fragment .calls)) (λ fragment. only-length (λ (call : Call). eqb (call .variant) v) (fragment .calls))
 
 -- the calls do not go by the bases
 same-calls : (w : List ℤ) (b other : List ℕ) (v : ℕ) → callsAt (decode w b) v ≡ callsAt (decode w other) v
@@ -56,44 +51,33 @@ same-calls w b other v = refl
 pub few-calls : (w : List ℤ) (b : List ℕ) (s : Sizes) → caseOf w b ≡ done s → FewCalls w
 few-calls w b s h other v = omega (arith, same-calls w other b v, calls-of (decode w b) v, good-case w b s h .calls-top)
 
--- ---- the piles
-module _ {w : List ℤ} {s : Sizes} (k : CaseIn w s) {slices : RowSlices} {row-ends ambiguous : List ℕ} {count : ℕ} {ends who : List ℕ} {quals one-minus-quals : List ℤ} (c : CallsPiled w s slices row-ends ambiguous count ends who quals one-minus-quals) (room : Scratch ambiguous ends who quals one-minus-quals) where
-  pub piled : Piled w s ends who quals one-minus-quals
-  piled = record {
-    case-in = k;
-    room = record {
-      ends-long = omega (arith, room .ends-long, k .sized .n-top);
-      who-long = omega (arith, room .who-long, k .sized .c-top);
-      quals-long = omega (arith, room .quals-long, k .sized .c-top);
-      one-minus-quals-long = omega (arith, room .one-minus-quals-long, k .sized .c-top);
-    };
-    few = λ b. omega (arith, c .rows .held b .count-is, c .rows .count-in);
-    held = c .piles;
-  }
+-- ---- the pile of a variant
+module _ {w : List ℤ} {s : Sizes} {ambiguous ends piles : List ℕ} (p : Piled w s ambiguous ends piles) (v : ℕ) (h : v < s .n) where
+  abbrev grouped : (b : List ℕ) → Grouped (s .n) (s .f) (s .n) (pileOf (decode w b)) ends piles
+  grouped = p .piles-made .grouped
 
-  ambiguous-is : (b : List ℕ) (v : ℕ) → v < s .n → getD ambiguous v 0 ≡ ambiguousCount (decode w b) v
-  ambiguous-is b v h = c .rows .held b .ambiguous-are v (omega (arith, variants-are k b))
-
-  calls-is : (b : List ℕ) (v : ℕ) → v < s .n → getD ends v 0 + getD ambiguous v 0 ≡ pileStart ends v + callsAt (decode w b) v
-  calls-is b v h = omega (arith, pile-length piled v h b, ambiguous-is b v h, all-calls (decode w b) v)
-
-  pub calls-counted : FewCalls w → CallsCounted w s ambiguous ends
-  calls-counted few = record {
-    case-in = k;
-    ambiguous-long = omega (arith, room .ambiguous-long, k .sized .n-top);
-    ends-long = omega (arith, room .ends-long, k .sized .n-top);
-    ambiguous-are = ambiguous-is;
-    starts-in = starts-low piled;
-    calls-are = calls-is;
-    ambiguous-few = λ v h. omega (arith, ambiguous-is [] v h, all-calls (decode w []) v, few [] v);
-    ends-few = ends-few piled;
-  }
+  pub pile-held : PileHeld w s piles v (pileAt ambiguous ends v)
+  pile-held =
+      let z = p .case-in .sized in
+      record {
+        case-in = p .case-in;
+        variant-in = h;
+        pile-in = record { rises = grouped [] .rises v h; rows-in = group-in (grouped []) (z .n-top) (z .f-top) v h };
+        rows-are = λ b. group-rows (grouped b) (z .n-top) (z .f-top) v h;
+        rows-in = λ b. grouped b .rows-in v h;
+        ambiguous-is = λ b. p .ambiguous-are b v h;
+        ambiguous-few = omega (arith, p .ambiguous-are [] v h, all-calls (decode w []) v, p .few [] v);
+      }
 
 -- ---- the priors
 written-same : {X : Type 0} (g h : ℕ → X) (n : ℕ) (l : List X) → ((i : ℕ) → i < n → g i ≡ h i) → written g n l ≡ written h n l
 unfolding written
 written-same g h zero l f = refl
 written-same g h (suc n) l f = rw (written-same g h n l (λ i m. f i (omega arith)), f n (omega arith))
+
+all-small : (rates : Rates) → ratesFault rates ≡ 7 → (variant : Variant) (p : ℕ) → natAbs (allPriors (priorTable rates) variant p) ≤ 2 ^ 21
+unfolding allPriors
+all-small rates e variant p = let k = alleleCount variant in by-cond (ltb p (k * k)) _ (λ _. prior-small rates e variant (p / k) (p % k))
 
 module _ {w : List ℤ} {s : Sizes} (b : List ℕ) (rates : Rates) (before post : List ℤ) (k : CaseIn w s) (accepted : ratesFault rates ≡ 7) (long : length before ≡ 9216) (e : post ≡ written (priorAt (priorTable rates) (decode w b)) (9 * (s .n)) before) where
   prior-here : (i : ℕ) → i < 9 * (s .n) → getD post i (pos 0) ≡ priorAt (priorTable rates) (decode w b) i
@@ -103,7 +87,7 @@ module _ {w : List ℤ} {s : Sizes} (b : List ℕ) (rates : Rates) (before post 
   unfolding priorAt
   priors-in = record {
     room = omega (arith, ap length e, written-length (priorAt (priorTable rates) (decode w b)) (9 * (s .n)) before, k .sized .n-top);
-    small = λ i h. omega (arith, ap natAbs (prior-here i h), prior-small (priorTable rates) (table-in rates accepted) (variantOf (decode w b) (i / 9)) (i % 9));
+    small = λ i h. omega (arith, ap natAbs (prior-here i h), all-small rates accepted (variantOf (decode w b) (i / 9)) (i % 9));
   }
 
   -- what is made from them
@@ -126,16 +110,16 @@ module _ {w : List ℤ} {s : Sizes} (b : List ℕ) (rates : Rates) (before post 
         (λ t. let d = rw t at (prior-of p l) in rw (count-here, t, d))
         (λ t. rw (count-here, t))
 
-    pub made-is : madeFrom w post (decode w b) v ≡ posteriors (priorTable rates) (decode w b) v
-    unfolding madeFrom posteriors
+    pub made-is : madeFrom w post b v ≡ posteriors (priorTable rates) (decode w b) v
+    unfolding posteriorsFrom posteriors
     made-is = rw (tabulate-cong 9 (scoredFrom (drop (9 * v) post) (alleleCountAt w v) (pileOf (decode w b) v)) (scoreAt (priorTable rates) (decode w b) v) score-is, count-here)
 
   -- and so the answers
-  pub accepted-called : {variants variants' : List ℤ} {quals gqs quals' gqs' : List Float} → VariantsCalled w (decode w b) (s .n) post variants quals gqs variants' quals' gqs' → AcceptedCalled w b rates (s .n) variants quals gqs variants' quals' gqs'
+  pub accepted-called : {variants variants' : List ℤ} {quals gqs quals' gqs' : List Float} → VariantsCalled w (s .n) post variants quals gqs variants' quals' gqs' → AcceptedCalled w b rates (s .n) variants quals gqs variants' quals' gqs'
   unfolding answerAt variantAnswer qualAt gqAt
   accepted-called {variants} {variants'} {quals} {gqs} c =
       record {
-        variants-are = c .variants-are ∙ written-same _ (answerAt (priorTable rates) (decode w b)) (13 * (s .n)) variants (λ i m. let h : i / 13 < s .n = omega arith in rw (made-is (i / 13) h, count-here (i / 13) h));
-        quals-are = c .quals-are ∙ written-same _ (qualAt (priorTable rates) (decode w b)) (s .n) quals (λ v m. rw (made-is v m));
-        gqs-are = c .gqs-are ∙ written-same _ (gqAt (priorTable rates) (decode w b)) (s .n) gqs (λ v m. rw (made-is v m, count-here v m));
+        variants-are = c .variants-are b ∙ written-same _ (answerAt (priorTable rates) (decode w b)) (13 * (s .n)) variants (λ i m. let h : i / 13 < s .n = omega arith in rw (made-is (i / 13) h, count-here (i / 13) h));
+        quals-are = c .quals-are b ∙ written-same _ (qualAt (priorTable rates) (decode w b)) (s .n) quals (λ v m. rw (made-is v m));
+        gqs-are = c .gqs-are b ∙ written-same _ (gqAt (priorTable rates) (decode w b)) (s .n) gqs (λ v m. rw (made-is v m, count-here v m));
       }

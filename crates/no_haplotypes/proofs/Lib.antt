@@ -1,5 +1,5 @@
-pub mod TallyLaws
 pub mod CountLaws
+pub mod TallyLaws
 pub mod ScoreLaws
 pub mod PosteriorLaws
 pub mod AnswerLaws

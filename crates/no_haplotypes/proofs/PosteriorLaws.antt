@@ -11,9 +11,10 @@ use lib.IntN.{ℤ, pos, natAbs, _+ℤ_, _-ℤ_}
 use lib.ListN.{length, getD, drop}
 use lib.Seq.{getD-drop}
 use Rattle.steps.proofs.Signed.{by-test, add-abs}
-use Rattle.variants_and_fragments.specs.Case.{Case}
+use Rattle.variants_and_fragments.specs.declared.Sizes.{Sizes}
 use Rattle.variants_and_fragments.specs.Decode.{tabulate}
-use Rattle.variants_and_fragments.specs.Pileup.{pileOf}
+use Rattle.variants_and_fragments.specs.Layout.{alleleCountAt}
+use Rattle.variants_and_fragments.specs.Pileup.{Row}
 use Rattle.variants_and_fragments.proofs.Decoded.{tabulate-at}
 use Rattle.genotype_probs.specs.Places.{writtenFrom}
 use Rattle.genotype_probs.specs.Posteriors.{sumOf, entryAt, rowSum, tableSum, normalized, TableAt}
@@ -21,7 +22,7 @@ use Rattle.genotype_probs.proofs.AlleleLaws.{nine}
 use Rattle.genotype_probs.proofs.Places.{from-length, from-past, from-at}
 use Rattle.genotype_probs.proofs.TableSums.{tabulate-cong, place-in, pair-in}
 use Rattle.genotype_probs.proofs.TableSizes.{normal-size}
-use Rattle.no_haplotypes.specs.Tally.{Tallied, GainsIn, pairGain, gained, PriorsAt, scoredFrom, PosteriorsMade}
+use Rattle.no_haplotypes.specs.Tally.{CountsIn, Tallied, SumsIn, pairGain, gained, PriorsAt, scoredFrom, posteriorsFrom, PosteriorsMade}
 use Rattle.no_haplotypes.proofs.ScoreLaws.{pair-is}
 
 -- ---- a normalised table goes by its k × k entries
@@ -43,11 +44,11 @@ pair-small : (t : Bool) (a b c d : ℤ) → natAbs a ≤ 2 ^ 34 → natAbs b ≤
 pair-small true a b c d h i j k = omega (arith, add-abs a b)
 pair-small false a b c d h i j k = omega (arith, add-abs (a +ℤ c) d, add-abs a c)
 
-module _ {before mid : List ℤ} {at k : ℕ} {total : ℤ} {both one : List ℤ} (low : 1 ≤ k) (top : k ≤ 3) (priors : PriorsAt before at) (gains : GainsIn total both one) (e : mid ≡ writtenFrom (gained (drop at before) k total both one) at 9 before) where
-  mid-at : (p : ℕ) → p < 9 → getD mid (at + p) (pos 0) ≡ gained (drop at before) k total both one p
-  mid-at p h = ap (λ (l : List ℤ). getD l (at + p) (pos 0)) e ∙ from-at (gained (drop at before) k total both one) at 9 before p (pos 0) (priors .room) h
+module _ {before mid : List ℤ} {at k : ℕ} {total : ℤ} {gains : List ℤ} (low : 1 ≤ k) (top : k ≤ 3) (priors : PriorsAt before at) (sums : SumsIn total gains) (e : mid ≡ writtenFrom (gained (drop at before) k total gains) at 9 before) where
+  mid-at : (p : ℕ) → p < 9 → getD mid (at + p) (pos 0) ≡ gained (drop at before) k total gains p
+  mid-at p h = ap (λ (l : List ℤ). getD l (at + p) (pos 0)) e ∙ from-at (gained (drop at before) k total gains) at 9 before p (pos 0) (priors .room) h
 
-  score-small : (p : ℕ) → p < k * k → natAbs (gained (drop at before) k total both one p) ≤ 2 ^ 36
+  score-small : (p : ℕ) → p < k * k → natAbs (gained (drop at before) k total gains p) ≤ 2 ^ 36
   unfolding gained pairGain
   score-small p h =
       let q = pair-in k p low h in
@@ -55,14 +56,14 @@ module _ {before mid : List ℤ} {at k : ℕ} {total : ℤ} {both one : List ℤ
       let j : p % k < 3 = omega (arith, q .1) in
       let d = getD-drop at before p (pos 0) in
       let m = priors .small p (omega (arith, nine k top)) in
-      let g = pair-small (eqb (p / k) (p % k)) total (getD both (p / k) (pos 0)) (getD one (p / k) (pos 0)) (getD one (p % k) (pos 0)) (gains .total-small) (gains .both-small (p / k) i) (gains .one-small (p / k) i) (gains .one-small (p % k) j) in
-      rw (lt-ltb p (k * k) h) (omega (arith, add-abs (getD (drop at before) p (pos 0)) (pairGain total both one (p / k) (p % k)), ap natAbs d))
+      let g = pair-small (eqb (p / k) (p % k)) total (getD gains (p / k) (pos 0)) (getD gains (3 + p / k) (pos 0)) (getD gains (3 + p % k) (pos 0)) (sums .total-small) (sums .gains-in .small (p / k) (omega arith)) (sums .gains-in .small (3 + p / k) (omega arith)) (sums .gains-in .small (3 + p % k) (omega arith)) in
+      rw (lt-ltb p (k * k) h) (omega (arith, add-abs (getD (drop at before) p (pos 0)) (pairGain total gains (p / k) (p % k)), ap natAbs d))
 
   pub scored-table : TableAt mid at k
   scored-table = record {
     k-low = low;
     k-high = top;
-    inside = omega (arith, ap length e, from-length (gained (drop at before) k total both one) at 9 before, priors .room);
+    inside = omega (arith, ap length e, from-length (gained (drop at before) k total gains) at 9 before, priors .room);
     small = λ p h. omega (arith, ap natAbs (mid-at p (omega (arith, nine k top))), score-small p h);
   }
 
@@ -81,27 +82,31 @@ module _ {before mid : List ℤ} {at k : ℕ} {total : ℤ} {both one : List ℤ
     after-past x h =
         let z : at + (x - at) ≡ x = omega arith in
         let g = ap (λ (l : List ℤ). getD l (at + (x - at)) (pos 0)) f ∙ from-past (normalized (drop at mid) k) at 9 mid (x - at) (pos 0) (omega arith) in
-        let i = ap (λ (l : List ℤ). getD l (at + (x - at)) (pos 0)) e ∙ from-past (gained (drop at before) k total both one) at 9 before (x - at) (pos 0) (omega arith) in
+        let i = ap (λ (l : List ℤ). getD l (at + (x - at)) (pos 0)) e ∙ from-past (gained (drop at before) k total gains) at 9 before (x - at) (pos 0) (omega arith) in
         rw z at (g ∙ i)
 
-    module _ {case : Case} {v : ℕ} {counts : List ℕ} (t : Tallied case v total both one counts) where
-      scored-is : (p : ℕ) → gained (drop at before) k total both one p ≡ scoredFrom (drop at before) k (pileOf case v) p
+    module _ {w : List ℤ} {s : Sizes} {rows : List Row} {counts : List ℕ} (t : Tallied w s rows total gains counts) where
+      scored-is : (p : ℕ) → gained (drop at before) k total gains p ≡ scoredFrom (drop at before) k rows p
       unfolding gained scoredFrom
       scored-is p =
           by-test (ltb p (k * k))
           (λ u. let q = pair-in k p low (ltb-true p (k * k) u) in rw u (ap (λ (z : ℤ). getD (drop at before) p (pos 0) +ℤ z) (pair-is t (p / k) (p % k) (omega (arith, q .0)) (omega (arith, q .1)))))
           (λ u. rw u)
 
-      after-is : (p : ℕ) → p < 9 → getD after (at + p) (pos 0) ≡ normalized (tabulate 9 (scoredFrom (drop at before) k (pileOf case v))) k p
+      after-is : (p : ℕ) → p < 9 → getD after (at + p) (pos 0) ≡ getD (posteriorsFrom (drop at before) k rows) p (pos 0)
+      unfolding posteriorsFrom
       after-is p h =
+          let scores = tabulate 9 (scoredFrom (drop at before) k rows) in
           after-at p h
-          ∙ normal-same (drop at mid) (tabulate 9 (scoredFrom (drop at before) k (pileOf case v))) k
-          (λ q l. let m : q < 9 = omega (arith, nine k top) in getD-drop at mid q (pos 0) ∙ mid-at q m ∙ scored-is q ∙ sym (tabulate-at 9 (scoredFrom (drop at before) k (pileOf case v)) q (pos 0) m)) p
+          ∙ normal-same (drop at mid) scores k
+          (λ q l. let m : q < 9 = omega (arith, nine k top) in getD-drop at mid q (pos 0) ∙ mid-at q m ∙ scored-is q ∙ sym (tabulate-at 9 (scoredFrom (drop at before) k rows) q (pos 0) m)) p
+          ∙ sym (tabulate-at 9 (normalized scores k) p (pos 0) h)
 
-      pub posteriors-made : at ≡ 9 * v → PosteriorsMade case v k before after counts
-      posteriors-made z = record {
-        here = rw z at after-is;
+      pub posteriors-made : {v : ℕ} → at ≡ 9 * v → k ≡ alleleCountAt w v → CountsIn counts → PosteriorsMade w s rows v before after counts
+      posteriors-made z e c = record {
+        here = rw (z, e) at after-is;
         small = rw z at after-small;
         past = rw z at after-past;
+        counts-in = c;
         counts-are = t .counts-are;
       }

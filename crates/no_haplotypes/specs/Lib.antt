@@ -1,2 +1,3 @@
 pub mod NoHaplotypes
 pub mod Tally
+pub mod Calling

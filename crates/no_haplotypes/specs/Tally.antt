@@ -1,115 +1,103 @@
--- 01, section 4, as the code holds it: the piles that a call of a variant reads, and what one pass over a pile adds up. With Q the sum of
--- qual, the score of (i, i) adds Q and the gains of i where both alleles match, that of i ≠ j adds Q and the gains of i and of j where one does.
+-- 01, section 4, as the code goes about it: what one pass over a variant's pile adds up, and the scores from that. With Q the sum of qual,
+-- the score of (i, i) adds Q and the gains of i where both alleles match, that of i ≠ j adds Q and the gains of i and of j where one does.
 -- Assumes nothing.
 use mathlib.Core.Path.{_≡_}
-use mathlib.Core.Bool.{cond}
-use mathlib.Core.List.{List, [], _∷_}
+use mathlib.Core.Bool.{Bool, cond, _&&_}
+use mathlib.Core.List.{List}
 use Prim.Native.Nat.{ℕ, _+_, _*_, _/_, _%_, _^_, _≤_, _<_}
 use lib.Dec.{eqb, ltb}
-use lib.Ieee.{Float}
 use lib.IntN.{ℤ, pos, natAbs, _+ℤ_, _-ℤ_}
-use lib.ListN.{length, getD, set, drop}
+use lib.ListN.{length, getD, set, drop, replicate}
 use Rattle.variants_and_fragments.specs.declared.Sizes.{Sizes}
-use Rattle.variants_and_fragments.specs.Accepted.{CaseIn}
-use Rattle.variants_and_fragments.specs.Case.{Case}
-use Rattle.variants_and_fragments.specs.Decode.{tabulate, decode}
+use Rattle.variants_and_fragments.specs.Case.{Call}
+use Rattle.variants_and_fragments.specs.Decode.{tabulate}
 use Rattle.variants_and_fragments.specs.Layout.{strandAt, alleleCountAt}
-use Rattle.pileup.specs.Piles.{keep, pileStart, PilesRoom, PilesHeld}
-use Rattle.variants_and_fragments.specs.Pileup.{Row, rowsOf, pileOf, ambiguousCount}
-use Rattle.pileup.specs.Rows.{rowQual}
+use Rattle.variants_and_fragments.specs.Pileup.{Row, only}
 use Rattle.variants_and_fragments.specs.Sums.{sumOver}
-use Rattle.variants_and_fragments.specs.Written.{written}
-use Rattle.genotype_probs.specs.declared.posteriors.Genotype.{Genotype}
-use Rattle.genotype_probs.specs.declared.Rates.{Rates}
-use Rattle.genotype_probs.specs.Places.{writtenFrom}
+use Rattle.pileup.specs.Packed.{rowsAt, RowsIn}
 use Rattle.genotype_probs.specs.Posteriors.{normalized}
-use Rattle.genotype_probs.specs.Priors.{priorTable}
-use Rattle.no_haplotypes.specs.NoHaplotypes.{mixed, callScore, rowStrand, callsAt, answerFrom, qualFrom, gqFrom, answerAt, qualAt, gqAt}
+use Rattle.no_haplotypes.specs.declared.tally.Pile.{Pile}
+use Rattle.no_haplotypes.specs.NoHaplotypes.{mixed, callScore}
 
--- an accepted case with its piles
-pub record Piled (w : List ℤ) (s : Sizes) (ends who : List ℕ) (quals one-minus-quals : List ℤ) : Type 0 where
-  pub case-in : CaseIn w s
-  pub room : PilesRoom (s .n) (s .c) ends who quals one-minus-quals
-  pub few : (b : List ℕ) → length (rowsOf (decode w b)) ≤ s .c
-  pub held : (b : List ℕ) → PilesHeld (decode w b) ends who quals one-minus-quals
+-- ---- one pass over a pile
 
--- call c of the piles is in its ranges
-pub record CallHeld (w : List ℤ) (s : Sizes) (who : List ℕ) (quals one-minus-quals : List ℤ) (c : ℕ) : Type 0 where
-  pub who-room : c < length who
-  pub quals-room : c < length quals
-  pub one-minus-quals-room : c < length one-minus-quals
-  pub fragment-in : getD who c 0 / 4 < s .f
-  pub strand-in : strandAt w s (getD who c 0 / 4) ≤ 1
-  pub allele-in : getD who c 0 % 4 < 3
-  pub qual-in : natAbs (getD quals c (pos 0)) ≤ 262144
-  pub one-minus-qual-in : natAbs (getD one-minus-quals c (pos 0)) ≤ 262144
+-- the rows of a pile
+abbrev pub pileRows : List ℕ → Pile → List Row
+pileRows piles pile = rowsAt piles (pile .start) (pile .end)
+
+-- they stand there, each in its ranges
+pub record PileIn (s : Sizes) (piles : List ℕ) (pile : Pile) : Type 0 where
+  pub rises : pile .start ≤ pile .end
+  pub rows-in : RowsIn (s .n) (s .f) piles (pile .start) (pile .end)
+
+abbrev pub rowQual : Row → ℤ
+rowQual row = row .call .qual
 
 -- what a call gains on qual where both alleles of the pair match it, and where one does
-abbrev pub bothGain : ℤ → ℤ → ℤ
-bothGain qual one-minus-qual = one-minus-qual -ℤ qual
+abbrev pub bothGain : Call → ℤ
+bothGain call = call .one-minus-qual -ℤ call .qual
 
-abbrev pub oneGain : ℤ → ℤ → ℤ
-oneGain qual one-minus-qual = mixed qual one-minus-qual -ℤ qual
+abbrev pub oneGain : Call → ℤ
+oneGain call = mixed (call .qual) (call .one-minus-qual) -ℤ call .qual
 
 -- the same of a row, where it shows allele x
-unfoldable pub gainAt : (ℤ → ℤ → ℤ) → ℕ → Row → ℤ
-gainAt gain x row = cond (eqb (row .call .allele) x) (gain (row .call .qual) (row .call .one-minus-qual)) (pos 0)
+unfoldable pub gainAt : (Call → ℤ) → ℕ → Row → ℤ
+gainAt gain x row = cond (eqb (row .call .allele) x) (gain (row .call)) (pos 0)
 
--- where a row is counted: by strand and allele
-abbrev pub countPlace : Case → Row → ℕ
-countPlace case row = 3 * rowStrand case row + row .call .allele
+-- a row shows allele x on a strand, and where it is counted
+abbrev pub shownOn : List ℤ → Sizes → ℕ → ℕ → Row → Bool
+shownOn w s strand x row = eqb (strandAt w s (row .fragment)) strand && eqb (row .call .allele) x
 
--- room for the sums of three alleles and the counts of two strands, none near the end of its type
-pub record TallyRoom (both one : List ℤ) (counts : List ℕ) : Type 0 where
-  pub both-long : 3 ≤ length both
-  pub one-long : 3 ≤ length one
-  pub counts-long : 6 ≤ length counts
-  pub both-small : (x : ℕ) → x < 3 → natAbs (getD both x (pos 0)) ≤ 2 ^ 40
-  pub one-small : (x : ℕ) → x < 3 → natAbs (getD one x (pos 0)) ≤ 2 ^ 40
-  pub counts-small : (p : ℕ) → p < 6 → getD counts p 0 ≤ 16384
+abbrev pub countPlace : List ℤ → Sizes → Row → ℕ
+countPlace w s row = 3 * strandAt w s (row .fragment) + row .call .allele
+
+-- the gains of three alleles where both match, then where one does; and the counts of two strands. None is near the end of its type
+pub record GainsIn (gains : List ℤ) : Type 0 where
+  pub small : (p : ℕ) → p < 6 → natAbs (getD gains p (pos 0)) ≤ 2 ^ 34
+
+pub record CountsIn (counts : List ℕ) : Type 0 where
+  pub few : (p : ℕ) → p < 6 → getD counts p 0 ≤ 16384
+
+-- z added in place x
+abbrev pub added : List ℤ → ℕ → ℤ → List ℤ
+added sums x z = set sums x (getD sums x (pos 0) +ℤ z)
 
 -- one call added
-pub record CallAdded (w : List ℤ) (s : Sizes) (who : List ℕ) (quals one-minus-quals : List ℤ) (c : ℕ) (both one : List ℤ) (counts : List ℕ) (r : ℤ) (both' one' : List ℤ) (counts' : List ℕ) : Type 0 where
-  pub qual-is : r ≡ getD quals c (pos 0)
-  pub both-is : both' ≡ set both (getD who c 0 % 4) (getD both (getD who c 0 % 4) (pos 0) +ℤ bothGain (getD quals c (pos 0)) (getD one-minus-quals c (pos 0)))
-  pub one-is : one' ≡ set one (getD who c 0 % 4) (getD one (getD who c 0 % 4) (pos 0) +ℤ oneGain (getD quals c (pos 0)) (getD one-minus-quals c (pos 0)))
-  pub counts-is : counts' ≡ set counts (3 * strandAt w s (getD who c 0 / 4) + getD who c 0 % 4) (getD counts (3 * strandAt w s (getD who c 0 / 4) + getD who c 0 % 4) 0 + 1)
+pub record CallAdded (w : List ℤ) (s : Sizes) (row : Row) (gains : List ℤ) (counts : List ℕ) (r : ℤ) (gains' : List ℤ) (counts' : List ℕ) : Type 0 where
+  pub qual-is : r ≡ row .call .qual
+  pub gains-are : gains' ≡ added (added gains (row .call .allele) (bothGain (row .call))) (3 + row .call .allele) (oneGain (row .call))
+  pub counts-are : counts' ≡ set counts (countPlace w s row) (getD counts (countPlace w s row) 0 + 1)
 
 -- nothing added yet
-pub record Untouched (both one : List ℤ) (counts : List ℕ) : Type 0 where
-  pub both-long : length both ≡ 3
-  pub one-long : length one ≡ 3
+pub record Untouched (gains : List ℤ) (counts : List ℕ) : Type 0 where
+  pub gains-zero : gains ≡ replicate 6 (pos 0)
+  pub counts-zero : counts ≡ replicate 6 0
+
+-- the calls of these rows added
+pub record Tallied (w : List ℤ) (s : Sizes) (rows : List Row) (total : ℤ) (gains : List ℤ) (counts : List ℕ) : Type 0 where
+  pub gains-long : length gains ≡ 6
   pub counts-long : length counts ≡ 6
-  pub both-zero : (x : ℕ) → x < 3 → getD both x (pos 0) ≡ pos 0
-  pub one-zero : (x : ℕ) → x < 3 → getD one x (pos 0) ≡ pos 0
-  pub counts-zero : (p : ℕ) → p < 6 → getD counts p 0 ≡ 0
+  pub total-is : total ≡ sumOver rows rowQual
+  pub both-are : (x : ℕ) → x < 3 → getD gains x (pos 0) ≡ sumOver rows (gainAt bothGain x)
+  pub one-are : (x : ℕ) → x < 3 → getD gains (3 + x) (pos 0) ≡ sumOver rows (gainAt oneGain x)
+  pub counts-are : (strand x : ℕ) → strand < 2 → x < 3 → getD counts (3 * strand + x) 0 ≡ length (only (shownOn w s strand x) rows)
 
--- all calls of v's pile added
-pub record Tallied (case : Case) (v : ℕ) (total : ℤ) (both one : List ℤ) (counts : List ℕ) : Type 0 where
-  pub both-long : length both ≡ 3
-  pub one-long : length one ≡ 3
-  pub total-is : total ≡ sumOver (pileOf case v) rowQual
-  pub both-are : (x : ℕ) → x < 3 → getD both x (pos 0) ≡ sumOver (pileOf case v) (gainAt bothGain x)
-  pub one-are : (x : ℕ) → x < 3 → getD one x (pos 0) ≡ sumOver (pileOf case v) (gainAt oneGain x)
-  pub counts-are : (p : ℕ) → p < 6 → getD counts p 0 ≡ length (keep (countPlace case) p (pileOf case v))
+-- ---- the scores
 
--- room to add them to priors
-pub record GainsIn (total : ℤ) (both one : List ℤ) : Type 0 where
-  pub both-long : 3 ≤ length both
-  pub one-long : 3 ≤ length one
+-- sums that can be added to priors
+pub record SumsIn (total : ℤ) (gains : List ℤ) : Type 0 where
   pub total-small : natAbs total ≤ 2 ^ 34
-  pub both-small : (x : ℕ) → x < 3 → natAbs (getD both x (pos 0)) ≤ 2 ^ 34
-  pub one-small : (x : ℕ) → x < 3 → natAbs (getD one x (pos 0)) ≤ 2 ^ 34
+  pub gains-in : GainsIn gains
 
 -- what the calls add to the prior of the pair (i, j)
-unfoldable pub pairGain : ℤ → List ℤ → List ℤ → ℕ → ℕ → ℤ
-pairGain total both one i j =
-    cond (eqb i j) (total +ℤ getD both i (pos 0)) (total +ℤ getD one i (pos 0) +ℤ getD one j (pos 0))
+unfoldable pub pairGain : ℤ → List ℤ → ℕ → ℕ → ℤ
+pairGain total gains i j =
+    cond (eqb i j) (total +ℤ getD gains i (pos 0)) (total +ℤ getD gains (3 + i) (pos 0) +ℤ getD gains (3 + j) (pos 0))
 
 -- place p of a variant's scores, over its priors
-unfoldable pub gained : List ℤ → ℕ → ℤ → List ℤ → List ℤ → ℕ → ℤ
-gained priors k total both one p =
-    cond (ltb p (k * k)) (getD priors p (pos 0) +ℤ pairGain total both one (p / k) (p % k)) (pos 0)
+unfoldable pub gained : List ℤ → ℕ → ℤ → List ℤ → ℕ → ℤ
+gained priors k total gains p =
+    cond (ltb p (k * k)) (getD priors p (pos 0) +ℤ pairGain total gains (p / k) (p % k)) (pos 0)
 
 -- nine priors from `at` on, small enough for that
 pub record PriorsAt (post : List ℤ) (at : ℕ) : Type 0 where
@@ -121,79 +109,15 @@ unfoldable pub scoredFrom : List ℤ → ℕ → List Row → ℕ → ℤ
 scoredFrom priors k rows p =
     cond (ltb p (k * k)) (getD priors p (pos 0) +ℤ sumOver rows (λ row. callScore (p / k) (p % k) (row .call))) (pos 0)
 
--- the nine places from 9 v on hold the posteriors of v and small numbers, what lies past them is as it was, and the counts are those of its pile
-pub record PosteriorsMade (case : Case) (v k : ℕ) (before after : List ℤ) (counts : List ℕ) : Type 0 where
-  pub here : (p : ℕ) → p < 9 → getD after (9 * v + p) (pos 0) ≡ normalized (tabulate 9 (scoredFrom (drop (9 * v) before) k (pileOf case v))) k p
+-- the posteriors of a variant with k alleles and these rows, from its priors
+unfoldable pub posteriorsFrom : List ℤ → ℕ → List Row → List ℤ
+posteriorsFrom priors k rows = tabulate 9 (normalized (tabulate 9 (scoredFrom priors k rows)) k)
+
+-- The nine places from 9 v on hold the posteriors of v and small numbers, what lies past them is as it was, and the counts are those of
+-- its pile
+pub record PosteriorsMade (w : List ℤ) (s : Sizes) (rows : List Row) (v : ℕ) (before after : List ℤ) (counts : List ℕ) : Type 0 where
+  pub here : (p : ℕ) → p < 9 → getD after (9 * v + p) (pos 0) ≡ getD (posteriorsFrom (drop (9 * v) before) (alleleCountAt w v) rows) p (pos 0)
   pub small : (p : ℕ) → p < 9 → natAbs (getD after (9 * v + p) (pos 0)) ≤ 2 ^ 40
   pub past : (e : ℕ) → 9 * v + 9 ≤ e → getD after e (pos 0) ≡ getD before e (pos 0)
-  pub counts-are : (p : ℕ) → p < 6 → getD counts p 0 ≡ length (keep (countPlace case) p (pileOf case v))
-
--- ---- the answer of one variant
-
--- the posteriors of v that are made from the priors in its nine places
-unfoldable pub madeFrom : List ℤ → List ℤ → Case → ℕ → List ℤ
-madeFrom w priors case v =
-    tabulate 9 (normalized (tabulate 9 (scoredFrom (drop (9 * v) priors) (alleleCountAt w v) (pileOf case v))) (alleleCountAt w v))
-
--- how many calls each variant has, by the ambiguous ones and the ends of the piles
-pub record CallsCounted (w : List ℤ) (s : Sizes) (ambiguous ends : List ℕ) : Type 0 where
-  pub case-in : CaseIn w s
-  pub ambiguous-long : s .n ≤ length ambiguous
-  pub ends-long : s .n ≤ length ends
-  pub ambiguous-are : (b : List ℕ) (v : ℕ) → v < s .n → getD ambiguous v 0 ≡ ambiguousCount (decode w b) v
-  pub starts-in : (v : ℕ) → v < s .n → pileStart ends v ≤ getD ends v 0
-  pub calls-are : (b : List ℕ) (v : ℕ) → v < s .n → getD ends v 0 + getD ambiguous v 0 ≡ pileStart ends v + callsAt (decode w b) v
-  pub ambiguous-few : (v : ℕ) → v < s .n → getD ambiguous v 0 ≤ 16384
-  pub ends-few : (v : ℕ) → v < s .n → getD ends v 0 ≤ 16384
-
--- the 13 words, from the counts by strand and allele
-unfoldable pub answerValues : Genotype → List ℕ → ℕ → ℕ → List ℕ
-answerValues g counts ambiguous depth =
-    g .0 ∷ g .1
-    ∷ (getD counts 0 0 + getD counts 3 0) ∷ (getD counts 1 0 + getD counts 4 0) ∷ (getD counts 2 0 + getD counts 5 0)
-    ∷ getD counts 0 0 ∷ getD counts 1 0 ∷ getD counts 2 0
-    ∷ getD counts 3 0 ∷ getD counts 4 0 ∷ getD counts 5 0
-    ∷ ambiguous ∷ depth ∷ []
-
--- counts and numbers that fit a word
-pub record WordsIn (counts : List ℕ) (ambiguous depth : ℕ) : Type 0 where
-  pub counts-long : length counts ≡ 6
-  pub counts-few : (p : ℕ) → p < 6 → getD counts p 0 ≤ 16384
-  pub ambiguous-few : ambiguous ≤ 16384
-  pub depth-top : depth < 2147483648
-
--- one variant called: its words, its two qualities, and the priors of the later ones as they were
-pub record VariantCalled (w : List ℤ) (case : Case) (v : ℕ) (post : List ℤ) (variants : List ℤ) (quals gqs : List Float) (post' variants' : List ℤ) (quals' gqs' : List Float) : Type 0 where
-  pub past : (e : ℕ) → 9 * v + 9 ≤ e → getD post' e (pos 0) ≡ getD post e (pos 0)
-  pub variants-are : variants' ≡ writtenFrom (answerFrom (madeFrom w post case v) (alleleCountAt w v) case v) (13 * v) 13 variants
-  pub quals-are : quals' ≡ set quals v (qualFrom (madeFrom w post case v))
-  pub gqs-are : gqs' ≡ set gqs v (gqFrom (madeFrom w post case v) (alleleCountAt w v))
-
--- the priors of n variants
-pub record PriorsIn (post : List ℤ) (n : ℕ) : Type 0 where
-  pub room : 9 * n ≤ length post
-  pub small : (e : ℕ) → e < 9 * n → natAbs (getD post e (pos 0)) ≤ 2 ^ 34
-
--- n variants called
-pub record VariantsCalled (w : List ℤ) (case : Case) (n : ℕ) (post : List ℤ) (variants : List ℤ) (quals gqs : List Float) (variants' : List ℤ) (quals' gqs' : List Float) : Type 0 where
-  pub variants-are : variants' ≡ written (λ e. answerFrom (madeFrom w post case (e / 13)) (alleleCountAt w (e / 13)) case (e / 13) (e % 13)) (13 * n) variants
-  pub quals-are : quals' ≡ written (λ v. qualFrom (madeFrom w post case v)) n quals
-  pub gqs-are : gqs' ≡ written (λ v. gqFrom (madeFrom w post case v) (alleleCountAt w v)) n gqs
-
--- room for the piles of any case
-pub record Scratch (ambiguous ends who : List ℕ) (quals one-minus-quals : List ℤ) : Type 0 where
-  pub ambiguous-long : length ambiguous ≡ 1024
-  pub ends-long : length ends ≡ 1024
-  pub who-long : length who ≡ 16384
-  pub quals-long : length quals ≡ 16384
-  pub one-minus-quals-long : length one-minus-quals ≡ 16384
-
--- no variant has more calls than a case
-abbrev pub FewCalls : List ℤ → Type 0
-FewCalls w = (b : List ℕ) (v : ℕ) → callsAt (decode w b) v ≤ 16384
-
--- the n variants of an accepted case called at accepted rates
-pub record AcceptedCalled (w : List ℤ) (b : List ℕ) (rates : Rates) (n : ℕ) (variants : List ℤ) (quals gqs : List Float) (variants' : List ℤ) (quals' gqs' : List Float) : Type 0 where
-  pub variants-are : variants' ≡ written (answerAt (priorTable rates) (decode w b)) (13 * n) variants
-  pub quals-are : quals' ≡ written (qualAt (priorTable rates) (decode w b)) n quals
-  pub gqs-are : gqs' ≡ written (gqAt (priorTable rates) (decode w b)) n gqs
+  pub counts-in : CountsIn counts
+  pub counts-are : (strand x : ℕ) → strand < 2 → x < 3 → getD counts (3 * strand + x) 0 ≡ length (only (shownOn w s strand x) rows)

@@ -87,7 +87,7 @@ slice-aggregate-make-rows-3 c = search needs
 
 make-rows-requires : tie.Need-make-rows-requires
 make-rows-requires c κs = let i = inside (case c) in
-    (i, ((omega (arith, c .before .before .before .before .call-words .ensures, i .sized .c-top), omega (arith, c .before .before .before .fragment-ends .ensures, i .sized .f-top)), ?))
+    (i, (omega (arith, c .before .before .before .before .call-words .ensures, i .sized .c-top), omega (arith, c .before .before .before .fragment-ends .ensures, i .sized .f-top)))
 
 slice-aggregate-count-lines : tie.Need-slice-aggregate-count-lines
 slice-aggregate-count-lines c = search needs

@@ -30,6 +30,7 @@ table-requires c κs = search needs
 rates-fault-requires : tie.Need-rates-fault-requires
 rates-fault-requires c κs = search needs
 
+-- ---- the entry, and the case accepted or refused
 abbrev st : tie.After-check-case → tie.Start
 st c = c .before .before .before .before
 
@@ -39,27 +40,39 @@ is-accepted c = ap outcomeOf (sym (c .checked2 .given .1)) ∙ c .before .before
 is-refused : (c : tie.After-checked) → outcomeOf (Refused (c .checked .given .0 .0)) ≡ caseOf (now (st (c .before .before) .args .words)) (now (st (c .before .before) .args .bases))
 is-refused c = ap outcomeOf (sym (c .checked .given .1)) ∙ c .before .before .check-case .ensures
 
--- the rates are accepted
-good : (c : tie.Else1) → ratesFault (st (c .before .before .before .before .before .before .before) .args .rates) ≡ 7
-good c = rates-good _ (c .before .rates-fault .result) (c .before .rates-fault .ensures) (c .if1 .left)
+returns-5 : tie.Need-returns-5
+returns-5 c =
+    let s = st (c .before .before .before) in
+    case-refused (now (s .args .words)) (now (s .args .bases)) (s .args .rates) (now (s .args .variants)) (now (s .args .quals)) (now (s .args .gqs)) _ (is-refused (c .before))
+
+-- ---- the rates
+abbrev accepted : tie.After-rates-fault → tie.After-checked2
+accepted p = p .before .before .before .before
+
+abbrev start : tie.After-rates-fault → tie.Start
+start p = st (accepted p .before .before)
 
 returns : tie.Need-returns
 returns c =
-    let k = c .before .before .before .before .before in
-    let s = st (k .before .before) in
-    rates-refused (now (s .args .words)) (now (s .args .bases)) (s .args .rates) (now (s .args .variants)) (now (s .args .quals)) (now (s .args .gqs)) (k .checked2 .given .0 .0) (is-accepted k) (c .before .rates-fault .result) (c .before .rates-fault .ensures) (c .if1 .taken)
+    let p = c .before in
+    let s = start p in
+    rates-refused (now (s .args .words)) (now (s .args .bases)) (s .args .rates) (now (s .args .variants)) (now (s .args .quals)) (now (s .args .gqs)) (accepted p .checked2 .given .0 .0) (is-accepted (accepted p)) (p .rates-fault .result) (p .rates-fault .ensures) (c .if1 .taken)
 
+good : (c : tie.Else1) → ratesFault (start (c .before) .args .rates) ≡ 7
+good c = rates-good _ (c .before .rates-fault .result) (c .before .rates-fault .ensures) (c .if1 .left)
+
+-- ---- the lengths of the slices
 returns-2 : tie.Need-returns-2
 returns-2 c =
-    let k = c .before .before .before .before .before .before in
-    let s = st (k .before .before) in
-    quals-short (now (s .args .words)) (now (s .args .bases)) (s .args .rates) (now (s .args .variants)) (now (s .args .quals)) (now (s .args .gqs)) (k .checked2 .given .0 .0) (is-accepted k) (good (c .before)) (c .if2 .taken)
+    let p = c .before .before in
+    let s = start p in
+    quals-short (now (s .args .words)) (now (s .args .bases)) (s .args .rates) (now (s .args .variants)) (now (s .args .quals)) (now (s .args .gqs)) (accepted p .checked2 .given .0 .0) (is-accepted (accepted p)) (good (c .before)) (c .if2 .taken)
 
 returns-3 : tie.Need-returns-3
 returns-3 c =
-    let k = c .before .before .before .before .before .before .before in
-    let s = st (k .before .before) in
-    gqs-short (now (s .args .words)) (now (s .args .bases)) (s .args .rates) (now (s .args .variants)) (now (s .args .quals)) (now (s .args .gqs)) (k .checked2 .given .0 .0) (is-accepted k) (good (c .before .before)) (c .if3 .taken)
+    let p = c .before .before .before in
+    let s = start p in
+    gqs-short (now (s .args .words)) (now (s .args .bases)) (s .args .rates) (now (s .args .variants)) (now (s .args .quals)) (now (s .args .gqs)) (accepted p .checked2 .given .0 .0) (is-accepted (accepted p)) (good (c .before .before)) (c .if3 .taken)
 
 mul-if4 : tie.Need-mul-if4
 mul-if4 c = search needs
@@ -69,21 +82,28 @@ mul-t22 c = search needs
 
 returns-4 : tie.Need-returns-4
 returns-4 c =
-    let k = c .before .before .before .before .before .before .before .before in
-    let s = st (k .before .before) in
-    variants-short (now (s .args .words)) (now (s .args .bases)) (s .args .rates) (now (s .args .variants)) (now (s .args .quals)) (now (s .args .gqs)) (k .checked2 .given .0 .0) (is-accepted k) (good (c .before .before .before)) (c .before .before .if2 .left) (c .before .if3 .left) (c .if4 .taken)
+    let e = c .before in
+    let p = e .before .before .before in
+    let s = start p in
+    variants-short (now (s .args .words)) (now (s .args .bases)) (s .args .rates) (now (s .args .variants)) (now (s .args .quals)) (now (s .args .gqs)) (accepted p .checked2 .given .0 .0) (is-accepted (accepted p)) (good (e .before .before)) (e .before .if2 .left) (e .if3 .left) (c .if4 .taken)
+
+-- ---- the case called
+abbrev room : tie.After-call-accepted-arg3 → tie.Else4
+room c = c .before .before .before .before
+
+abbrev faultless : tie.Else4 → tie.Else1
+faultless e = e .before .before .before
 
 call-accepted-requires : tie.Need-call-accepted-requires
 call-accepted-requires c κs =
-    let k = c .before .before .before .before .before .before .before .before .before .before .before .before in
-    let e = c .before .before .before .before in
-    let s = st (k .before .before) in
-    ((c .before .before .before .before .before .before .before .before .before .before .table .ensures, accepted-case (now (s .args .words)) (now (s .args .bases)) (s .args .rates) (now (s .args .variants)) (now (s .args .quals)) (now (s .args .gqs)) (k .checked2 .given .0 .0) (is-accepted k), accepted-few (now (s .args .words)) (now (s .args .bases)) (s .args .rates) (now (s .args .variants)) (now (s .args .quals)) (now (s .args .gqs)) (k .checked2 .given .0 .0) (is-accepted k), accepted-bases (now (s .args .words)) (now (s .args .bases)) (s .args .rates) (now (s .args .variants)) (now (s .args .quals)) (now (s .args .gqs)) (k .checked2 .given .0 .0) (is-accepted k), good (e .before .before .before)), (e .if4 .left, e .before .before .if2 .left, e .before .if3 .left))
-
-returns-5 : tie.Need-returns-5
-returns-5 c =
-    let s = st (c .before .before .before) in
-    case-refused (now (s .args .words)) (now (s .args .bases)) (s .args .rates) (now (s .args .variants)) (now (s .args .quals)) (now (s .args .gqs)) _ (is-refused (c .before))
+    let e = room c in
+    let p = faultless e .before in
+    let k = accepted p in
+    let s = start p in
+    let w = now (s .args .words) in
+    let b = now (s .args .bases) in
+    let z = k .checked2 .given .0 .0 in
+    ((p .before .before .table .ensures, accepted-case w b z (is-accepted k), accepted-few w b z (is-accepted k), accepted-bases w b z (is-accepted k), good (faultless e)), (e .if4 .left, e .before .before .if2 .left, e .before .if3 .left))
 
 same-length : tie.Need-same-length
 same-length c = search needs
@@ -96,10 +116,11 @@ same-length-3 c = search needs
 
 returns-6 : tie.Need-returns-6
 returns-6 c =
-    let k = c .before .before .before .before .before .before .before .before .before .before .before .before .before .before .before .before .before .before in
-    let e = c .before .before .before .before .before .before .before .before .before .before in
-    let s = st (k .before .before) in
-    all-called (now (s .args .words)) (now (s .args .bases)) (s .args .rates) (now (s .args .variants)) (now (s .args .quals)) (now (s .args .gqs)) (k .checked2 .given .0 .0) (is-accepted k) (good (e .before .before .before)) (e .before .before .if2 .left) (e .before .if3 .left) (e .if4 .left) (c .before .before .before .before .before .call-accepted .ensures)
+    let a = c .before .before .before .before .before in
+    let e = room (a .before) in
+    let p = faultless e .before in
+    let s = start p in
+    all-called (now (s .args .words)) (now (s .args .bases)) (s .args .rates) (now (s .args .variants)) (now (s .args .quals)) (now (s .args .gqs)) (accepted p .checked2 .given .0 .0) (is-accepted (accepted p)) (good (faultless e)) (e .before .before .if2 .left) (e .before .if3 .left) (e .if4 .left) (a .call-accepted .ensures)
 
 pub call-genotypes-no-haplotypes-spec : {M : Type 1} → statement M
 call-genotypes-no-haplotypes-spec =

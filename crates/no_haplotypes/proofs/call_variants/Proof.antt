@@ -1,46 +1,59 @@
 -- `call_variants` meets its contract. The loop's invariant: the variants before v are called.
 -- Assumes nothing.
 use mathlib.Core.Path.{_≡_}
+use mathlib.Core.List.{[]}
 use Prim.Native.Nat.{ℕ, _+_, _*_, _-_, _≤_, _<_}
 use native.Mathlib.Omega.{arith}
 use denote.Ref.{now}
 use lib.ListN.{length}
 use Rattle.no_haplotypes.proofs.CallRuns.{CallingTo, calling-start, variants-long, quals-long, gqs-long, priors-at, calling-on, calling-end}
+use Rattle.no_haplotypes.proofs.Calling.{pile-held}
 use Rattle.no_haplotypes.proofs.call_variants.Statement.{statement}
 use Rattle.no_haplotypes.proofs.call_variants.Tie as tie
 
 abbrev Inv-loop : tie.InvT-loop
-Inv-loop t words s ambiguous ends who pile-quals pile-one-minus-quals post₀ variants₀ quals₀ gqs₀ n v₀ post variants quals gqs v =
+Inv-loop t words s ambiguous ends piles post₀ variants₀ quals₀ gqs₀ n v₀ post variants quals gqs v =
     CallingTo words s post₀ variants₀ quals₀ gqs₀ v post variants quals gqs
 
 abbrev μ-loop : tie.MeasureT-loop
-μ-loop t words s ambiguous ends who pile-quals pile-one-minus-quals post₀ variants₀ quals₀ gqs₀ n v₀ post variants quals gqs v =
+μ-loop t words s ambiguous ends piles post₀ variants₀ quals₀ gqs₀ n v₀ post variants quals gqs v =
     n - v
 
 loop-holds : tie.Need-loop-holds Inv-loop μ-loop
 loop-holds c = calling-start
 
+-- the entry
 abbrev st : tie.At-loop Inv-loop μ-loop → tie.Start Inv-loop μ-loop
 st l = l .before .before .before .before .before .before
 
+pile-of-requires : tie.Need-pile-of-requires Inv-loop μ-loop
+pile-of-requires c κs =
+    let p = st (c .before) .pre .0 .1 in
+    (omega (arith, c .loop-test .taken, p .ambiguous-long), omega (arith, c .loop-test .taken, p .piles-made .grouped [] .ends-long))
+
 call-variant-requires : tie.Need-call-variant-requires Inv-loop μ-loop
 call-variant-requires c κs =
-    let l = c .before .before .before .before .before in
+    let d = c .before .before .before .before in
+    let l = d .before .before in
     let s = st l in
-    let h = c .before .before .before .before .loop-test .taken in
-    ((s .pre .0 .0, s .pre .0 .1, s .pre .0 .2, h), (priors-at (l .loop .inv) (s .pre .1 .0) h, omega (arith, variants-long (l .loop .inv), s .pre .1 .1), omega (arith, quals-long (l .loop .inv), s .pre .1 .2), omega (arith, gqs-long (l .loop .inv), s .pre .1 .3)))
+    let h = d .before .loop-test .taken in
+    ((s .pre .0 .0, rw (d .pile-of .ensures) (pile-held (s .pre .0 .1) (l .loop .v) h), priors-at (l .loop .inv) (s .pre .0 .2) h), (omega (arith, variants-long (l .loop .inv), s .pre .1 .0), omega (arith, quals-long (l .loop .inv), s .pre .1 .1), omega (arith, gqs-long (l .loop .inv), s .pre .1 .2)))
+
+-- the variant called, and the loop's test before it
+abbrev called : tie.After-slice-known4 Inv-loop μ-loop → tie.After-call-variant Inv-loop μ-loop
+called c = c .before .before .before .before .before .before
+
+abbrev looping : tie.After-slice-known4 Inv-loop μ-loop → tie.In-loop Inv-loop μ-loop
+looping c = called c .before .before .before .before .before .before
 
 add-v : tie.Need-add-v Inv-loop μ-loop
-add-v c = omega (arith, st (c .before .before .before .before .before .before .before .before .before .before .before .before) .pre .0 .1 .case-in .sized .n-top, c .before .before .before .before .before .before .before .before .before .before .before .loop-test .taken)
+add-v c = omega (arith, st (looping c .before) .pre .0 .1 .case-in .sized .n-top, looping c .loop-test .taken)
 
 loop-less : tie.Need-loop-less Inv-loop μ-loop
-loop-less c = omega (arith, c .before .before .before .before .before .before .before .before .before .before .before .loop-test .taken)
+loop-less c = omega (arith, looping c .loop-test .taken)
 
 loop-again : tie.Need-loop-again Inv-loop μ-loop
-loop-again c =
-    let l = c .before .before .before .before .before .before .before .before .before .before .before .before in
-    let k = c .before .before .before .before .before .before in
-    calling-on (l .loop .inv) (c .before .before .before .before .before .before .before .before .before .before .before .loop-test .taken) (omega arith) (k .call-variant .ensures)
+loop-again c = calling-on (looping c .before .loop .inv) (looping c .loop-test .taken) (omega arith) (called c .call-variant .ensures)
 
 same-length : tie.Need-same-length Inv-loop μ-loop
 same-length c = c .before .loop .inv .long
@@ -64,6 +77,7 @@ call-variants-spec =
     Inv-loop
     μ-loop
     loop-holds
+    pile-of-requires
     call-variant-requires
     add-v
     loop-less

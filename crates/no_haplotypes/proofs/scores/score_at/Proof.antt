@@ -1,0 +1,52 @@
+-- `scores::score_at` meets its contract: the pair of place p is one of the k × k, and the sum is small.
+-- Assumes nothing.
+use mathlib.Core.Path.{_≡_, sym, ap, _∙_}
+use Prim.Native.Nat.{ℕ, _+_, _*_, _/_, _%_, _^_, _≤_, _<_}
+use native.Mathlib.Omega.{arith}
+use borrow.Author.Tests.{lt-ltb, le-ltb}
+use denote.Ref.{now}
+use lib.IntN.{ℤ, natAbs, _+ℤ_}
+use mir.Syntax.{w64}
+use mir.Facts.{toZ-ofZ}
+use Rattle.steps.proofs.Signed.{plus-fits, plus-read}
+use Rattle.genotype_probs.proofs.AlleleLaws.{nine}
+use Rattle.genotype_probs.proofs.TableSums.{pair-in}
+use Rattle.no_haplotypes.specs.Tally.{pairGain}
+use borrow.Author.Needs.{needs}
+use Rattle.no_haplotypes.proofs.scores.score_at.Statement.{statement}
+use Rattle.no_haplotypes.proofs.scores.score_at.Tie as tie
+
+mul-if1 : tie.Need-mul-if1
+mul-if1 c = omega (arith, nine (c .args .k) (c .pre .2))
+
+div-pair-gain : tie.Need-div-pair-gain
+div-pair-gain c = search needs
+
+rem-pair-gain : tie.Need-rem-pair-gain
+rem-pair-gain c = search needs
+
+pair-gain-requires : tie.Need-pair-gain-requires
+pair-gain-requires c κs =
+    let s = c .before in
+    let q = pair-in (s .args .k) (s .args .p) (s .pre .1) (c .if1 .taken) in
+    (rw (toZ-ofZ (s .fits .total)) (s .pre .0), omega (arith, q .0, s .pre .2), omega (arith, q .1, s .pre .2))
+
+small : (c : tie.After-pair-gain) → natAbs (c .before .before .args .prior) + natAbs (c .pair-gain .result) < 2 ^ 63
+small c = omega (arith, c .before .before .pre .3, c .pair-gain .ensures .1)
+
+add-result : tie.Need-add-result
+add-result c = plus-fits w64 (c .before .before .args .prior) (c .pair-gain .result) (small c)
+
+returns : tie.Need-returns
+returns c =
+    let s = c .before .before in
+    let e = rw (toZ-ofZ (s .fits .total)) at (c .pair-gain .ensures .0) in
+    rw (lt-ltb (s .args .p) (s .args .k * s .args .k) (c .before .if1 .taken)) (plus-read w64 (s .args .prior) (c .pair-gain .result) (small c) ∙ ap (λ (z : ℤ). s .args .prior +ℤ z) e)
+
+returns-2 : tie.Need-returns-2
+returns-2 c = let s = c .before in rw (le-ltb (s .args .p) (s .args .k * s .args .k) (c .if1 .left))
+
+pub score-at-spec : {M : Type 1} → statement M
+score-at-spec =
+    tie.close
+    (tie.spec mul-if1 div-pair-gain rem-pair-gain pair-gain-requires add-result returns returns-2)

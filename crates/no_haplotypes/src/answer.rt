@@ -1,0 +1,100 @@
+// The answer of one variant: its 13 words and its two qualities.
+ghost use mathlib.Core.Path.{_≡_};
+ghost use mathlib.Core.Bool.{true};
+ghost use Prim.Native.Nat.{_+_, _*_, _<_, _≤_, _^_};
+ghost use lib.IntN.{pos, natAbs};
+ghost use lib.ListN.{length, getD, drop};
+ghost use lib.Signed.{leZ};
+ghost use Rattle.steps.specs.Table.{knots};
+ghost use Rattle.steps.specs.Logs.{steps};
+ghost use Rattle.steps.specs.OneMinus.{lnOneMinusExp};
+ghost use Rattle.steps.specs.Phred.{phredOf, capped};
+ghost use Rattle.variants_and_fragments.specs.Accepted.{CaseIn};
+ghost use Rattle.variants_and_fragments.specs.Layout.{depthAt};
+ghost use Rattle.genotype_probs.specs.Places.{writtenFrom};
+ghost use Rattle.no_haplotypes.specs.NoHaplotypes.{qualFrom};
+ghost use Rattle.no_haplotypes.specs.Calling.{answerValues, WordsIn, larger};
+use genotype_probs::posteriors::Genotype;
+use steps::LogProb;
+use steps::logs;
+use steps::phred::capped_phred;
+use variants_and_fragments::Sizes;
+use variants_and_fragments::layout;
+
+// A number as a word.
+fn word_of(x: usize) -> i32
+    requires { ⌜ x < 2147483648 ⌝ }
+    ensures { λ r. ⌜ r ≡ pos x ⌝ }
+{
+    x as i32
+}
+
+// Number p of the 13 of a variant; the counts stand by strand and allele.
+fn answer_value(g: Genotype, counts: &[usize; 6], ambiguous: usize, depth: usize, p: usize) -> usize
+    requires { ⌜ WordsIn (now counts) ambiguous depth × (p < 13) ⌝ }
+    ensures { λ r. ⌜ (r ≡ getD (answerValues g (now (counts .entry)) ambiguous depth) p 0) × (r < 2147483648) ⌝ }
+{
+    if p == 0 {
+        return g.0 as usize;
+    }
+    if p == 1 {
+        return g.1 as usize;
+    }
+    if p < 5 {
+        return counts[p - 2] + counts[p + 1];
+    }
+    if p < 11 {
+        return counts[p - 5];
+    }
+    if p == 11 {
+        return ambiguous;
+    }
+    depth
+}
+
+// Writes the 13 words of v. At the loop's head the first p are written.
+pub fn write_answer(
+    g: Genotype,
+    counts: &[usize; 6],
+    ambiguous: usize,
+    depth: usize,
+    variants: &mut [i32],
+    v: usize,
+)
+    requires { ⌜ WordsIn (now counts) ambiguous depth × (v < 1024) × (13 * v + 13 ≤ length (now variants)) ⌝ }
+    ensures { λ _. ⌜ now (variants .exit) ≡ writtenFrom (λ p. pos (getD (answerValues g (now (counts .entry)) ambiguous depth) p 0)) (13 * v) 13 (now (variants .entry)) ⌝ }
+{
+    let mut p = 0;
+    while p < 13 {
+        variants[13 * v + p] = word_of(answer_value(g, counts, ambiguous, depth, p));
+        p += 1;
+    }
+}
+
+// The larger of v's depth in the case and the number of its calls, usable and ambiguous.
+pub fn depth_after(words: &[i32], s: Sizes, calls: usize, v: usize) -> usize
+    requires { ⌜ CaseIn (now words) s × (v < s .n) × (calls < 2147483648) ⌝ }
+    ensures { λ r. ⌜ (r ≡ larger (depthAt (now (words .entry)) v) calls) × (r < 2147483648) ⌝ }
+{
+    let dp = layout::depth_of(words, s, v);
+    if dp < calls {
+        return calls;
+    }
+    dp
+}
+
+// The quality of a variant, from its posteriors.
+pub fn qual_of(post: &[i64], at: usize) -> f64
+    requires { ⌜ (at < length (now post)) × (natAbs (getD (now post) at (pos 0)) ≤ 2 ^ 40) ⌝ }
+    ensures { λ r. ⌜ r ≡ qualFrom (drop at (now (post .entry))) ⌝ }
+{
+    capped_phred(LogProb(post[at])).0
+}
+
+// The quality of a genotype with this log probability.
+pub fn gq_of(t: &[u16; 1665], p: i64) -> f64
+    requires { ⌜ (now t ≡ knots) × (natAbs p ≤ 2 ^ 41) × (leZ p (pos 0) ≡ true) ⌝ }
+    ensures { λ r. ⌜ r ≡ capped (phredOf (lnOneMinusExp (steps p))) ⌝ }
+{
+    capped_phred(LogProb(logs::ln_one_minus_exp(t, p))).0
+}
