@@ -91,7 +91,7 @@ module _ {X : Type 0} (g : ℕ → X) (d : X) (n : ℕ) (l part : List X) (room 
       ext-getD d joined (written g n l) (length-append part (drop n l) ∙ omega (arith, length-drop n l, written-length g n l)) (λ e h. joined-at e)
 
 -- ---- the scores that stand
-module _ {w : List ℤ} {b : List ℕ} {rates : Rates} (z : RoundSizes) (G : CaseGiven w b rates (z .s)) (phased : ℕ → Bool) (from orders : List ℕ) (o : OrdersGiven orders z) {ks : List ℕ} (K : AlleleCounts w (z .z .s .n) ks) where
+module _ {w : List ℤ} {b : List ℕ} {rates : Rates} (z : RoundSizes) (G : CaseGiven w b rates (z .s)) (phased : ℕ → Bool) (from orders : List ℕ) (o : OrdersGiven orders z) {ks : List ℕ} (K : AlleleCounts w (z .s .n) ks) where
   abbrev input : RunInput
   input = runInput w b rates phased from orders (z .limit)
 
@@ -234,8 +234,8 @@ module _ {w : List ℤ} {b : List ℕ} {rates : Rates} (z : RoundSizes) (G : Cas
 
 -- ---- the haplotypes and the likelihoods, of which the fronts were lent
 module _ {w : List ℤ} {b : List ℕ} {rates : Rates} (z : RoundSizes) (G : CaseGiven w b rates (z .s)) (phased : ℕ → Bool) (from orders : List ℕ) {before after : SweepState} {r : RoundAnswer} (R : RunMade (runInput w b rates phased from orders (z .limit)) before after r) where
-  abbrev input : RunInput
-  input = runInput w b rates phased from orders (z .limit)
+  abbrev run : RunInput
+  run = runInput w b rates phased from orders (z .limit)
 
   abbrev hap' : List ℕ
   hap' = after .hap
@@ -243,45 +243,45 @@ module _ {w : List ℤ} {b : List ℕ} {rates : Rates} (z : RoundSizes) (G : Cas
   abbrev lik' : List ℤ
   lik' = after .lik
 
-  haps-are : result input .haps ≡ hap'
+  haps-are : result run .haps ≡ hap'
   haps-are = ap (λ x. x .haps) (R .result-is)
 
-  pub haplotypes-written : (l : List ℕ) (a : ℕ) → a ≡ 2 * z .s .n → 2 * z .s .n ≤ length l → length hap' ≡ 2 * z .s .n → hap' ++ drop a l ≡ written (haplotypeAt input) (2 * z .s .n) l
+  pub haplotypes-written : (l : List ℕ) (a : ℕ) → a ≡ 2 * z .s .n → 2 * z .s .n ≤ length l → length hap' ≡ 2 * z .s .n → hap' ++ drop a l ≡ written (haplotypeAt run) (2 * z .s .n) l
   unfolding haplotypeAt
-  haplotypes-written l a w h e = rw w (front-written (haplotypeAt input) 0 (2 * z .s .n) l hap' h e (λ i k. rw haps-are))
+  haplotypes-written l a w h e = rw w (front-written (haplotypeAt run) 0 (2 * z .s .n) l hap' h e (λ i k. rw haps-are))
 
   -- demand 3 of what is returned and written
   pub demand3-written : (l : List ℕ) (a : ℕ) → length hap' ≡ 2 * z .s .n
-      → Demand3 (sweepCase input) (orderOfSweep input) (z .limit) from (resultOf (r .sweeps) (r .settled) (take (2 * z .s .n) (hap' ++ drop a l)))
+      → Demand3 (sweepCase run) (orderOfSweep run) (z .limit) from (resultOf (r .sweeps) (r .settled) (take (2 * z .s .n) (hap' ++ drop a l)))
   demand3-written l a e = rw (take-at hap' (drop a l) (2 * z .s .n) e) (R .demand3)
 
-  fragments-counted : length (sweepCase input .frags) ≡ z .s .f
+  fragments-counted : length (sweepCase run .frags) ≡ z .s .f
   unfolding sweepCase
   fragments-counted =
       cases.frags-length rates phased (decode w b)
       ∙ fragments-are (known G) b
 
   -- a read's likelihood on haplotype 0 or 1
-  first-is : (cs : List Call) → likelihood (sweepCase input .phased) (alleleOn hap' 0) cs ≡ likelihood (sweepCase input .phased) (allele0 hap') cs
-  first-is cs = lik-cong (sweepCase input .phased) (sweepCase input .phased) (alleleOn hap' 0) (allele0 hap') cs (λ v t. refl) (λ v t u. ap (λ (i : ℕ). getD hap' i 0) (omega arith))
+  first-is : (cs : List Call) → likelihood (sweepCase run .phased) (alleleOn hap' 0) cs ≡ likelihood (sweepCase run .phased) (allele0 hap') cs
+  first-is cs = lik-cong (sweepCase run .phased) (sweepCase run .phased) (alleleOn hap' 0) (allele0 hap') cs (λ v t. refl) (λ v t u. ap (λ (i : ℕ). getD hap' i 0) (omega arith))
 
-  likelihood-is : (e b : ℕ) → e % 2 ≡ b → b < 2 → e < 2 * z .s .f → getD lik' e (pos 0) ≡ likelihoodAt input e
+  likelihood-is : (e b : ℕ) → e % 2 ≡ b → b < 2 → e < 2 * z .s .f → getD lik' e (pos 0) ≡ likelihoodAt run e
   unfolding likelihoodAt
   likelihood-is e zero q l h =
       let w : 2 * (e / 2) ≡ e = omega arith in
-      let i : e / 2 < length (sweepCase input .frags) = omega (arith, fragments-counted) in
-      sym (ap (λ (x : ℕ). getD lik' x (pos 0)) w) ∙ R .liks .firsts (e / 2) i ∙ sym (first-is (getD (sweepCase input .frags) (e / 2) [])) ∙ rw (haps-are, q)
+      let i : e / 2 < length (sweepCase run .frags) = omega (arith, fragments-counted) in
+      sym (ap (λ (x : ℕ). getD lik' x (pos 0)) w) ∙ R .liks .firsts (e / 2) i ∙ sym (first-is (getD (sweepCase run .frags) (e / 2) [])) ∙ rw (haps-are, q)
   likelihood-is e (suc zero) q l h =
       let w : 2 * (e / 2) + 1 ≡ e = omega arith in
-      let i : e / 2 < length (sweepCase input .frags) = omega (arith, fragments-counted) in
+      let i : e / 2 < length (sweepCase run .frags) = omega (arith, fragments-counted) in
       sym (ap (λ (x : ℕ). getD lik' x (pos 0)) w) ∙ R .liks .seconds (e / 2) i ∙ rw (haps-are, q)
   likelihood-is e (suc (suc b)) q l h = absurd (omega arith)
 
-  pub likelihoods-written : (l : List ℤ) (a : ℕ) → a ≡ 2 * z .s .f → 2 * z .s .f ≤ length l → lik' ++ drop a l ≡ written (likelihoodAt input) (2 * z .s .f) l
+  pub likelihoods-written : (l : List ℤ) (a : ℕ) → a ≡ 2 * z .s .f → 2 * z .s .f ≤ length l → lik' ++ drop a l ≡ written (likelihoodAt run) (2 * z .s .f) l
   likelihoods-written l a w h =
-      rw w (front-written (likelihoodAt input) (pos 0) (2 * z .s .f) l lik' h (R .liks .long ∙ ap (λ (x : ℕ). 2 * x) fragments-counted) (λ e k. likelihood-is e (e % 2) refl (omega arith) k))
+      rw w (front-written (likelihoodAt run) (pos 0) (2 * z .s .f) l lik' h (R .liks .long ∙ ap (λ (x : ℕ). 2 * x) fragments-counted) (λ e k. likelihood-is e (e % 2) refl (omega arith) k))
 
-  pub returned-is : r ≡ returned input
+  pub returned-is : r ≡ returned run
   unfolding returned
   returned-is = rw (R .result-is, ← R .start-is, ← R .end-is, ← R .source-is)
 

@@ -28,6 +28,9 @@ use Rattle.with_haplotypes.specs.Steps.{Admitted, AlleleCounts, RunGiven
 pub as-long : {X : Type 0} (g : ℕ → X) (n : ℕ) (l l' : List X) → l' ≡ written g n l → length l' ≡ length l
 as-long g n l l' e = ap length e ∙ written-length g n l
 
+pub still-long : {X : Type 0} (g : ℕ → X) (n : ℕ) (l l' : List X) (m : ℕ) → l' ≡ written g n l → m ≤ length l → m ≤ length l'
+still-long g n l l' m e h = omega (arith, as-long g n l l' e)
+
 module _ {input : RoundInput} {z : RoundSizes} (A : Admitted input z) where
   -- the front of the haplotypes, as they are written, are section 5's
   pub start-here : (hap₀ hap : List ℕ) (a : ℕ) → a ≡ 2 * z .s .n → 2 * z .s .n ≤ length hap₀ → hap ≡ written (startAt (input .words) (input .phase)) (2 * z .s .n) hap₀ → take a hap ≡ runOf input .start
@@ -80,7 +83,7 @@ module _ {input : RoundInput} {z : RoundSizes} (A : Admitted input z) where
       subst (λ (h : List ℕ). RunMade (runInput (input .words) (input .bases) (input .rates) (runOf input .phased) h (input .orders) (z .limit)) before after r) e R
 
 -- what is written over what was written there before
-pub written-over : {X : Type 0} (d : X) (g h : ℕ → X) (n : ℕ) (l : List X) → n ≤ length l → written g n (written h n l) ≡ written g n l
+written-over : {X : Type 0} (d : X) (g h : ℕ → X) (n : ℕ) (l : List X) → n ≤ length l → written g n (written h n l) ≡ written g n l
 written-over d g h n l room =
     let long = written-length h n l in
     ext-getD d (written g n (written h n l)) (written g n l) (written-length g n (written h n l) ∙ long ∙ sym (written-length g n l)) (λ i k.
@@ -88,3 +91,6 @@ written-over d g h n l room =
       | yes q ↦ written-at g n (written h n l) d (omega arith) i q ∙ sym (written-at g n l d room i q)
       | no q ↦ written-past g n (written h n l) d i (omega arith) ∙ written-past h n l d i (omega arith) ∙ sym (written-past g n l d i (omega arith))
     ])
+
+pub over : {X : Type 0} (g h : ℕ → X) (n : ℕ) (l l' : List X) (d : X) → l' ≡ written h n l → n ≤ length l → written g n l' ≡ written g n l
+over g h n l l' d e room = ap (written g n) e ∙ written-over d g h n l room

@@ -1,7 +1,7 @@
 -- `call_genotypes_with_haplotypes` meets its contract: each way out is one answer of `RoundAnswers`.
 -- Assumes nothing.
 use mathlib.Core.Path.{_≡_, sym, ap, _∙_}
-use Prim.Native.Nat.{_≤_}
+use Prim.Native.Nat.{ℕ, _≤_}
 use native.Mathlib.Omega.{arith}
 use borrow.Author.Needs.{needs}
 use denote.Ref.{now}
@@ -9,7 +9,7 @@ use lib.ListN.{length}
 use Rattle.variants_and_fragments.specs.declared.Sizes.{Sizes}
 use Rattle.variants_and_fragments.specs.Accepted.{CaseIn}
 use Rattle.variants_and_fragments.specs.Check.{caseOf}
-use Rattle.variants_and_fragments.specs.Refusals.{done}
+use Rattle.variants_and_fragments.specs.Refusals.{Outcome, done}
 use Rattle.variants_and_fragments.proofs.Accepted.{case-in}
 use Rattle.haplotype_assembly.proofs.PhaseAnswers.{case-accepted, case-refused}
 use Rattle.with_haplotypes.specs.Promise.{roundShort, roundChecks}
@@ -32,8 +32,25 @@ inside : (c : tie.After-s) → CaseIn (now (st c .args .words)) (sizes c)
 inside c = case-in _ _ _ (accepted c)
 
 -- what the checks answer, of the lengths of the lent slices
-checked : (c : tie.After-round-checks) → let s = st (c .before .before .before .before .before) in checkedAs (c .round-checks .result) ≡ roundChecks (sizes (c .before .before .before .before .before) .n) (s .args .rates) (now (s .args .phase)) (now (s .args .sets)) (now (s .args .orders)) (s .args .limit) (roundShort (sizes (c .before .before .before .before .before) .n) (sizes (c .before .before .before .before .before) .f) (length (now (s .args .haplotypes))) (length (now (s .args .likelihoods))) (length (now (s .args .posteriors))) (length (now (s .args .quals))) (length (now (s .args .gqs))))
+abbrev checksIs : tie.After-round-checks → Outcome ℕ
+checksIs c =
+    let k = c .before .before .before .before .before in
+    let a = st k .args in
+    roundChecks (sizes k .n) (a .rates) (now (a .phase)) (now (a .sets)) (now (a .orders)) (a .limit) (roundShort (sizes k .n) (sizes k .f) (length (now (a .haplotypes))) (length (now (a .likelihoods))) (length (now (a .posteriors))) (length (now (a .quals))) (length (now (a .gqs))))
+
+checked : (c : tie.After-round-checks) → checkedAs (c .round-checks .result) ≡ checksIs c
 checked c = rw (← c .before .before .round-short .ensures) (c .round-checks .ensures)
+
+-- where the round is called: what the checks answered, and the number of orders
+abbrev checks : tie.After-round-accepted-arg5 → tie.After-round-checks
+checks c = c .before .before .before .before .before .before .before .before
+
+abbrev orders : tie.After-round-accepted-arg5 → tie.After-m
+orders c = c .before .before .before .before .before .before
+
+passed : (c : tie.After-round-accepted-arg5) → checksIs (checks c) ≡ done (orders c .m .given .0 .0)
+unfolding checkedAs
+passed c = sym (ap checkedAs (sym (orders c .m .given .1)) ∙ checked (checks c))
 
 check-case-requires : tie.Need-check-case-requires
 check-case-requires c κs = search needs
@@ -61,10 +78,7 @@ enum-known-m c = search needs
 
 round-accepted-requires : tie.Need-round-accepted-requires
 unfolding checkedAs
-round-accepted-requires c κs =
-    let k = c .before .before .before .before .before .before .before .before .before in
-    let a = admits _ _ _ _ _ (accepted (k .before .before .before .before .before)) (sym (ap checkedAs (sym (c .before .before .before .before .before .before .before .m .given .1)) ∙ checked k)) in
-    ((k .before .before .before .table .ensures, a .0), a .1)
+round-accepted-requires c κs = admits _ _ _ _ _ (accepted (checks c .before .before .before .before .before)) (passed c)
 
 returns : tie.Need-returns
 returns c = answer-case _ _ _ _ (case-refused _ _ _ _ (c .before .before .before .check-case .ensures) (c .before .x .given .1))
@@ -91,8 +105,8 @@ same-length-5 c = search needs
 returns-3 : tie.Need-returns-3
 unfolding checkedAs
 returns-3 c =
-    let k = c .before .before .before .before .before .before .before .before .before .before .before .before .before .before .before .before .before .before in
-    answer-done _ _ _ _ _ (accepted (k .before .before .before .before .before)) (sym (ap checkedAs (sym (c .before .before .before .before .before .before .before .before .before .before .before .before .before .before .before .before .m .given .1)) ∙ checked k)) _ _ (c .before .before .before .before .before .before .before .before .round-accepted .ensures)
+    let r = c .before .before .before .before .before .before .before .before in
+    answer-done _ _ _ _ _ (accepted (checks (r .before) .before .before .before .before .before)) (passed (r .before)) _ _ (r .round-accepted .ensures)
 
 pub call-genotypes-with-haplotypes-spec : {M : Type 1} → statement M
 call-genotypes-with-haplotypes-spec =

@@ -9,11 +9,12 @@ use native.Mathlib.Omega.{arith}
 use denote.Ref.{now}
 use lib.ListN.{length, take}
 use Rattle.variants_and_fragments.specs.Accepted.{CaseIn}
+use Rattle.variants_and_fragments.proofs.Written.{written-length}
 use Rattle.call_genotypes.specs.Scores.{sweepState}
 use Rattle.with_haplotypes.specs.Round.{runInput, roundInput, runOf}
 use Rattle.with_haplotypes.specs.Steps.{RunGiven, RunMade}
 use Rattle.with_haplotypes.proofs.RunLaws.{known}
-use Rattle.with_haplotypes.proofs.StartLaws.{as-long, start-here, flags-here, given-here, written-over}
+use Rattle.with_haplotypes.proofs.StartLaws.{as-long, still-long, over, start-here, flags-here, given-here, run-here}
 use Rattle.with_haplotypes.proofs.FinishLaws as finish
 use Rattle.with_haplotypes.proofs.accepted.round_accepted.Statement.{statement}
 use Rattle.with_haplotypes.proofs.accepted.round_accepted.Tie as tie
@@ -40,7 +41,6 @@ at c = known (st c .pre .0 .given)
 -- a front that is lent from 0 on
 lent : (n : ℕ) → n - 0 ≡ n
 lent n = omega arith
-
 
 zeros-requires : tie.Need-zeros-requires
 zeros-requires c κs = search needs
@@ -118,28 +118,29 @@ table-requires : tie.Need-table-requires
 table-requires c κs = search needs
 
 slice-aggregate-normalize-all : tie.Need-slice-aggregate-normalize-all
-slice-aggregate-normalize-all c = ?
+slice-aggregate-normalize-all c =
+    let k = counts (flags (phase (c .before .before .before .before .before .before .before .before))) in
+    sym (as-long _ _ _ _ (k .write-allele-counts .ensures) ∙ k .before .before .zeros .ensures)
 
 normalize-all-requires : tie.Need-normalize-all-requires
+unfolding run-in-scratch-requires
 normalize-all-requires c κs =
     let r = c .before .before .before .before .before .before .before .before in
     let s = start (r .before) in
     let R = run-here (s .pre .0) (start-here (s .pre .0) _ _ _ (lent _) (s .pre .1 .haplotypes-long) (phase (r .before) .write-phase .ensures .0)) (r .run-in-scratch .ensures _ (run-in-scratch-requires (r .before) (r .run-in-scratch .lifetimes) .holds)) in
-    (c .before .before .before .table .ensures, finish.tables-at _ (s .pre .0 .given) _ _ _ (s .pre .0 .good-orders) (run-in-scratch-requires (r .before) (r .run-in-scratch .lifetimes) .holds .counts) R (s .pre .1 .posteriors-long))
+    (c .before .before .before .table .ensures, finish.tables-at (s .args .z) (s .pre .0 .given) _ _ _ (s .pre .0 .good-orders) (run-in-scratch-requires (r .before) (r .run-in-scratch .lifetimes) .holds .counts) R (s .pre .1 .posteriors-long))
 
 write-finals-requires : tie.Need-write-finals-requires
+unfolding run-in-scratch-requires
 write-finals-requires c κs =
     let n = c .before .before .before .before .before in
     let r = n .before .before .before .before .before .before .before .before .before in
     let s = start (r .before) in
     let R = run-here (s .pre .0) (start-here (s .pre .0) _ _ _ (lent _) (s .pre .1 .haplotypes-long) (phase (r .before) .write-phase .ensures .0)) (r .run-in-scratch .ensures _ (run-in-scratch-requires (r .before) (r .run-in-scratch .lifetimes) .holds)) in
     let room = s .pre .1 in (
-      (n .before .before .before .before .table .ensures, known (s .pre .0 .given) .sized, finish.tables-in _ (s .pre .0 .given) _ _ _ (s .pre .0 .good-orders) (run-in-scratch-requires (r .before) (r .run-in-scratch .lifetimes) .holds .counts) R (room .posteriors-long) (n .normalize-all .ensures)),
+      (n .before .before .before .before .table .ensures, known (s .pre .0 .given) .sized, finish.tables-in (s .args .z) (s .pre .0 .given) _ _ _ (s .pre .0 .good-orders) (run-in-scratch-requires (r .before) (r .run-in-scratch .lifetimes) .holds .counts) R (room .posteriors-long) (n .normalize-all .ensures)),
       (room .quals-long, room .gqs-long),
     )
-
-same-length : tie.Need-same-length
-same-length c = ?
 
 same-length-2 : tie.Need-same-length-2
 same-length-2 c = search needs
@@ -154,9 +155,10 @@ same-length-5 : tie.Need-same-length-5
 same-length-5 c = search needs
 
 returns : tie.Need-returns
+unfolding run-in-scratch-requires
 returns c =
     let F = c .before .before .before .before .write-finals .ensures in
-    let n = c .before .before .before .before .before .before .before .before .before in
+    let n = c .before .before .before .before .before .before .before .before .before .before in
     let r = n .before .before .before .before .before .before .before .before .before in
     let s = start (r .before) in
     let w = phase (r .before) in
@@ -165,16 +167,22 @@ returns c =
     let K = run-in-scratch-requires (r .before) (r .run-in-scratch .lifetimes) .holds .counts in
     let room = s .pre .1 in
     let R = run-here (s .pre .0) (start-here (s .pre .0) _ _ _ (lent _) (s .pre .1 .haplotypes-long) (phase (r .before) .write-phase .ensures .0)) (r .run-in-scratch .ensures _ (run-in-scratch-requires (r .before) (r .run-in-scratch .lifetimes) .holds)) in
-    let long = w .write-phase .ensures .0 in
+    let e = w .write-phase .ensures .0 in
+    let front = still-long _ _ _ _ (2 * s .args .z .s .n) e (room .haplotypes-long) in
+    let long = r .run-in-scratch .kept .1 .1 .1 .1 .1 .1 .1 .0 ∙ finish.part-long _ _ _ (lent (2 * s .args .z .s .n)) front in
     record {
-      returned-is = finish.returned-is _ g _ _ _ R;
-      haplotypes-are = ?;
-      likelihoods-are = finish.likelihoods-written _ g _ _ _ R _ _ (lent (2 * s .args .z .s .f)) (room .likelihoods-long);
-      posteriors-are = finish.posteriors-written _ g _ _ _ o K R (room .posteriors-long) (n .normalize-all .ensures);
-      quals-are = finish.quals-written _ g _ _ _ o K R (room .posteriors-long) (n .normalize-all .ensures) F;
-      gqs-are = finish.gqs-written _ g _ _ _ o K R (room .posteriors-long) (n .normalize-all .ensures) F;
-      demand3 = ?;
+      returned-is = finish.returned-is (s .args .z) g _ _ _ R;
+      haplotypes-are = finish.haplotypes-written (s .args .z) g _ _ _ R _ _ (lent (2 * s .args .z .s .n)) front long ∙ over _ _ _ _ _ 0 e (room .haplotypes-long);
+      likelihoods-are = finish.likelihoods-written (s .args .z) g _ _ _ R _ _ (lent (2 * s .args .z .s .f)) (room .likelihoods-long);
+      posteriors-are = finish.posteriors-written (s .args .z) g _ _ _ o K R (room .posteriors-long) (n .normalize-all .ensures);
+      quals-are = finish.quals-written (s .args .z) g _ _ _ o K R (room .posteriors-long) (n .normalize-all .ensures) F;
+      gqs-are = finish.gqs-written (s .args .z) g _ _ _ o K R (room .posteriors-long) (n .normalize-all .ensures) F;
+      demand3 = finish.demand3-written (s .args .z) g _ _ _ R _ (2 * s .args .z .s .n - 0) long;
     }
+
+same-length : tie.Need-same-length
+unfolding returns
+same-length c = ap length (returns c .haplotypes-are) ∙ written-length _ _ _
 
 pub round-accepted-spec : {M : Type 1} → statement M
 round-accepted-spec =

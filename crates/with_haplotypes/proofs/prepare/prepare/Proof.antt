@@ -16,7 +16,6 @@ tab c = c .before .before .before .before .before
 abbrev piled : tie.After-make-priors-arg → tie.After-pile-calls
 piled c = c .before .before .before .before .before .before .before .before .before .before .before
 
-
 table-requires : tie.Need-table-requires
 table-requires c κs = search needs
 

@@ -23,7 +23,6 @@ first c = c .before .before .before .before .before
 abbrev ran : tie.After-ones → tie.After-run-sweeps
 ran c = c .before .before .before .before .before
 
-
 table-requires : tie.Need-table-requires
 table-requires c κs = search needs
 

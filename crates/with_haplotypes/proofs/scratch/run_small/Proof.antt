@@ -16,7 +16,6 @@ made c = c .before .before .before .before .before
 abbrev prep : tie.After-run-prepared-arg3 → tie.After-prepare
 prep c = c .before .before .before .before .before .before .before .before .before .before .before .before .before
 
-
 few-call-words-requires : tie.Need-few-call-words-requires
 few-call-words-requires c κs = search needs
 
