@@ -30,9 +30,9 @@ use variants_and_fragments::Sizes;
 use variants_and_fragments::check_case;
 use variants_and_fragments::layout;
 
-pub mod answer;
-pub mod scores;
-pub mod tally;
+mod answer;
+mod scores;
+mod tally;
 
 // The answer of the operation.
 pub enum Called {
@@ -107,13 +107,7 @@ fn call_variants(
 }
 
 // The piles of an accepted case, where each ends, and how many calls at each variant are ambiguous.
-fn pile_up(
-    words: &[i32],
-    s: Sizes,
-    ambiguous: &mut [usize],
-    ends: &mut [usize],
-    piles: &mut [u64],
-)
+fn pile_up(words: &[i32], s: Sizes, ambiguous: &mut [usize], ends: &mut [usize], piles: &mut [u64])
     requires { ⌜ CaseIn (now words) s × FewCalls (now words) ⌝ }
     requires { ⌜ (s .n ≤ length (now ambiguous)) × (s .n ≤ length (now ends)) × (s .c ≤ length (now piles)) ⌝ }
     ensures { λ _. ⌜ Piled (now (words .entry)) s (now (ambiguous .exit)) (now (ends .exit)) (now (piles .exit)) ⌝ }
@@ -145,7 +139,16 @@ fn call_accepted(
     let mut post = nine_each();
     make_priors(t, words, s, bases, rates, &mut post);
     call_variants(
-        t, words, s, &ambiguous, &ends, &piles, &mut post, variants, quals, gqs,
+        t,
+        words,
+        s,
+        &ambiguous,
+        &ends,
+        &piles,
+        &mut post,
+        variants,
+        quals,
+        gqs,
     );
 }
 
