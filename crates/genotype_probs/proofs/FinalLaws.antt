@@ -1,8 +1,8 @@
 -- The sum over the pairs other than a called one and its mirror, as a loop goes through it, and its size.
 -- Assumes nothing.
-use mathlib.Core.Path.{_≡_, refl, sym, ap, _∙_}
+use mathlib.Core.Path.{_≡_, refl, _∙_}
 use mathlib.Core.Bool.{Bool, true, false, cond}
-use mathlib.Core.List.{List, [], _∷_, map}
+use mathlib.Core.List.{List, map}
 use Prim.Native.Nat.{ℕ, _+_, _*_, _-_, _^_, _≤_, _<_}
 use native.Mathlib.Omega.{arith}
 use borrow.Author.Tests.{eq-eqb, ne-eqb}
@@ -10,7 +10,7 @@ use lib.IntN.{ℤ, pos, natAbs}
 use lib.ListN.{getD}
 use Rattle.steps.specs.Logs.{Log, mark, steps, lnAddExp, lnSumFrom, lnSumExp, size}
 use Rattle.steps.proofs.Marks.{log-size, size-steps}
-use Rattle.variants_and_fragments.specs.Decode.{tabulateFrom, tabulate}
+use Rattle.variants_and_fragments.specs.Decode.{tabulateFrom}
 use Rattle.variants_and_fragments.specs.Pileup.{only}
 use Rattle.variants_and_fragments.proofs.Tabulated.{table-start, table-more, table-end}
 use Rattle.genotype_probs.specs.Posteriors.{mirror, isOther, others, otherSum}

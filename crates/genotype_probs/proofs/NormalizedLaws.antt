@@ -1,12 +1,10 @@
 -- Number 12 is never given: the sum of row sums of a normalised table is 0.
 -- Assumes nothing.
-use mathlib.Core.Path.{_≡_, refl, sym, ap, _∙_}
-use mathlib.Core.Bool.{true}
+use mathlib.Core.Path.{_≡_, refl, sym, ap}
 use mathlib.Core.List.{List}
 use Prim.Native.Nat.{ℕ, _*_, _≤_, _<_}
 use lib.IntN.{ℤ, pos}
 use lib.ListN.{getD}
-use Rattle.variants_and_fragments.specs.First.{firstFail}
 use Rattle.variants_and_fragments.proofs.First.{first-end}
 use Rattle.genotype_probs.specs.Posteriors.{tableSum, normalized}
 use Rattle.genotype_probs.proofs.TableSums.{normal-sum}

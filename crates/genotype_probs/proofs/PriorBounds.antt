@@ -1,22 +1,22 @@
 -- How far below 0 the priors lie: a rate at most 262,144 steps, a letter's value at most twice that, an entry of the table at most four times
 -- that, and a prior at most 4,096 more. Assumes nothing.
-use mathlib.Core.Path.{_≡_, _∙_}
+use mathlib.Core.Path.{_≡_}
 use mathlib.Core.List.{List}
 use mathlib.Core.Bool.{Bool, true, false, cond}
-use Prim.Native.Nat.{ℕ, _+_, _*_, _/_, _%_, _≤_, _<_}
+use Prim.Native.Nat.{ℕ, _+_, _*_, _/_, _%_, _≤_}
 use native.Mathlib.Omega.{arith}
 use lib.Dec.{eqb, ltb}
 use lib.IntN.{ℤ, pos, natAbs, _+ℤ_}
 use lib.ListN.{getD, List·getD-eq-default}
 use lib.Signed.{_≤ℤ_}
 use Rattle.steps.proofs.Signed.{cases, zlin, up-pos, dn-pos, parts-add, add-abs}
-use Rattle.variants_and_fragments.specs.Case.{Case, Variant, alleleCount, alleleOf, variantOf}
+use Rattle.variants_and_fragments.specs.Case.{Variant, alleleCount, alleleOf}
 use Rattle.variants_and_fragments.specs.Decode.{tabulate}
 use Rattle.variants_and_fragments.proofs.Decoded.{tabulate-length, tabulate-at}
 use Rattle.genotype_probs.specs.declared.Rates.{Rates}
 use Rattle.genotype_probs.specs.Rates.{homSnv, hetSnv, homIndel, hetIndel, tsRate, tvRate, rateOk, rateSum}
 use Rattle.genotype_probs.specs.Letters.{letterOf, compared}
-use Rattle.genotype_probs.specs.Priors.{lnHalf, lnQuarter, oneMinusExp, isIndel, transition, change, letterValue, haploid, homozygous, diploid, tableEntry, priorTable, tableIndex, tableValue, lookup, getPrior, allPriors, priorAt}
+use Rattle.genotype_probs.specs.Priors.{lnHalf, lnQuarter, oneMinusExp, isIndel, transition, change, letterValue, haploid, homozygous, diploid, tableEntry, priorTable, tableIndex, tableValue, lookup, getPrior, allPriors}
 use Rattle.genotype_probs.proofs.RateLaws.{rate-size, rate-below, RatesIn, below-sum, Finite, one-minus-finite}
 
 -- z is at most 0, and at most n steps down

@@ -8,17 +8,13 @@ use native.Mathlib.Numerals.{add-one}
 use native.Mathlib.Omega.{arith}
 use borrow.Author.Tests.{lt-ltb}
 use lib.IntN.{ℤ, pos, negℤ, natAbs, _+ℤ_, _-ℤ_}
-use lib.ListN.{getD, drop}
-use lib.Seq.{getD-drop}
+use lib.ListN.{getD}
 use Rattle.steps.specs.Logs.{addExp, sumExp}
 use Rattle.steps.proofs.Signed.{zlin, parts-minus, up-pos, dn-pos}
 use Rattle.steps.proofs.AddExp.{add-size}
 use Rattle.steps.proofs.Sums.{sum-shift}
 use Rattle.variants_and_fragments.specs.Decode.{tabulateFrom, tabulate}
-use Rattle.genotype_probs.specs.Places.{writtenFrom}
-use Rattle.genotype_probs.specs.Posteriors.{TableAt, sumOf, entryAt, rowSum, tableSum, normalized}
-use Rattle.genotype_probs.proofs.Places.{from-at}
-use Rattle.genotype_probs.proofs.AlleleLaws.{nine}
+use Rattle.genotype_probs.specs.Posteriors.{sumOf, entryAt, rowSum, tableSum, normalized}
 
 -- ---- lists of a function's values
 from-cong : {X : Type 0} (f g : ℕ → X) (i k : ℕ) → ((j : ℕ) → j < i + k → f j ≡ g j) → tabulateFrom f i k ≡ tabulateFrom g i k

@@ -2,7 +2,7 @@
 -- Assumes nothing.
 use mathlib.Core.Path.{_≡_, refl, sym, ap, _∙_}
 use mathlib.Core.Bool.{Bool, true, false, cond, _&&_, _||_}
-use mathlib.Core.List.{List, [], _∷_}
+use mathlib.Core.List.{List}
 use Prim.Native.Nat.{ℕ, zero, suc, _+_, _*_, _-_, _/_, _%_, _^_, _≤_, _<_}
 use native.Mathlib.Omega.{arith}
 use lib.Dec.{eqb}
@@ -11,7 +11,7 @@ use lib.IntN.{ℤ, pos, natAbs}
 use lib.ListN.{length, getD, drop, set}
 use lib.Seq.{getD-drop}
 use lib.Signed.{leZ, ltZ}
-use Rattle.steps.specs.Logs.{steps, addExp}
+use Rattle.steps.specs.Logs.{steps}
 use Rattle.steps.specs.OneMinus.{lnOneMinusExp}
 use Rattle.steps.specs.Phred.{phredOf, capped}
 use Rattle.steps.proofs.AddExp.{add-size}
@@ -34,7 +34,7 @@ use Rattle.genotype_probs.proofs.Maxima.{genotype-maximum}
 use Rattle.genotype_probs.proofs.TableSums.{tabulate-cong, place-in, pair-in}
 use Rattle.genotype_probs.proofs.SameTables.{post-same, genotype-same}
 use Rattle.no_haplotypes.specs.declared.tally.Pile.{Pile}
-use Rattle.no_haplotypes.specs.NoHaplotypes.{rowStrand, calledFrom, qualFrom, gqFrom, alleleCalls, strandCalls, callsAt, depthAfter, answerFrom}
+use Rattle.no_haplotypes.specs.NoHaplotypes.{rowStrand, calledFrom, qualFrom, gqFrom, strandCalls, callsAt, depthAfter, answerFrom}
 use Rattle.no_haplotypes.specs.Tally.{pileRows, shownOn, scoredFrom, posteriorsFrom, PosteriorsMade}
 use Rattle.no_haplotypes.specs.Calling.{PileHeld, answerValues, larger, madeFrom, VariantCalled}
 use Rattle.no_haplotypes.proofs.CountLaws.{only-same, all-calls, forward-reverse, case-strands}

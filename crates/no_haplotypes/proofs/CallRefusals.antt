@@ -1,10 +1,9 @@
 -- The answers of `call_genotypes_no_haplotypes`, one law for each row of the table that it goes by, and one for what is written.
 -- Assumes nothing.
-use mathlib.Core.Path.{_≡_, refl, sym, ap, _∙_}
-use mathlib.Core.Bool.{false, _&&_, and-false}
+use mathlib.Core.Path.{_≡_, refl, sym}
+use mathlib.Core.Bool.{_&&_, and-false}
 use mathlib.Core.List.{List}
-use Prim.Native.Nat.{ℕ, _+_, _*_, _≤_, _<_}
-use native.Mathlib.Nat.{le-refl}
+use Prim.Native.Nat.{ℕ, _*_, _≤_, _<_}
 use native.Mathlib.Omega.{arith}
 use borrow.Author.Tests.{le-leb, lt-leb, eq-eqb, ne-eqb}
 use lib.Dec.{leb, eqb}
@@ -20,8 +19,7 @@ use Rattle.variants_and_fragments.specs.Case.{alleleCount, variantOf}
 use Rattle.variants_and_fragments.specs.Check.{caseOf}
 use Rattle.variants_and_fragments.specs.Check as check
 use Rattle.variants_and_fragments.specs.Decode.{tabulate, decode}
-use Rattle.variants_and_fragments.specs.Refusals.{Outcome, done, number, place, andThen, unless, stop, afterwards}
-use Rattle.variants_and_fragments.specs.Written.{written}
+use Rattle.variants_and_fragments.specs.Refusals.{Outcome, done, andThen, unless, stop, afterwards}
 use Rattle.variants_and_fragments.proofs.Accepted.{case-in, bases-in}
 use Rattle.variants_and_fragments.proofs.Decoded.{variants-are, allele-count-is, tabulate-at}
 use Rattle.variants_and_fragments.proofs.Outcomes.{stop-on}

@@ -27,7 +27,7 @@ use Rattle.variants_and_fragments.proofs.Written.{written-at, written-length}
 use Rattle.pileup.specs.Packed.{Grouped}
 use Rattle.pileup.proofs.Groups.{group-rows, group-in}
 use Rattle.genotype_probs.specs.declared.Rates.{Rates}
-use Rattle.genotype_probs.specs.Priors.{priorTable, getPrior, allPriors, priorAt}
+use Rattle.genotype_probs.specs.Priors.{priorTable, allPriors, priorAt}
 use Rattle.genotype_probs.specs.Rates.{ratesFault}
 use Rattle.genotype_probs.proofs.PriorSizes.{prior-small}
 use Rattle.genotype_probs.proofs.TableSizes.{by-cond}

@@ -1,21 +1,21 @@
 -- The counts of a variant: those of both strands are those of the allele, those of the alleles and the ambiguous ones are all its calls.
 -- Assumes nothing.
-use mathlib.Core.Path.{_≡_, refl, sym, ap, _∙_}
-use mathlib.Core.Bool.{Bool, true, false, not, cond, _&&_, and-false}
+use mathlib.Core.Path.{_≡_, refl, ap}
+use mathlib.Core.Bool.{Bool, true, false, not, _&&_, and-false}
 use mathlib.Core.List.{List, [], _∷_, _++_, map}
-use Prim.Native.Nat.{ℕ, zero, suc, _+_, _*_, _≤_, _<_}
+use Prim.Native.Nat.{ℕ, suc, _+_, _≤_, _<_}
 use native.Mathlib.Decide.{ℕ-discrete}
 use native.Mathlib.Omega.{arith}
 use borrow.Author.Tests.{eq-eqb, ne-eqb}
 use lib.Dec.{eqb}
 use lib.IntN.{ℤ}
-use lib.ListN.{length, getD, List·getD-eq-default}
+use lib.ListN.{length, List·getD-eq-default}
 use Rattle.steps.proofs.Signed.{by-test, cases}
 use Rattle.variants_and_fragments.specs.declared.Sizes.{Sizes}
 use Rattle.variants_and_fragments.specs.Accepted.{CaseIn}
 use Rattle.variants_and_fragments.specs.Case.{Case, Call, Fragment, usable, fragmentOf, noFragment, All, end, also, GoodCall, GoodFragment, GoodCase}
 use Rattle.variants_and_fragments.specs.Decode.{decode}
-use Rattle.variants_and_fragments.specs.Pileup.{Row, rowOf, only, usableCalls, rowsFrom, rowsOf, atVariant, pileOf, ambiguousAt, ambiguousIn, ambiguousFrom, ambiguousCount}
+use Rattle.variants_and_fragments.specs.Pileup.{Row, rowOf, only, usableCalls, rowsFrom, rowsOf, atVariant, pileOf, ambiguousIn, ambiguousFrom, ambiguousCount}
 use Rattle.variants_and_fragments.specs.Sums.{countOver}
 use Rattle.variants_and_fragments.proofs.Alls.{all-imp, all-map}
 use Rattle.variants_and_fragments.proofs.Decoded.{fragments-are, strand-is}

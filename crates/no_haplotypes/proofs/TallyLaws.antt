@@ -1,7 +1,7 @@
 -- What one pass over a pile adds up: one more row at a time, and how small it is.
 -- Assumes nothing.
 use mathlib.Core.Path.{_≡_, refl, sym, ap, _∙_}
-use mathlib.Core.Bool.{Bool, true, false, cond}
+use mathlib.Core.Bool.{false, cond}
 use mathlib.Core.List.{List, [], _∷_, _++_}
 use Prim.Native.Nat.{ℕ, zero, suc, _+_, _*_, _-_, _/_, _%_, _^_, _≤_, _<_}
 use native.Mathlib.Decide.{ℕ-discrete}
@@ -9,8 +9,8 @@ use native.Mathlib.Nat.{le-refl}
 use native.Mathlib.Omega.{arith}
 use borrow.Author.Tests.{eq-eqb, ne-eqb}
 use lib.Dec.{eqb}
-use lib.IntN.{ℤ, pos, natAbs, _+ℤ_, _-ℤ_, +ℤ-idr}
-use lib.ListN.{length, getD, set, replicate, length-set, getD-replicate}
+use lib.IntN.{ℤ, pos, natAbs, _+ℤ_, +ℤ-idr}
+use lib.ListN.{length, getD, set, length-set, getD-replicate}
 use lib.Seq.{getD-set-same, getD-set-other}
 use Rattle.steps.proofs.AddExp.{add-size}
 use Rattle.steps.proofs.Signed.{add-abs, minus-abs, cases}
@@ -27,7 +27,7 @@ use Rattle.genotype_probs.proofs.ListLaws.{sum-last, table-length, table-last, 
 use Rattle.genotype_probs.proofs.TableSizes.{by-cond}
 use Rattle.no_haplotypes.specs.declared.tally.Pile.{Pile}
 use Rattle.no_haplotypes.specs.NoHaplotypes.{mixed}
-use Rattle.no_haplotypes.specs.Tally.{pileRows, PileIn, rowQual, bothGain, oneGain, gainAt, shownOn, countPlace, GainsIn, CountsIn, added, CallAdded, Untouched, Tallied, SumsIn}
+use Rattle.no_haplotypes.specs.Tally.{pileRows, PileIn, rowQual, bothGain, oneGain, gainAt, shownOn, countPlace, CountsIn, added, CallAdded, Untouched, Tallied, SumsIn}
 use Rattle.no_haplotypes.proofs.CountLaws.{only-none, only-in, only-out, only-append}
 
 -- ---- the rows, one more at a time

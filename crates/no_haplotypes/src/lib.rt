@@ -30,9 +30,9 @@ use variants_and_fragments::Sizes;
 use variants_and_fragments::check_case;
 use variants_and_fragments::layout;
 
-pub mod answer;
-pub mod scores;
-pub mod tally;
+mod answer;
+mod scores;
+mod tally;
 
 // The answer of the operation.
 pub enum Called {

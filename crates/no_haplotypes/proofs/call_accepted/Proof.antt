@@ -1,10 +1,6 @@
 -- `call_accepted` meets its contract: the piles, the priors, and the variants called from both.
 -- Assumes nothing.
-use mathlib.Core.Path.{_≡_}
-use Prim.Native.Nat.{_*_, _≤_}
-use native.Mathlib.Omega.{arith}
 use denote.Ref.{now}
-use Rattle.no_haplotypes.specs.Calling.{Piled, PriorsIn}
 use Rattle.no_haplotypes.proofs.Calling.{priors-in, accepted-called}
 use borrow.Author.Needs.{needs}
 use Rattle.no_haplotypes.proofs.call_accepted.Statement.{statement}

@@ -1,8 +1,6 @@
 -- `call_genotypes_no_haplotypes` meets its contract: each way out is one row of the table, or the answers written.
 -- Assumes nothing.
 use mathlib.Core.Path.{_≡_, sym, ap, _∙_}
-use Prim.Native.Nat.{_*_, _≤_, _<_}
-use native.Mathlib.Omega.{arith}
 use denote.Ref.{now}
 use Rattle.variants_and_fragments.specs.declared.Checked.the-variants.{Accepted, Refused}
 use Rattle.variants_and_fragments.specs.Check.{outcomeOf, caseOf}

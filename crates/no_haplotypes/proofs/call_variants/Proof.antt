@@ -1,11 +1,8 @@
 -- `call_variants` meets its contract. The loop's invariant: the variants before v are called.
 -- Assumes nothing.
-use mathlib.Core.Path.{_≡_}
 use mathlib.Core.List.{[]}
-use Prim.Native.Nat.{ℕ, _+_, _*_, _-_, _≤_, _<_}
+use Prim.Native.Nat.{_-_}
 use native.Mathlib.Omega.{arith}
-use denote.Ref.{now}
-use lib.ListN.{length}
 use Rattle.no_haplotypes.proofs.CallRuns.{CallingTo, calling-start, variants-long, quals-long, gqs-long, priors-at, calling-on, calling-end}
 use Rattle.no_haplotypes.proofs.Calling.{pile-held}
 use Rattle.no_haplotypes.proofs.call_variants.Statement.{statement}

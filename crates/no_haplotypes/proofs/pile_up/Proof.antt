@@ -1,7 +1,5 @@
 -- `pile_up` meets its contract: the scratch is long enough for any case.
 -- Assumes nothing.
-use mathlib.Core.Path.{_≡_}
-use Prim.Native.Nat.{_≤_}
 use native.Mathlib.Omega.{arith}
 use borrow.Author.Needs.{needs}
 use Rattle.no_haplotypes.proofs.pile_up.Statement.{statement}

@@ -1,6 +1,6 @@
 -- `case_priors::make_priors` meets its contract: the table of accepted rates is small.
 -- Assumes nothing.
-use mathlib.Core.Path.{_≡_, sym, ap, _∙_}
+use mathlib.Core.Path.{ap, _∙_}
 use mathlib.Core.List.{List}
 use Prim.Native.Nat.{_*_}
 use denote.Ref.{now}

@@ -1,22 +1,20 @@
 -- `posteriors::other_sum` meets its contract. The loop's invariant: `sum` is that of the other pairs before q.
 -- Assumes nothing.
-use mathlib.Core.Path.{_≡_, refl, sym, ap, _∙_}
-use Prim.Native.Nat.{ℕ, _+_, _*_, _-_, _/_, _%_, _^_, _≤_, _<_}
-use native.Mathlib.Nat.{mod-lt}
+use mathlib.Core.Path.{_≡_, sym, ap, _∙_}
+use Prim.Native.Nat.{_+_, _*_, _-_, _/_, _%_, _<_}
 use native.Mathlib.Omega.{arith}
-use borrow.Author.Needs.{needs}
 use denote.Ref.{now}
-use lib.IntN.{ℤ, pos, natAbs}
+use lib.IntN.{pos, natAbs}
 use lib.ListN.{length, drop, getD}
 use lib.Seq.{getD-drop}
 use mir.Syntax.{w64}
 use mir.Val.{toZ, ofZ}
-use Rattle.steps.specs.Logs.{logOf, size}
+use Rattle.steps.specs.Logs.{logOf}
 use Rattle.steps.proofs.Marks.{of-least}
 use Rattle.steps.proofs.Signed.{read-back, read-small}
 use Rattle.genotype_probs.proofs.AlleleLaws.{nine}
 use Rattle.genotype_probs.proofs.TableSums.{place-in, pair-in}
-use Rattle.genotype_probs.specs.Posteriors.{mirror, otherSum}
+use Rattle.genotype_probs.specs.Posteriors.{mirror}
 use Rattle.genotype_probs.proofs.FinalLaws.{Adding, adding-start, adding-more, adding-end}
 use Rattle.genotype_probs.proofs.posteriors.other_sum.Statement.{statement}
 use Rattle.genotype_probs.proofs.posteriors.other_sum.Tie as tie

@@ -1,9 +1,8 @@
 -- `answer::answer_value` meets its contract: each way out is one number of the 13.
 -- Assumes nothing.
-use Prim.Native.Nat.{ℕ, _+_, _-_, _≤_, _<_}
+use Prim.Native.Nat.{_+_, _-_}
 use native.Mathlib.Omega.{arith}
 use denote.Ref.{now}
-use lib.ListN.{getD}
 use Rattle.no_haplotypes.proofs.AnswerLaws.{first-value, second-value, sum-value, strand-value, ambiguous-value, depth-value}
 use borrow.Author.Needs.{needs}
 use Rattle.no_haplotypes.proofs.answer.answer_value.Statement.{statement}

@@ -1,10 +1,10 @@
 -- `answer::qual_of` meets its contract: the entry is no mark.
 -- Assumes nothing.
 use mathlib.Core.Path.{_≡_, sym, ap, _∙_}
-use Prim.Native.Nat.{ℕ, _+_, _^_, _≤_, _<_}
+use Prim.Native.Nat.{ℕ, _+_}
 use native.Mathlib.Omega.{arith}
 use denote.Ref.{now}
-use lib.IntN.{ℤ, pos, natAbs}
+use lib.IntN.{ℤ, pos}
 use lib.ListN.{getD, drop}
 use lib.Seq.{getD-drop}
 use mir.Syntax.{w64}

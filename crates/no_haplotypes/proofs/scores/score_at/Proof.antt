@@ -1,17 +1,15 @@
 -- `scores::score_at` meets its contract: the pair of place p is one of the k × k, and the sum is small.
 -- Assumes nothing.
-use mathlib.Core.Path.{_≡_, sym, ap, _∙_}
-use Prim.Native.Nat.{ℕ, _+_, _*_, _/_, _%_, _^_, _≤_, _<_}
+use mathlib.Core.Path.{ap, _∙_}
+use Prim.Native.Nat.{_+_, _*_, _^_, _<_}
 use native.Mathlib.Omega.{arith}
 use borrow.Author.Tests.{lt-ltb, le-ltb}
-use denote.Ref.{now}
 use lib.IntN.{ℤ, natAbs, _+ℤ_}
 use mir.Syntax.{w64}
 use mir.Facts.{toZ-ofZ}
 use Rattle.steps.proofs.Signed.{plus-fits, plus-read}
 use Rattle.genotype_probs.proofs.AlleleLaws.{nine}
 use Rattle.genotype_probs.proofs.TableSums.{pair-in}
-use Rattle.no_haplotypes.specs.Tally.{pairGain}
 use borrow.Author.Needs.{needs}
 use Rattle.no_haplotypes.proofs.scores.score_at.Statement.{statement}
 use Rattle.no_haplotypes.proofs.scores.score_at.Tie as tie

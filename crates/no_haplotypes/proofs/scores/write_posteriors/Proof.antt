@@ -1,8 +1,7 @@
 -- `scores::write_posteriors` meets its contract: the pass over the pile, the scores, and their sum taken off.
 -- Assumes nothing.
-use mathlib.Core.Path.{_≡_, refl}
+use mathlib.Core.Path.{refl}
 use Prim.Native.Nat.{_≤_}
-use native.Mathlib.Omega.{arith}
 use mir.Syntax.{w64}
 use Rattle.steps.proofs.Signed.{read-back}
 use Rattle.no_haplotypes.proofs.TallyLaws.{pile-sums, pile-counts}
