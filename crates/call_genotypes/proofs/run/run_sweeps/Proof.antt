@@ -1,7 +1,8 @@
 -- `call_genotypes::run::run_sweeps` meets its contract. The loop's invariant: the sweeps that are left give the whole run. Assumes nothing.
-use mathlib.Core.Path.{sym, _∙_}
+use mathlib.Core.Path.{_≡_, refl}
 use Prim.Native.Nat.{_+_, _-_, _*_, _%_, _≤_}
 use native.Mathlib.Omega.{arith}
+use borrow.Author.Needs.{needs}
 use borrow.Author.Tests.{not-true, not-false}
 use lib.ListN.{length}
 use Rattle.sweeps.specs.Sweeps.{SweepCase}
@@ -14,7 +15,7 @@ use Rattle.call_genotypes.proofs.run.run_sweeps.Tie as tie
 
 abbrev Inv-loop : tie.InvT-loop
 Inv-loop t ks ph pri ends piles orders hap₀ lik₀ post₀ n m limit s₀ hap lik post s =
-    (C : SweepCase) → RunStart C (sweepReads ks ph pri ends piles) (sweepState hap₀ lik₀ post₀) orders (record { n = n; m = m; limit = limit }) → Running C (orderOf orders n m) limit (sweepState hap₀ lik₀ post₀) (sweepState hap lik post) s
+    ((length hap ≡ length hap₀) × (length lik ≡ length lik₀) × (length post ≡ length post₀)) × ((C : SweepCase) → RunStart C (sweepReads ks ph pri ends piles) (sweepState hap₀ lik₀ post₀) orders (record { n = n; m = m; limit = limit }) → Running C (orderOf orders n m) limit (sweepState hap₀ lik₀ post₀) (sweepState hap lik post) s)
 
 abbrev μ-loop : tie.MeasureT-loop
 μ-loop t ks ph pri ends piles orders hap₀ lik₀ post₀ n m limit s₀ hap lik post s = limit - s
@@ -33,7 +34,7 @@ part-fits : (c : tie.In-loop Inv-loop μ-loop) → let p = st (c .before) .args 
 part-fits c = end-fits (st (c .before) .pre .1 .holds) (c .before .loop .s)
 
 loop-holds : tie.Need-loop-holds Inv-loop μ-loop
-loop-holds c C R = running-start R
+loop-holds c = ((refl, refl, refl), λ C R. running-start R)
 
 rem-a : tie.Need-rem-a Inv-loop μ-loop
 rem-a c = st (c .before) .pre .1 .holds .some-order
@@ -47,68 +48,33 @@ add-e c = omega (arith, part-fits c, st (c .before) .good .1 .1 .1 .1 .1 .1 .0 .
 mul-part : tie.Need-mul-part Inv-loop μ-loop
 mul-part c = omega (arith, part-fits c, st (c .before) .good .1 .1 .1 .1 .1 .1 .0 .1)
 
-sub-part : tie.Need-sub-part Inv-loop μ-loop
-sub-part c = omega arith
-
-part-part-start : tie.Need-part-part-start Inv-loop μ-loop
-part-part-start c = omega arith
-
 part-part-end : tie.Need-part-part-end Inv-loop μ-loop
 part-part-end c = part-fits c
-
-add-s : tie.Need-add-s Inv-loop μ-loop
-add-s c = let l = c .before in omega (arith, l .loop-test .taken, st (l .before) .pre .1 .holds .limit-top)
 
 sweep-requires : tie.Need-sweep-requires Inv-loop μ-loop
 sweep-requires c κs =
     let l = c .before .before .before .before in
     let s = st (l .before) in
     let R = s .pre .1 .holds in
-    (s .pre .0, record { case = s .pre .1 .case; holds = running-sweep R (l .before .loop .inv _ R) })
-
-same-length : tie.Need-same-length Inv-loop μ-loop
-same-length c = let w = swept (c .before) in
-    let l = turn w .before in
-    let R = st l .pre .1 .holds in w .sweep .kept .1 .1 .1 .1 .1 .1 .1 .0 ∙ (l .loop .inv _ R .good .len ∙ sym (R .standing .haps .len))
-
-same-length-2 : tie.Need-same-length-2 Inv-loop μ-loop
-same-length-2 c = let w = swept (c .before) in
-    let l = turn w .before in
-    let R = st l .pre .1 .holds in w .sweep .kept .1 .1 .1 .1 .1 .1 .1 .1 .0 ∙ (l .loop .inv _ R .liks .long ∙ sym (R .standing .liks .long))
-
-same-length-3 : tie.Need-same-length-3 Inv-loop μ-loop
-same-length-3 c = let w = swept (c .before) in
-    let l = turn w .before in
-    let R = st l .pre .1 .holds in w .sweep .kept .1 .1 .1 .1 .1 .1 .1 .1 .1 .0 ∙ l .loop .inv _ R .long
+    (s .pre .0, record { case = s .pre .1 .case; holds = running-sweep R (l .before .loop .inv .1 _ R) })
 
 returns : tie.Need-returns Inv-loop μ-loop
 returns c C R =
     let w = swept (c .before) in
     let l = turn w in
-    let i = l .before .loop .inv C R in
+    let i = l .before .loop .inv .1 C R in
     run-settles R i (l .loop-test .taken) (w .sweep .ensures C (running-sweep R i)) (not-true _ (c .if1 .taken))
 
-loop-less : tie.Need-loop-less Inv-loop μ-loop
-loop-less c = omega (arith, turn (swept (c .before)) .loop-test .taken)
-
 loop-again : tie.Need-loop-again Inv-loop μ-loop
-loop-again c C R =
+loop-again c =
     let w = swept (c .before) in
-    let l = turn w in
-    let i = l .before .loop .inv C R in
-    running-step R i (l .loop-test .taken) (w .sweep .ensures C (running-sweep R i)) (not-false _ (c .if1 .left))
-
-same-length-4 : tie.Need-same-length-4 Inv-loop μ-loop
-same-length-4 c = let R = st (c .before) .pre .1 .holds in c .before .loop .inv _ R .good .len ∙ sym (R .standing .haps .len)
-
-same-length-5 : tie.Need-same-length-5 Inv-loop μ-loop
-same-length-5 c = let R = st (c .before) .pre .1 .holds in c .before .loop .inv _ R .liks .long ∙ sym (R .standing .liks .long)
-
-same-length-6 : tie.Need-same-length-6 Inv-loop μ-loop
-same-length-6 c = let R = st (c .before) .pre .1 .holds in c .before .loop .inv _ R .long
+    let l = turn w in (
+      search needs,
+      λ C R. let i = l .before .loop .inv .1 C R in running-step R i (l .loop-test .taken) (w .sweep .ensures C (running-sweep R i)) (not-false _ (c .if1 .left)),
+    )
 
 returns-2 : tie.Need-returns-2 Inv-loop μ-loop
-returns-2 c C R = run-out R (c .before .loop .inv C R) (c .loop-test .left)
+returns-2 c C R = run-out R (c .before .loop .inv .1 C R) (c .loop-test .left)
 
 pub run-sweeps-spec : {M : Type 1} → statement M
 run-sweeps-spec =
@@ -121,18 +87,18 @@ run-sweeps-spec =
     mul-a
     add-e
     mul-part
-    sub-part
-    part-part-start
+    (λ c. search needs)
+    (λ c. search needs)
     part-part-end
-    add-s
+    (λ c. search needs)
     sweep-requires
-    same-length
-    same-length-2
-    same-length-3
+    (λ c. search needs)
+    (λ c. search needs)
+    (λ c. search needs)
     returns
-    loop-less
+    (λ c. search needs)
     loop-again
-    same-length-4
-    same-length-5
-    same-length-6
+    (λ c. search needs)
+    (λ c. search needs)
+    (λ c. search needs)
     returns-2)

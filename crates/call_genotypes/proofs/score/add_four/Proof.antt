@@ -58,15 +58,9 @@ kept2 c j l = let f : j ≡ at (c .before .before .before .before .before .befor
 kept3 : (c : tie.After-raise3) (j : ℕ) → at (c .before .before .before .before .before .before .before .before .before) + 2 < j → getD (c .raise3 .last .0) j (pos 0) ≡ getD (acc0 (c .before .before .before .before .before .before .before .before .before)) j (pos 0)
 kept3 c j l = let f : j ≡ at (c .before .before .before .before .before .before .before .before .before) + 2 → ⊥ = omega arith in rw (acc3 c, getD-set-other) (kept2 (c .before .before .before) j (omega arith))
 
-mul-at : tie.Need-mul-at
-mul-at c = search needs
-
 raise-requires : tie.Need-raise-requires
 unfolding valueOf
 raise-requires c κs = let s = c .before .before in (omega arith, omega (arith, s .pre .1 (at s)), small s 0)
-
-add-raise : tie.Need-add-raise
-add-raise c = search needs
 
 raise-requires-2 : tie.Need-raise-requires-2
 unfolding valueOf
@@ -75,18 +69,12 @@ raise-requires-2 c κs =
     let s = p .before .before .before in
     (omega (arith, s .pre .0 .0), rw (kept1 p (at s + 1) (omega arith)) (omega (arith, s .pre .1 (at s + 1))), small s 1)
 
-add-raise-2 : tie.Need-add-raise-2
-add-raise-2 c = search needs
-
 raise-requires-3 : tie.Need-raise-requires-3
 unfolding valueOf
 raise-requires-3 c κs =
     let p = c .before .before in
     let s = p .before .before .before .before .before .before in
     (omega (arith, s .pre .0 .0), rw (kept2 p (at s + 2) (omega arith)) (omega (arith, s .pre .1 (at s + 2))), small s 2)
-
-add-raise-3 : tie.Need-add-raise-3
-add-raise-3 c = search needs
 
 raise-requires-4 : tie.Need-raise-requires-4
 unfolding valueOf
@@ -106,12 +94,12 @@ pub add-four-spec : {M : Type 1} → statement M
 add-four-spec =
     tie.close
     (tie.spec
-    mul-at
+    (λ c. search needs)
     raise-requires
-    add-raise
+    (λ c. search needs)
     raise-requires-2
-    add-raise-2
+    (λ c. search needs)
     raise-requires-3
-    add-raise-3
+    (λ c. search needs)
     raise-requires-4
     returns)

@@ -41,27 +41,12 @@ three-read s = rw (two-read s, last-read s) (read-small w64 ((last s +ℤ last1 
 product : (s : tie.Start) → toZ w64 (4096 * s .args .n) ≡ pos (4096 * s .args .n)
 product s = toZ-pos w64 (omega (arith, s .pre .1))
 
-element-copy-out-result : tie.Need-element-copy-out-result
-element-copy-out-result c = search needs
-
-element-copy-out-result-2 : tie.Need-element-copy-out-result-2
-element-copy-out-result-2 c = search needs
-
 add-result : tie.Need-add-result
 add-result c = let s = c .before .before in plus-fits w64 (last s) (last1 s) (omega (arith, two-small s))
-
-element-copy-out-result-3 : tie.Need-element-copy-out-result-3
-element-copy-out-result-3 c = search needs
 
 add-result-2 : tie.Need-add-result-2
 add-result-2 c = let s = c .before .before .before in
     rw (two-read s, last-read s) (sfits w64 ((last s +ℤ last1 s) +ℤ last2 s) (omega (arith, three-small s)))
-
-mul-result : tie.Need-mul-result
-mul-result c = search needs
-
-cast-result : tie.Need-cast-result
-cast-result c = search needs
 
 sub-result : tie.Need-sub-result
 sub-result c = let s = c .before .before .before in
@@ -75,12 +60,12 @@ pub base-sum-spec : {M : Type 1} → statement M
 base-sum-spec =
     tie.close
     (tie.spec
-    element-copy-out-result
-    element-copy-out-result-2
+    (λ c. search needs)
+    (λ c. search needs)
     add-result
-    element-copy-out-result-3
+    (λ c. search needs)
     add-result-2
-    mul-result
-    cast-result
+    (λ c. search needs)
+    (λ c. search needs)
     sub-result
     returns)

@@ -60,20 +60,8 @@ distance-is : (c : tie.After-distance) → let l = c .before .before in
     toZ w64 (ofZ w64 (c .distance .result)) ≡ (toZ w64 (ofZ w64 (l .likelihood-at2 .result)) -ℤ toZ w64 (ofZ w64 (l .before .likelihood-at .result))) +ℤ toZ w64 (ofZ w64 (c .before .turned .result))
 distance-is c = read-back w64 _ (c .distance .ok) ∙ c .distance .ensures
 
-mul-f : tie.Need-mul-f
-mul-f c = search needs
-
 gap-requires : tie.Need-gap-requires
 gap-requires c κs = (rw (qual c) (qual-size (st c .pre .1 .0)), rw (other c) (other-size (st c .pre .1 .0)))
-
-add-likelihood-at : tie.Need-add-likelihood-at
-add-likelihood-at c = search needs
-
-likelihood-at-requires : tie.Need-likelihood-at-requires
-likelihood-at-requires c κs = search needs
-
-likelihood-at-requires-2 : tie.Need-likelihood-at-requires-2
-likelihood-at-requires-2 c κs = search needs
 
 turned-requires : tie.Need-turned-requires
 turned-requires c κs = let g = c .before .before in (omega (arith, at g .pre .1 .0 .allele-in), at g .pre .1 .1 .1 _, gap-small g)
@@ -102,11 +90,11 @@ pub call-gaps-spec : {M : Type 1} → statement M
 call-gaps-spec =
     tie.close
     (tie.spec
-    mul-f
+    (λ c. search needs)
     gap-requires
-    add-likelihood-at
-    likelihood-at-requires
-    likelihood-at-requires-2
+    (λ c. search needs)
+    (λ c κs. search needs)
+    (λ c κs. search needs)
     turned-requires
     distance-requires
     gaps-of-requires

@@ -6,6 +6,7 @@ use mathlib.Core.Logic.{⊎-elim}
 use Prim.Native.Nat.{ℕ, _≤_, _-_, _+_}
 use native.Mathlib.Nat.{add-zero}
 use native.Mathlib.Omega.{arith}
+use borrow.Author.Needs.{needs}
 use lib.ListN.{getD}
 use lib.IntN.{ℤ, pos}
 use lib.Signed.{ltZ}
@@ -46,12 +47,6 @@ returns : tie.Need-returns Inv-loop μ-loop
 unfolding firstMaximum
 returns c = rw (c .if1 .taken)
 
-mul-best : tie.Need-mul-best Inv-loop μ-loop
-mul-best c = omega arith
-
-shared-slice-copy-out-best : tie.Need-shared-slice-copy-out-best Inv-loop μ-loop
-shared-slice-copy-out-best c = omega arith
-
 loop-holds : tie.Need-loop-holds Inv-loop μ-loop
 loop-holds c =
     let s = c .before .before in
@@ -60,21 +55,6 @@ loop-holds c =
       omega (arith, c .before .if1 .left),
       record { is = maximum-one f; best = rw (add-zero (s .args .at)) (read-back w64 _ (c .best .given)) },
     )
-
-add-x : tie.Need-add-x Inv-loop μ-loop
-add-x c = omega arith
-
-mul-x : tie.Need-mul-x Inv-loop μ-loop
-mul-x c = omega arith
-
-shared-slice-copy-out-x : tie.Need-shared-slice-copy-out-x Inv-loop μ-loop
-shared-slice-copy-out-x c = omega arith
-
-add-g : tie.Need-add-g Inv-loop μ-loop
-add-g c = omega arith
-
-loop-less : tie.Need-loop-less Inv-loop μ-loop
-loop-less c = omega arith
 
 loop-again : tie.Need-loop-again Inv-loop μ-loop
 loop-again c = (
@@ -93,13 +73,13 @@ first-max-spec =
     Inv-loop
     μ-loop
     returns
-    mul-best
-    shared-slice-copy-out-best
+    (λ c. search needs)
+    (λ c. search needs)
     loop-holds
-    add-x
-    mul-x
-    shared-slice-copy-out-x
-    add-g
-    loop-less
+    (λ c. search needs)
+    (λ c. search needs)
+    (λ c. search needs)
+    (λ c. search needs)
+    (λ c. search needs)
     loop-again
     returns-2)

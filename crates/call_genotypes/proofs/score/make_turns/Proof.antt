@@ -41,35 +41,11 @@ once-is s = ap (set (s .args .turns .now) (s .args .g0)) (less-read (getD (s .ar
 once-small : (s : tie.Start) → natAbs (getD (once s) (s .args .g1) (pos 0)) ≤ 1
 once-small s = rw (once-is s) (once-stored (s .args .turns .now) (s .args .g0) (s .pre .0) (s .pre .1) (s .args .g1))
 
-mul-turns : tie.Need-mul-turns
-mul-turns c = search needs
-
-element-copy-out-turns : tie.Need-element-copy-out-turns
-element-copy-out-turns c = search needs
-
 sub-turns : tie.Need-sub-turns
 sub-turns c = let s = c .before .before in less-fits (getD (s .args .turns .now) (s .args .g0) (pos 0)) (old-small s)
 
-mul-turns-2 : tie.Need-mul-turns-2
-mul-turns-2 c = search needs
-
-element-set-from-turns : tie.Need-element-set-from-turns
-element-set-from-turns c = search needs
-
-mul-turns-3 : tie.Need-mul-turns-3
-mul-turns-3 c = search needs
-
-element-copy-out-turns-2 : tie.Need-element-copy-out-turns-2
-element-copy-out-turns-2 c = search needs
-
 add-turns : tie.Need-add-turns
 add-turns c = let s = c .before .before .before in more-fits (getD (once s) (s .args .g1) (pos 0)) (once-small s)
-
-mul-t11 : tie.Need-mul-t11
-mul-t11 c = search needs
-
-element-set-from-turns-2 : tie.Need-element-set-from-turns-2
-element-set-from-turns-2 c = search needs
 
 returns : tie.Need-returns
 returns c x =
@@ -84,15 +60,15 @@ pub make-turns-spec : {M : Type 1} → statement M
 make-turns-spec =
     tie.close
     (tie.spec
-    mul-turns
-    element-copy-out-turns
+    (λ c. search needs)
+    (λ c. search needs)
     sub-turns
-    mul-turns-2
-    element-set-from-turns
-    mul-turns-3
-    element-copy-out-turns-2
+    (λ c. search needs)
+    (λ c. search needs)
+    (λ c. search needs)
+    (λ c. search needs)
     add-turns
-    mul-t11
-    element-set-from-turns-2
+    (λ c. search needs)
+    (λ c. search needs)
     returns
     returns-2)

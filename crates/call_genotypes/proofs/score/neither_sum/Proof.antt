@@ -25,29 +25,8 @@ less-small c = omega (arith, base-small c, c .before .before .pre .1 (4 * c .bef
 more-small : (c : tie.After-sum-quals) → natAbs (c .before .before .base-sum .result) + natAbs (c .sum-quals .result) ≤ 2 ^ 53
 more-small c = omega (arith, base-small (c .before .before), c .sum-quals .ensures .1)
 
-sub-base-sum : tie.Need-sub-base-sum
-sub-base-sum c = search needs
-
-base-sum-requires : tie.Need-base-sum-requires
-base-sum-requires c κs = search needs
-
-mul-result : tie.Need-mul-result
-mul-result c = search needs
-
-add-result : tie.Need-add-result
-add-result c = search needs
-
-mul-result-2 : tie.Need-mul-result-2
-mul-result-2 c = search needs
-
-element-copy-out-result : tie.Need-element-copy-out-result
-element-copy-out-result c = search needs
-
 sub-result : tie.Need-sub-result
 sub-result c = let b = c .before .before in minus-fits w64 (b .base-sum .result) (gaps (b .before .before)) (omega (arith, less-small b))
-
-sum-quals-requires : tie.Need-sum-quals-requires
-sum-quals-requires c κs = search needs
 
 add-result-2 : tie.Need-add-result-2
 add-result-2 c = plus-fits w64 (c .before .before .base-sum .result) (c .sum-quals .result) (omega (arith, more-small c))
@@ -68,14 +47,14 @@ pub neither-sum-spec : {M : Type 1} → statement M
 neither-sum-spec =
     tie.close
     (tie.spec
-    sub-base-sum
-    base-sum-requires
-    mul-result
-    add-result
-    mul-result-2
-    element-copy-out-result
+    (λ c. search needs)
+    (λ c κs. search needs)
+    (λ c. search needs)
+    (λ c. search needs)
+    (λ c. search needs)
+    (λ c. search needs)
     sub-result
-    sum-quals-requires
+    (λ c κs. search needs)
     add-result-2
     returns
     returns-2)

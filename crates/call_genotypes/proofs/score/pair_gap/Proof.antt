@@ -19,39 +19,6 @@ second-of s = getD (s .args .acc .now) (4 * s .args .j + 1) (pos 0)
 two-small : (s : tie.Start) → natAbs (first-of s) + natAbs (second-of s) < 2 ^ 63
 two-small s = omega (arith, s .pre .2 (4 * s .args .i), s .pre .2 (4 * s .args .j + 1))
 
-mul-result : tie.Need-mul-result
-mul-result c = search needs
-
-add-result : tie.Need-add-result
-add-result c = search needs
-
-mul-result-2 : tie.Need-mul-result-2
-mul-result-2 c = search needs
-
-element-copy-out-result : tie.Need-element-copy-out-result
-element-copy-out-result c = search needs
-
-mul-result-3 : tie.Need-mul-result-3
-mul-result-3 c = search needs
-
-mul-result-4 : tie.Need-mul-result-4
-mul-result-4 c = search needs
-
-element-copy-out-result-2 : tie.Need-element-copy-out-result-2
-element-copy-out-result-2 c = search needs
-
-mul-result-5 : tie.Need-mul-result-5
-mul-result-5 c = search needs
-
-add-result-2 : tie.Need-add-result-2
-add-result-2 c = search needs
-
-mul-result-6 : tie.Need-mul-result-6
-mul-result-6 c = search needs
-
-element-copy-out-result-3 : tie.Need-element-copy-out-result-3
-element-copy-out-result-3 c = search needs
-
 add-result-3 : tie.Need-add-result-3
 add-result-3 c = let s = c .before .before .before in plus-fits w64 (first-of s) (second-of s) (two-small s)
 
@@ -69,17 +36,17 @@ pub pair-gap-spec : {M : Type 1} → statement M
 pair-gap-spec =
     tie.close
     (tie.spec
-    mul-result
-    add-result
-    mul-result-2
-    element-copy-out-result
-    mul-result-3
-    mul-result-4
-    element-copy-out-result-2
-    mul-result-5
-    add-result-2
-    mul-result-6
-    element-copy-out-result-3
+    (λ c. search needs)
+    (λ c. search needs)
+    (λ c. search needs)
+    (λ c. search needs)
+    (λ c. search needs)
+    (λ c. search needs)
+    (λ c. search needs)
+    (λ c. search needs)
+    (λ c. search needs)
+    (λ c. search needs)
+    (λ c. search needs)
     add-result-3
     returns
     returns-2)

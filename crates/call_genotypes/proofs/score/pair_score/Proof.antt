@@ -28,17 +28,8 @@ small : (c : tie.After-pair-gap) → let s = c .before .before in natAbs ((prior
 small c = let s = c .before .before in
     omega (arith, add-abs (prior-of s +ℤ s .args .base) (c .pair-gap .result), add-abs (prior-of s) (s .args .base), two-small s, gap-small c)
 
-mul-result : tie.Need-mul-result
-mul-result c = search needs
-
-shared-slice-copy-out-result : tie.Need-shared-slice-copy-out-result
-shared-slice-copy-out-result c = search needs
-
 add-result : tie.Need-add-result
 add-result c = let s = c .before in plus-fits w64 (prior-of s) (s .args .base) (omega (arith, two-small s))
-
-pair-gap-requires : tie.Need-pair-gap-requires
-pair-gap-requires c κs = search needs
 
 add-result-2 : tie.Need-add-result-2
 add-result-2 c = let s = c .before .before in
@@ -52,9 +43,9 @@ pub pair-score-spec : {M : Type 1} → statement M
 pair-score-spec =
     tie.close
     (tie.spec
-    mul-result
-    shared-slice-copy-out-result
+    (λ c. search needs)
+    (λ c. search needs)
     add-result
-    pair-gap-requires
+    (λ c κs. search needs)
     add-result-2
     returns)

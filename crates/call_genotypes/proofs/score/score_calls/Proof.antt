@@ -45,27 +45,12 @@ allele-low c = rw (allele-is c) (row-in (c .before .before) .allele-in)
 loop-holds : tie.Need-loop-holds Inv-loop μ-loop
 loop-holds c = summing-start _ _ _ _ _ (c .before .pre .1 .1 .1)
 
-mul-unpack : tie.Need-mul-unpack Inv-loop μ-loop
-mul-unpack c = omega (arith, c .loop-test .taken, st c .pre .1 .0 .few)
-
-shared-slice-read-unpack : tie.Need-shared-slice-read-unpack Inv-loop μ-loop
-shared-slice-read-unpack c = omega (arith, c .before .loop-test .taken, st (c .before) .pre .1 .0 .long)
-
-unpack-requires : tie.Need-unpack-requires Inv-loop μ-loop
-unpack-requires c κs = search needs
-
 call-gaps-requires : tie.Need-call-gaps-requires Inv-loop μ-loop
 call-gaps-requires c κs = let i = c .before .before in (st i .pre .0, (rw (row-is c) (row-in i), st i .pre .1 .1 .0))
 
 add-four-requires : tie.Need-add-four-requires Inv-loop μ-loop
 add-four-requires c κs = let l = turn (c .before) .before .loop in
     ((allele-low (c .before .before), value-small (c .before)), λ i. let k = l .inv .small i in omega (arith, l .inv .few))
-
-add-p : tie.Need-add-p Inv-loop μ-loop
-add-p c = let i = turn (c .before .before) in omega (arith, i .loop-test .taken, st i .pre .1 .0 .few)
-
-loop-less : tie.Need-loop-less Inv-loop μ-loop
-loop-less c = omega (arith, turn (c .before .before) .loop-test .taken)
 
 loop-again : tie.Need-loop-again Inv-loop μ-loop
 loop-again c =
@@ -84,12 +69,12 @@ score-calls-spec =
     Inv-loop
     μ-loop
     loop-holds
-    mul-unpack
-    shared-slice-read-unpack
-    unpack-requires
+    (λ c. search needs)
+    (λ c. search needs)
+    (λ c κs. search needs)
     call-gaps-requires
     add-four-requires
-    add-p
-    loop-less
+    (λ c. search needs)
+    (λ c. search needs)
     loop-again
     returns)

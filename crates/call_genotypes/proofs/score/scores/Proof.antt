@@ -20,26 +20,8 @@ start c = c .before .before
 abbrev pair : tie.After-score-calls → tie.After-pair-at
 pair c = c .before .before .before .before .before
 
-shared-slice-read-k : tie.Need-shared-slice-read-k
-shared-slice-read-k c = search needs
-
 cast-k : tie.Need-cast-k
 cast-k c = omega (arith, c .shared-slice-known6 .given (c .before .before .before .before .before .before .args .v))
-
-shared-slice-read-phased : tie.Need-shared-slice-read-phased
-shared-slice-read-phased c = search needs
-
-group-start-requires : tie.Need-group-start-requires
-group-start-requires c κs = search needs
-
-mul-e : tie.Need-mul-e
-mul-e c = search needs
-
-shared-slice-read-e : tie.Need-shared-slice-read-e
-shared-slice-read-e c = search needs
-
-pair-at-requires : tie.Need-pair-at-requires
-pair-at-requires c κs = search needs
 
 make-turns-requires : tie.Need-make-turns-requires
 make-turns-requires c κs = let i = pair-three (st (start (c .before)) .pre .1 .holds) (c .before .pair-at .result) (c .before .pair-at .ensures) in (refl, i .0, i .1)
@@ -67,9 +49,6 @@ write-scores-requires c κs =
     let S = s .pre .1 .holds in
     ((scores-room (S .standing .held) (s .args .v) (S .v-in) _ (S .standing .room), rw (read-back w64 _ (n .neither-sum .ok)) (n .neither-sum .ensures .1)), k .score-calls .ensures .small)
 
-same-length : tie.Need-same-length
-same-length c = search needs
-
 returns : tie.Need-returns
 returns c C S =
     let n = c .before .before .before .before in
@@ -83,16 +62,16 @@ pub scores-spec : {M : Type 1} → statement M
 scores-spec =
     tie.close
     (tie.spec
-    shared-slice-read-k
+    (λ c. search needs)
     cast-k
-    shared-slice-read-phased
-    group-start-requires
-    mul-e
-    shared-slice-read-e
-    pair-at-requires
+    (λ c. search needs)
+    (λ c κs. search needs)
+    (λ c. search needs)
+    (λ c. search needs)
+    (λ c κs. search needs)
     make-turns-requires
     score-calls-requires
     neither-sum-requires
     write-scores-requires
-    same-length
+    (λ c. search needs)
     returns)

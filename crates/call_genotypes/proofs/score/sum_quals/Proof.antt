@@ -45,23 +45,8 @@ sum-small c = omega (arith, c .before .loop .inv .2, small c, c .loop-test .take
 loop-holds : tie.Need-loop-holds Inv-loop μ-loop
 loop-holds c = (omega arith, omega arith, omega arith, +ℤ-idl _)
 
-mul-unpack : tie.Need-mul-unpack Inv-loop μ-loop
-mul-unpack c = omega (arith, c .loop-test .taken, st c .pre .few)
-
-shared-slice-read-unpack : tie.Need-shared-slice-read-unpack Inv-loop μ-loop
-shared-slice-read-unpack c = omega (arith, c .before .loop-test .taken, st (c .before) .pre .long)
-
-unpack-requires : tie.Need-unpack-requires Inv-loop μ-loop
-unpack-requires c κs = search needs
-
 add-n : tie.Need-add-n Inv-loop μ-loop
 add-n c = added-fits (toZ w64 (turn c .before .loop .n)) (c .before .before .unpack .result .qual) (its (turn c)) (added c) (omega (arith, sum-small (turn c)))
-
-add-p : tie.Need-add-p Inv-loop μ-loop
-add-p c = omega (arith, turn c .loop-test .taken, st (turn c) .pre .few)
-
-loop-less : tie.Need-loop-less Inv-loop μ-loop
-loop-less c = omega (arith, turn c .loop-test .taken)
 
 loop-again : tie.Need-loop-again Inv-loop μ-loop
 unfolding sumOver
@@ -90,11 +75,11 @@ sum-quals-spec =
     Inv-loop
     μ-loop
     loop-holds
-    mul-unpack
-    shared-slice-read-unpack
-    unpack-requires
+    (λ c. search needs)
+    (λ c. search needs)
+    (λ c κs. search needs)
     add-n
-    add-p
-    loop-less
+    (λ c. search needs)
+    (λ c. search needs)
     loop-again
     returns)

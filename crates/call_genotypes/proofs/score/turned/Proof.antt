@@ -17,12 +17,6 @@ its s = getD (s .args .turns .now) (s .args .x) (pos 0)
 small : (s : tie.Start) → natAbs (its s *ℤ s .args .g) ≤ 2 ^ 19
 small s = times-size (its s) (s .args .g) (2 ^ 19) (s .pre .1) (s .pre .2)
 
-mul-result : tie.Need-mul-result
-mul-result c = search needs
-
-element-copy-out-result : tie.Need-element-copy-out-result
-element-copy-out-result c = search needs
-
 mul-result-2 : tie.Need-mul-result-2
 mul-result-2 c =
     let s = c .before in
@@ -39,4 +33,4 @@ returns c =
     (rw (e, f) r, rw (e, f, r) (small s))
 
 pub turned-spec : {M : Type 1} → statement M
-turned-spec = tie.close (tie.spec mul-result element-copy-out-result mul-result-2 returns)
+turned-spec = tie.close (tie.spec (λ c. search needs) (λ c. search needs) mul-result-2 returns)

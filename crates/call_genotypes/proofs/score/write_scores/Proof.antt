@@ -2,6 +2,7 @@
 use mathlib.Core.Path.{_≡_, ap, _∙_}
 use Prim.Native.Nat.{_<_, _-_, _+_, _*_, _/_, _%_}
 use native.Mathlib.Omega.{arith}
+use borrow.Author.Needs.{needs}
 use lib.ListN.{getD, set}
 use lib.Seq.{sets}
 use lib.IntN.{ℤ, pos, _+ℤ_}
@@ -43,9 +44,6 @@ mul-kk c = omega (arith, nine (c .args .k) (c .pre .0 .0 .k-top))
 loop-holds : tie.Need-loop-holds Inv-loop μ-loop
 loop-holds c = writing-start _ _ _ _ (c .pre .0 .0 .k-least)
 
-mul-pair-score : tie.Need-mul-pair-score Inv-loop μ-loop
-mul-pair-score c = omega (arith, st c .pre .0 .0 .v-top)
-
 add-pair-score : tie.Need-add-pair-score Inv-loop μ-loop
 add-pair-score c = omega (arith, st c .pre .0 .0 .v-top, few c)
 
@@ -63,9 +61,6 @@ pair-score-requires c κs =
       s .pre .1,
     )
 
-mul-t15 : tie.Need-mul-t15 Inv-loop μ-loop
-mul-t15 c = omega (arith, st (c .before) .pre .0 .0 .v-top)
-
 add-t16 : tie.Need-add-t16 Inv-loop μ-loop
 add-t16 c = omega (arith, st (c .before) .pre .0 .0 .v-top, few (c .before))
 
@@ -78,26 +73,14 @@ slice-set-from-post c = omega (arith, st (c .before) .pre .0 .0 .post-long, few 
 add-p : tie.Need-add-p Inv-loop μ-loop
 add-p c = omega (arith, few (c .before))
 
-add-j : tie.Need-add-j Inv-loop μ-loop
-add-j c = omega (arith, c .before .before .loop .inv .next .low, st (c .before) .pre .0 .0 .k-top)
-
 add-i : tie.Need-add-i Inv-loop μ-loop
 add-i c = omega (arith, few (c .before .before), c .before .before .before .loop .inv .next .few)
-
-loop-less : tie.Need-loop-less Inv-loop μ-loop
-loop-less c = omega (arith, c .before .before .loop-test .taken)
 
 loop-again : tie.Need-loop-again Inv-loop μ-loop
 loop-again c = let l = c .before .before .before .loop in writing-row _ _ _ _ _ _ _ _ _ (l .inv) (c .before .before .loop-test .taken) (ap (set (l .post) _) (written (c .before))) (c .if1 .taken)
 
-loop-less-2 : tie.Need-loop-less-2 Inv-loop μ-loop
-loop-less-2 c = omega (arith, c .before .before .loop-test .taken)
-
 loop-again-2 : tie.Need-loop-again-2 Inv-loop μ-loop
 loop-again-2 c = let l = c .before .before .before .loop in writing-place _ _ _ _ _ _ _ _ _ (l .inv) (c .before .before .loop-test .taken) (ap (set (l .post) _) (written (c .before))) (c .if1 .left)
-
-same-length : tie.Need-same-length Inv-loop μ-loop
-same-length c = c .before .loop .inv .long
 
 returns : tie.Need-returns Inv-loop μ-loop
 returns c =
@@ -113,19 +96,19 @@ write-scores-spec =
     μ-loop
     mul-kk
     loop-holds
-    mul-pair-score
+    (λ c. search needs)
     add-pair-score
     pair-score-requires
-    mul-t15
+    (λ c. search needs)
     add-t16
     mul-t17
     slice-set-from-post
     add-p
-    add-j
+    (λ c. search needs)
     add-i
-    loop-less
+    (λ c. search needs)
     loop-again
-    loop-less-2
+    (λ c. search needs)
     loop-again-2
-    same-length
+    (λ c. search needs)
     returns)

@@ -6,9 +6,6 @@ use Rattle.call_genotypes.proofs.Written.{best-few, row-low, row-few, b
 use Rattle.call_genotypes.proofs.visit.best_pair.Statement.{statement}
 use Rattle.call_genotypes.proofs.visit.best_pair.Tie as tie
 
-mul-first-max : tie.Need-mul-first-max
-mul-first-max c = search needs
-
 mul-first-max-2 : tie.Need-mul-first-max-2
 mul-first-max-2 c = omega (arith, nine (c .args .k) (c .pre .2))
 
@@ -31,7 +28,7 @@ pub best-pair-spec : {M : Type 1} → statement M
 best-pair-spec =
     tie.close
     (tie.spec
-    mul-first-max
+    (λ c. search needs)
     mul-first-max-2
     first-max-requires
     row-of-requires

@@ -59,15 +59,6 @@ added-small c = let i = turn (c .before .before) in rw (added c) (row-change-siz
 loop-holds : tie.Need-loop-holds Inv-loop μ-loop
 loop-holds c = moving-start _ _ _ _ _ _ _
 
-mul-unpack : tie.Need-mul-unpack Inv-loop μ-loop
-mul-unpack c = omega (arith, c .loop-test .taken, st c .pre .0 .few)
-
-shared-slice-read-unpack : tie.Need-shared-slice-read-unpack Inv-loop μ-loop
-shared-slice-read-unpack c = omega (arith, c .before .loop-test .taken, st (c .before) .pre .0 .long)
-
-unpack-requires : tie.Need-unpack-requires Inv-loop μ-loop
-unpack-requires c κs = search needs
-
 mul-at : tie.Need-mul-at Inv-loop μ-loop
 mul-at c = omega (arith, place-low c, turn c .before .loop .inv .long, st (turn c) .good .1 .0 .0)
 
@@ -83,12 +74,6 @@ shift-requires c κs =
     let i = turn k .before .loop .inv in
     (place-low k, omega (arith, i .small (2 ^ 34) (st (turn k) .pre .1) (2 * k .before .unpack .result .fragment + st (turn k) .args .side), i .few), added-small c)
 
-add-p : tie.Need-add-p Inv-loop μ-loop
-add-p c = let i = turn (c .before .before .before .before) in omega (arith, i .loop-test .taken, st i .pre .0 .few)
-
-loop-less : tie.Need-loop-less Inv-loop μ-loop
-loop-less c = omega (arith, turn (c .before .before .before .before) .loop-test .taken)
-
 loop-again : tie.Need-loop-again Inv-loop μ-loop
 loop-again c =
     let d = c .before .before in
@@ -96,9 +81,6 @@ loop-again c =
     let i = turn k in
     moving-step _ _ _ _ _ _ _ (i .before .loop .p) (i .before .loop .lik) _ (2 * k .before .unpack .result .fragment + st i .args .side) (toZ w64 (ofZ w64 (d .change .result)))
     (i .before .loop .inv) (i .loop-test .taken) (omega (arith, st i .pre .0 .few)) (place k) (added d) (place-low k) (added-small d) (c .before .shift .ensures)
-
-same-length : tie.Need-same-length Inv-loop μ-loop
-same-length c = c .before .loop .inv .long
 
 returns : tie.Need-returns Inv-loop μ-loop
 returns c = moving-end _ _ _ _ _ _ _ _ _ (c .before .loop .inv) (c .loop-test .left)
@@ -110,15 +92,15 @@ move-liks-spec =
     Inv-loop
     μ-loop
     loop-holds
-    mul-unpack
-    shared-slice-read-unpack
-    unpack-requires
+    (λ c. search needs)
+    (λ c. search needs)
+    (λ c κs. search needs)
     mul-at
     add-at
     change-requires
     shift-requires
-    add-p
-    loop-less
+    (λ c. search needs)
+    (λ c. search needs)
     loop-again
-    same-length
+    (λ c. search needs)
     returns)

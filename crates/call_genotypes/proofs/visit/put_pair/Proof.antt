@@ -22,38 +22,8 @@ start c = c .before .before
 abbrev from : tie.After-move-liks-arg → tie.Start
 from c = st (pair (start c .before .before))
 
-pair-at-requires : tie.Need-pair-at-requires
-pair-at-requires c κs = search needs
-
-mul-at : tie.Need-mul-at
-mul-at c = search needs
-
-cast-hap : tie.Need-cast-hap
-cast-hap c = search needs
-
-slice-write-hap : tie.Need-slice-write-hap
-slice-write-hap c = search needs
-
-cast-hap-2 : tie.Need-cast-hap-2
-cast-hap-2 c = search needs
-
-add-hap : tie.Need-add-hap
-add-hap c = search needs
-
 slice-write-hap-2 : tie.Need-slice-write-hap-2
 slice-write-hap-2 c = simp length-set (put-in (st (c .before .before) .pre .0 .holds))
-
-shared-slice-read-if1 : tie.Need-shared-slice-read-if1
-shared-slice-read-if1 c = search needs
-
-group-start-requires : tie.Need-group-start-requires
-group-start-requires c κs = search needs
-
-mul-e : tie.Need-mul-e
-mul-e c = search needs
-
-shared-slice-read-e : tie.Need-shared-slice-read-e
-shared-slice-read-e c = search needs
 
 move-liks-requires : tie.Need-move-liks-requires
 move-liks-requires c κs =
@@ -68,21 +38,12 @@ move-liks-requires-2 c κs =
     let e = m .move-liks .ensures in
     (rw (start (m .before) .group-start .ensures, e .long) (pile-fits (M .held) (s .args .v) (M .v-in) (M .liks)), λ i. omega (arith, e .grown (2 ^ 32) (lik-within (M .held) _ _ (M .liks)) i), omega arith)
 
-same-length : tie.Need-same-length
-same-length c = search needs
-
-same-length-2 : tie.Need-same-length-2
-same-length-2 c = search needs
-
 returns : tie.Need-returns
 returns c C M =
     let m = c .before .before .before .before in
     let g = start (m .before) in
     let p = pair (g .before .before) in
     pair-moves M _ _ refl (g .group-start .result) (p .pair-at .result) (m .move-liks .last .1 .0) _ (g .before .if1 .taken) (g .group-start .ensures) (p .pair-at .ensures) (m .move-liks .ensures) (c .before .move-liks2 .ensures)
-
-same-length-3 : tie.Need-same-length-3
-same-length-3 c = search needs
 
 returns-2 : tie.Need-returns-2
 returns-2 c C M = pair-stays M _ _ refl (c .if1 .left)
@@ -91,21 +52,21 @@ pub put-pair-spec : {M : Type 1} → statement M
 put-pair-spec =
     tie.close
     (tie.spec
-    pair-at-requires
-    mul-at
-    cast-hap
-    slice-write-hap
-    cast-hap-2
-    add-hap
+    (λ c κs. search needs)
+    (λ c. search needs)
+    (λ c. search needs)
+    (λ c. search needs)
+    (λ c. search needs)
+    (λ c. search needs)
     slice-write-hap-2
-    shared-slice-read-if1
-    group-start-requires
-    mul-e
-    shared-slice-read-e
+    (λ c. search needs)
+    (λ c κs. search needs)
+    (λ c. search needs)
+    (λ c. search needs)
     move-liks-requires
     move-liks-requires-2
-    same-length
-    same-length-2
+    (λ c. search needs)
+    (λ c. search needs)
     returns
-    same-length-3
+    (λ c. search needs)
     returns-2)

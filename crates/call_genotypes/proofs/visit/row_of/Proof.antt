@@ -14,9 +14,6 @@ row-is b k n i j e p h = e ∙ sym (rw p (digits-div i h))
 low : (c : tie.Joined2) → c .before .if1 .one + c .if2 .two ≤ 2
 low c = ⊎-elim (λ w. ⊎-elim (λ u. omega (arith, w .1, u .1)) (λ u. omega (arith, w .1, u .1)) (c .if2 .came)) (λ w. ⊎-elim (λ u. omega (arith, w .1, u .1)) (λ u. omega (arith, w .1, u .1)) (c .if2 .came)) (c .before .if1 .came)
 
-mul-if2 : tie.Need-mul-if2
-mul-if2 c = search needs
-
 add-result : tie.Need-add-result
 add-result c = omega (arith, low (c .before .before))
 
@@ -34,4 +31,4 @@ returns c =
     (c .before .before .before .if1 .came)
 
 pub row-of-spec : {M : Type 1} → statement M
-row-of-spec = tie.close (tie.spec mul-if2 add-result returns)
+row-of-spec = tie.close (tie.spec (λ c. search needs) add-result returns)

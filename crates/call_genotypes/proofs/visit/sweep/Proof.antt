@@ -1,5 +1,5 @@
 -- `call_genotypes::visit::sweep` meets its contract. The loop's invariant: what is left of the order gives the whole sweep. Assumes nothing.
-use mathlib.Core.Path.{sym, _∙_}
+use mathlib.Core.Path.{_≡_, refl}
 use Prim.Native.Nat.{_-_}
 use native.Mathlib.Omega.{arith}
 use borrow.Author.Needs.{needs}
@@ -14,7 +14,7 @@ use Rattle.call_genotypes.proofs.visit.sweep.Tie as tie
 
 abbrev Inv-loop : tie.InvT-loop
 Inv-loop t ks ph pri ends piles order hap₀ lik₀ post₀ changed₀ p₀ hap lik post changed p =
-    (C : SweepCase) → SweepStart C (sweepReads ks ph pri ends piles) (sweepState hap₀ lik₀ post₀) order → Sweeping C order (sweepState hap₀ lik₀ post₀) (sweepState hap lik post) changed p
+    ((length hap ≡ length hap₀) × (length lik ≡ length lik₀) × (length post ≡ length post₀)) × ((C : SweepCase) → SweepStart C (sweepReads ks ph pri ends piles) (sweepState hap₀ lik₀ post₀) order → Sweeping C order (sweepState hap₀ lik₀ post₀) (sweepState hap lik post) changed p)
 
 abbrev μ-loop : tie.MeasureT-loop
 μ-loop t ks ph pri ends piles order hap₀ lik₀ post₀ changed₀ p₀ hap lik post changed p = length order - p
@@ -30,58 +30,36 @@ abbrev turn : tie.After-visit Inv-loop μ-loop → tie.In-loop Inv-loop μ-loop
 turn c = c .before .before .before .before .before
 
 loop-holds : tie.Need-loop-holds Inv-loop μ-loop
-loop-holds c C S = sweeping-start S
-
-mul-v : tie.Need-mul-v Inv-loop μ-loop
-mul-v c = search needs
-
-shared-slice-read-v : tie.Need-shared-slice-read-v Inv-loop μ-loop
-shared-slice-read-v c = search needs
+loop-holds c = ((refl, refl, refl), λ C S. sweeping-start S)
 
 cast-v : tie.Need-cast-v Inv-loop μ-loop
 cast-v c = omega (arith, c .shared-slice-known6 .given (c .before .before .loop .p))
-
-add-p : tie.Need-add-p Inv-loop μ-loop
-add-p c = omega (arith, c .before .loop-test .taken, st (c .before .before) .good .1 .1 .1 .1 .1 .1 .0 .0)
 
 visit-requires : tie.Need-visit-requires Inv-loop μ-loop
 visit-requires c κs =
     let l = c .before .before .before .before in
     let s = st (l .before) in
     let S = s .pre .1 .holds in
-    (s .pre .0, record { case = s .pre .1 .case; holds = sweeping-visit S (l .before .loop .inv _ S) (l .loop-test .taken) })
-
-loop-less : tie.Need-loop-less Inv-loop μ-loop
-loop-less c = omega (arith, turn (visited (c .before)) .loop-test .taken)
+    (s .pre .0, record { case = s .pre .1 .case; holds = sweeping-visit S (l .before .loop .inv .1 _ S) (l .loop-test .taken) })
 
 loop-again : tie.Need-loop-again Inv-loop μ-loop
-loop-again c C S =
+loop-again c =
     let w = visited (c .before) in
-    let l = turn w in
-    let i = l .before .loop .inv C S in
-    sweeping-changed S i (l .loop-test .taken) (w .visit .ensures C (sweeping-visit S i (l .loop-test .taken))) (c .if1 .taken)
-
-loop-less-2 : tie.Need-loop-less-2 Inv-loop μ-loop
-loop-less-2 c = omega (arith, turn (visited (c .before)) .loop-test .taken)
+    let l = turn w in (
+      search needs,
+      λ C S. let i = l .before .loop .inv .1 C S in sweeping-changed S i (l .loop-test .taken) (w .visit .ensures C (sweeping-visit S i (l .loop-test .taken))) (c .if1 .taken),
+    )
 
 loop-again-2 : tie.Need-loop-again-2 Inv-loop μ-loop
-loop-again-2 c C S =
+loop-again-2 c =
     let w = visited (c .before) in
-    let l = turn w in
-    let i = l .before .loop .inv C S in
-    sweeping-same S i (l .loop-test .taken) (w .visit .ensures C (sweeping-visit S i (l .loop-test .taken))) (c .if1 .left)
-
-same-length : tie.Need-same-length Inv-loop μ-loop
-same-length c = let S = st (c .before) .pre .1 .holds in c .before .loop .inv _ S .good .len ∙ sym (S .standing .haps .len)
-
-same-length-2 : tie.Need-same-length-2 Inv-loop μ-loop
-same-length-2 c = let S = st (c .before) .pre .1 .holds in c .before .loop .inv _ S .liks .long ∙ sym (S .standing .liks .long)
-
-same-length-3 : tie.Need-same-length-3 Inv-loop μ-loop
-same-length-3 c = let S = st (c .before) .pre .1 .holds in c .before .loop .inv _ S .long
+    let l = turn w in (
+      search needs,
+      λ C S. let i = l .before .loop .inv .1 C S in sweeping-same S i (l .loop-test .taken) (w .visit .ensures C (sweeping-visit S i (l .loop-test .taken))) (c .if1 .left),
+    )
 
 returns : tie.Need-returns Inv-loop μ-loop
-returns c C S = sweeping-end S (c .before .loop .inv C S) (c .loop-test .left)
+returns c C S = sweeping-end S (c .before .loop .inv .1 C S) (c .loop-test .left)
 
 pub sweep-spec : {M : Type 1} → statement M
 sweep-spec =
@@ -90,16 +68,16 @@ sweep-spec =
     Inv-loop
     μ-loop
     loop-holds
-    mul-v
-    shared-slice-read-v
+    (λ c. search needs)
+    (λ c. search needs)
     cast-v
-    add-p
+    (λ c. search needs)
     visit-requires
-    loop-less
+    (λ c. search needs)
     loop-again
-    loop-less-2
+    (λ c. search needs)
     loop-again-2
-    same-length
-    same-length-2
-    same-length-3
+    (λ c. search needs)
+    (λ c. search needs)
+    (λ c. search needs)
     returns)

@@ -16,15 +16,6 @@ scored c = c .before .before .before
 abbrev pair : tie.After-best-pair → tie.After-pair-at
 pair c = c .before .before .before
 
-scores-requires : tie.Need-scores-requires
-scores-requires c κs = search needs
-
-pair-at-requires : tie.Need-pair-at-requires
-pair-at-requires c κs = search needs
-
-shared-slice-read-best-pair : tie.Need-shared-slice-read-best-pair
-shared-slice-read-best-pair c = search needs
-
 cast-best-pair : tie.Need-cast-best-pair
 cast-best-pair c = omega (arith, c .shared-slice-known5 .given (st (scored (c .before .before)) .args .v))
 
@@ -34,18 +25,6 @@ best-pair-requires c κs =
     let S = st w .pre .1 .holds in
     let k = w .scores .kept .1 .1 .1 .1 .1 .1 .1 .1 .0 in
     (omega (arith, S .standing .held .variants-top, S .v-in), k-least S, k-three S, omega (arith, k, S .standing .room, S .v-in))
-
-same-pair-requires : tie.Need-same-pair-requires
-same-pair-requires c κs = search needs
-
-same-length : tie.Need-same-length
-same-length c = search needs
-
-same-length-2 : tie.Need-same-length-2
-same-length-2 c = search needs
-
-same-length-3 : tie.Need-same-length-3
-same-length-3 c = search needs
 
 returns : tie.Need-returns
 returns c C S =
@@ -60,15 +39,6 @@ put-pair-requires c κs =
     let S = s .pre .1 .holds in
     (record { case = s .pre .1 .case; holds = movable S }, (omega (arith, b .best-pair .ensures .first-in, k-three S), omega (arith, b .best-pair .ensures .second-in, k-three S)))
 
-same-length-4 : tie.Need-same-length-4
-same-length-4 c = search needs
-
-same-length-5 : tie.Need-same-length-5
-same-length-5 c = search needs
-
-same-length-6 : tie.Need-same-length-6
-same-length-6 c = search needs
-
 returns-2 : tie.Need-returns-2
 returns-2 c C S =
     let d = c .before .before .before .before .before .before in
@@ -80,18 +50,18 @@ pub visit-spec : {M : Type 1} → statement M
 visit-spec =
     tie.close
     (tie.spec
-    scores-requires
-    pair-at-requires
-    shared-slice-read-best-pair
+    (λ c κs. search needs)
+    (λ c κs. search needs)
+    (λ c. search needs)
     cast-best-pair
     best-pair-requires
-    same-pair-requires
-    same-length
-    same-length-2
-    same-length-3
+    (λ c κs. search needs)
+    (λ c. search needs)
+    (λ c. search needs)
+    (λ c. search needs)
     returns
     put-pair-requires
-    same-length-4
-    same-length-5
-    same-length-6
+    (λ c. search needs)
+    (λ c. search needs)
+    (λ c. search needs)
     returns-2)
