@@ -25,7 +25,7 @@ use Rattle.shuffle.specs.Answers.{sweepOrders, lentAfter}
 use Rattle.no_haplotypes.specs.NoHaplotypes.{calledOf, answerAt, qualAt, gqAt}
 use Rattle.sweeps.specs.Demand3.{Demand3}
 use Rattle.with_haplotypes.specs.declared.RoundAnswer as operation-round
-use Rattle.with_haplotypes.specs.Round.{RoundInput, case, sweepCase, start, orderOfSweep, haplotypeAt, likelihoodAt, posteriorAt, final}
+use Rattle.with_haplotypes.specs.Round.{RoundInput, caseOfRound, runOf, sweepCase, orderOfSweep, haplotypeAt, likelihoodAt, posteriorAt, final}
 use Rattle.with_haplotypes.specs.Promise.{RoundSlices, roundOutcome}
 use Rattle.exports.specs.declared.answers.Answer.{Answer}
 use Rattle.exports.specs.declared.answers.CheckAnswer.{CheckAnswer}
@@ -77,10 +77,10 @@ pub record SweepOrders (w : List ℤ) (b : List ℕ) (seed : ℕ) (before : List
 -- `call_genotypes_with_haplotypes`, with demand 3 of what is returned and written. The slices are lent as `before` and come back as `after`
 pub record CallGenotypesWithHaplotypes (input : RoundInput) (sets : List ℤ) (before : RoundSlices) (a : RoundAnswer) (after : RoundSlices) : Type 0 where
   pub answer : Numbers readRound roundNumbers (roundOutcome input sets before) a
-  pub haplotypes-after : after .haplotypes ≡ afterwards (readRound a) (written (haplotypeAt input) (2 * length (case input .variants)) (before .haplotypes)) (before .haplotypes)
-  pub likelihoods-after : after .likelihoods ≡ afterwards (readRound a) (written (likelihoodAt input) (2 * length (case input .fragments)) (before .likelihoods)) (before .likelihoods)
-  pub posteriors-after : after .posteriors ≡ afterwards (readRound a) (written (posteriorAt input) (9 * length (case input .variants)) (before .posteriors)) (before .posteriors)
-  pub quals-after : after .quals ≡ afterwards (readRound a) (written (λ v. final input v .qual) (length (case input .variants)) (before .quals)) (before .quals)
-  pub gqs-after : after .gqs ≡ afterwards (readRound a) (written (λ v. final input v .gq) (length (case input .variants)) (before .gqs)) (before .gqs)
+  pub haplotypes-after : after .haplotypes ≡ afterwards (readRound a) (written (haplotypeAt (runOf input)) (2 * length (caseOfRound input .variants)) (before .haplotypes)) (before .haplotypes)
+  pub likelihoods-after : after .likelihoods ≡ afterwards (readRound a) (written (likelihoodAt (runOf input)) (2 * length (caseOfRound input .fragments)) (before .likelihoods)) (before .likelihoods)
+  pub posteriors-after : after .posteriors ≡ afterwards (readRound a) (written (posteriorAt (runOf input)) (9 * length (caseOfRound input .variants)) (before .posteriors)) (before .posteriors)
+  pub quals-after : after .quals ≡ afterwards (readRound a) (written (λ v. final (runOf input) v .qual) (length (caseOfRound input .variants)) (before .quals)) (before .quals)
+  pub gqs-after : after .gqs ≡ afterwards (readRound a) (written (λ v. final (runOf input) v .gq) (length (caseOfRound input .variants)) (before .gqs)) (before .gqs)
   pub demand3 : (x : operation-round.RoundAnswer) → readRound a ≡ done x
-      → Demand3 (sweepCase input) (orderOfSweep input) (input .limit) (start input) (record { sweeps = x .sweeps; settled = x .settled; haps = take (2 * length (case input .variants)) (after .haplotypes) })
+      → Demand3 (sweepCase (runOf input)) (orderOfSweep (runOf input)) (input .limit) (runOf input .start) (record { sweeps = x .sweeps; settled = x .settled; haps = take (2 * length (caseOfRound input .variants)) (after .haplotypes) })

@@ -10,8 +10,9 @@ use borrow.Author.Tests.{eq-eqb}
 use lib.IntN.{ℤ, pos}
 use lib.ListN.{length, getD}
 use Rattle.variants_and_fragments.specs.Case.{Case, variantOf}
-use Rattle.haplotype_assembly.specs.Phase.{isPhase, byteOf, earlier, isSet, nameBelow, setName, nameOfSet, phaseName}
-use Rattle.haplotype_assembly.proofs.Names.{earlier-right, earlier-first, earlier-second}
+use Rattle.haplotype_assembly.specs.Phase.{isPhase, byteOf, isSet, nameBelow, setName, nameOfSet, phaseName}
+use Rattle.variants_and_fragments.specs.Refusals.{earlier}
+use Rattle.variants_and_fragments.proofs.Short.{earlier-right, earlier-first, earlier-second}
 
 -- n is the least of f over the v below k with p
 pub record LeastOf (p : ℕ → Bool) (f : ℕ → ℕ) (k n : ℕ) : Type 0 where

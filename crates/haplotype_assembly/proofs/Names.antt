@@ -14,7 +14,9 @@ use lib.ListN.{length, getD, set, length-set, replicate, length-replicate, getD-
 use lib.Seq.{getD-set-same, getD-set-other}
 use Rattle.variants_and_fragments.specs.Words.{none, natOf}
 use Rattle.variants_and_fragments.specs.Layout.{pos0At}
-use Rattle.haplotype_assembly.specs.Phase.{phase0, phase1, byteOf, earlier, isSet, nameBelow, nameOfSet}
+use Rattle.variants_and_fragments.specs.Refusals.{earlier}
+use Rattle.variants_and_fragments.proofs.Short.{earlier-top}
+use Rattle.haplotype_assembly.specs.Phase.{phase0, phase1, byteOf, isSet, nameBelow, nameOfSet}
 use Rattle.haplotype_assembly.specs.PhaseRead.{setNameAt, phaseNameAt, NamedTo}
 use Rattle.haplotype_assembly.specs.GivenPhase.{setOk}
 
@@ -26,37 +28,6 @@ set-is (negsuc n) t e l = absurd (omega arith)
 pub set-other : (z : ℤ) (t u : ℕ) → t ≡ natOf z → (u ≡ t → ⊥) → isSet z u ≡ false
 set-other (pos n) t u e d = ne-eqb n u (λ q. d (sym q ∙ sym e))
 set-other (negsuc n) t u e d = refl
-
--- ---- the smaller of two names
-pub earlier-right : (a b : ℕ) → a ≡ 0 → b ≡ earlier a b
-unfolding earlier
-earlier-right a b e = rw (eq-eqb a 0 e)
-
-pub earlier-left : (a b : ℕ) → (a ≡ 0 → ⊥) → b ≡ 0 → a ≡ earlier a b
-unfolding earlier
-earlier-left a b d e = rw (ne-eqb a 0 d, eq-eqb b 0 e)
-
-module _ (a b : ℕ) (da : a ≡ 0 → ⊥) (db : b ≡ 0 → ⊥) where
-  pub earlier-first : a ≤ b → a ≡ earlier a b
-  unfolding earlier
-  earlier-first h = rw (ne-eqb a 0 da, ne-eqb b 0 db, le-leb a b h)
-
-  pub earlier-second : b < a → b ≡ earlier a b
-  unfolding earlier
-  earlier-second h = rw (ne-eqb a 0 da, ne-eqb b 0 db, lt-leb a b h)
-
--- it is one of the two
-pub earlier-one : (a b : ℕ) → (earlier a b ≡ a) ⊎ (earlier a b ≡ b)
-earlier-one a b = elim (ℕ-discrete a 0) [
-  | yes e ↦ inr (sym (earlier-right a b e))
-  | no d ↦ elim (ℕ-discrete b 0) [
-    | yes e ↦ inl (sym (earlier-left a b d e))
-    | no f ↦ elim (decLe a b) [ yes h ↦ inl (sym (earlier-first a b d f h)) | no h ↦ inr (sym (earlier-second a b d f (omega arith))) ]
-  ]
-]
-
-earlier-top : (a b : ℕ) → a < 2 ^ 32 → b < 2 ^ 32 → earlier a b < 2 ^ 32
-earlier-top a b h l = ⊎-elim (λ e. omega arith) (λ e. omega arith) (earlier-one a b)
 
 -- ---- one more variant
 name-in : (w sets : List ℤ) (v t : ℕ) → isSet (getD sets v (pos 0)) t ≡ true → setNameAt w sets (suc v) t ≡ earlier (setNameAt w sets v t) (pos0At w v + 1)
@@ -104,7 +75,7 @@ module _ {w sets : List ℤ} {n v : ℕ} {least : List ℕ} (i : NamedTo w sets 
 
       top : (u : ℕ) → u < n → getD (set least t x) u 0 < 2 ^ 32
       top u l = elim (ℕ-discrete u t) [
-        | yes d ↦ rw (d, getD-set-same least t x 0 inside) (earlier-top (getD least t 0) (p + 1) (i .top t h) (omega arith))
+        | yes d ↦ rw (d, getD-set-same least t x 0 inside) (earlier-top (2 ^ 32) (getD least t 0) (p + 1) (i .top t h) (omega arith))
         | no d ↦ rw (getD-set-other least t u x 0 d) (i .top u l)
       ]
 

@@ -16,14 +16,13 @@ use Rattle.variants_and_fragments.specs.declared.Checked.{Checked}
 use Rattle.variants_and_fragments.specs.declared.Checked.the-variants.{Accepted, Refused as CaseRefused}
 use Rattle.variants_and_fragments.specs.First.{firstFail}
 use Rattle.variants_and_fragments.specs.Written.{written}
-use Rattle.variants_and_fragments.specs.Refusals.{Outcome, refused, done, number, place, andThen, unless, afterwards}
+use Rattle.variants_and_fragments.specs.Refusals.{Outcome, refused, done, number, place, andThen, unless, afterwards, shortOf, earlier}
 use Rattle.variants_and_fragments.specs.Check.{caseOf, outcomeOf as checkedOutcome}
 use Rattle.haplotype_assembly.specs.declared.Phased.the-variants.{Done, Refused}
-use Rattle.haplotype_assembly.specs.Phase.{earlier}
 use Rattle.haplotype_assembly.specs.PhaseRead.{startAt, flagsAt, phaseNameAt}
-use Rattle.haplotype_assembly.specs.GivenPhase.{setsOk, phaseFaultAt, phaseFault, shortOf, phaseShort, phaseChecks, phaseOutcome, outcomeOf, GivenPhase}
+use Rattle.haplotype_assembly.specs.GivenPhase.{setsOk, phaseFaultAt, phaseFault, phaseShort, phaseChecks, phaseOutcome, outcomeOf, GivenPhase}
 use Rattle.haplotype_assembly.proofs.Cited.{first-all}
-use Rattle.haplotype_assembly.proofs.Names.{earlier-right, earlier-left, earlier-first, earlier-second}
+use Rattle.variants_and_fragments.proofs.Short.{none-earlier, short-none}
 use Rattle.haplotype_assembly.proofs.Decodes.{start-is, flags-are, names-are}
 
 -- what the check of a case answers, as an outcome
@@ -58,22 +57,6 @@ pub faultless : (n : ℕ) (bytes : List ℕ) (sets : List ℤ) → n < phaseFaul
 faultless n bytes sets h =
     let p = fault-past (length bytes) (length sets) (firstFail (setsOk n sets) n) n h in
     record { bytes-long = p .0; sets-long = p .1; sets-ok = first-all (setsOk n sets) n (p .2) }
-
-pub none-earlier : (a b : ℕ) → earlier a b ≡ 0 → (a ≡ 0) × (b ≡ 0)
-none-earlier a b e = elim (ℕ-discrete a 0) [
-  | yes p ↦ (p, earlier-right a b p ∙ e)
-  | no p ↦ elim (ℕ-discrete b 0) [
-    | yes q ↦ (earlier-left a b p q ∙ e, q)
-    | no q ↦ elim (decLe a b) [
-      | yes l ↦ let z = earlier-first a b p q l in absurd (omega arith)
-      | no l ↦ let z = earlier-second a b p q (omega arith) in absurd (omega arith)
-    ]
-  ]
-]
-
-pub short-none : (need long : ℕ) → shortOf need long ≡ 0 → need ≤ long
-unfolding shortOf
-short-none need long e = elim (decLe need long) [ yes l ↦ l | no l ↦ let z : need ≡ 0 = rw (lt-leb need long (omega arith)) at e in omega arith ]
 
 pub record Room (n haplotypes phased names : ℕ) : Type 0 where
   pub haplotypes-room : 2 * n ≤ haplotypes

@@ -8,7 +8,8 @@ use Prim.Native.Nat.{ℕ}
 use lib.IntN.{ℤ, pos, negsuc}
 use Rattle.variants_and_fragments.specs.Case.{Case, Variant}
 use Rattle.variants_and_fragments.specs.Decode.{tabulateFrom}
-use Rattle.haplotype_assembly.specs.Phase.{orderedFirst, orderedSecond, phasedTest, phasedRule, phased, phasedFlags, pairPlace, startAllele, startHaplotypes, earlier, nameBelow, setName, nameOfSet, phaseName}
+use Rattle.variants_and_fragments.specs.Refusals.{earlier}
+use Rattle.haplotype_assembly.specs.Phase.{orderedFirst, orderedSecond, phasedTest, phasedRule, phased, phasedFlags, pairPlace, startAllele, startHaplotypes, nameBelow, setName, nameOfSet, phaseName}
 
 abbrev variant : ℕ → ℕ → ℕ → List ℕ → Variant
 variant p a b other = record { pos0 = p; dp = 0; genotype0 = a; genotype1 = b; alleles = (65 ∷ []) ∷ other ∷ [] }

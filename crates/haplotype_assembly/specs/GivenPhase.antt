@@ -9,12 +9,12 @@ use lib.IntN.{ℤ, pos, negsuc}
 use lib.ListN.{length, getD}
 use Rattle.variants_and_fragments.specs.First.{firstFail}
 use Rattle.variants_and_fragments.specs.Written.{written}
-use Rattle.variants_and_fragments.specs.Refusals.{Outcome, refused, done, number, place, andThen, unless, afterwards}
+use Rattle.variants_and_fragments.specs.Refusals.{Outcome, refused, done, number, place, andThen, unless, afterwards, shortOf, earlier}
 use Rattle.variants_and_fragments.specs.Check.{caseOf}
 use Rattle.variants_and_fragments.specs.Decode.{decode}
 use Rattle.haplotype_assembly.specs.declared.Phased.{Phased}
 use Rattle.haplotype_assembly.specs.declared.Phased.the-variants.{Done, Refused}
-use Rattle.haplotype_assembly.specs.Phase.{earlier, phasedFlags, startAllele, phaseName}
+use Rattle.haplotype_assembly.specs.Phase.{phasedFlags, startAllele, phaseName}
 use Rattle.haplotype_assembly.specs.PhaseRead.{flagOf}
 
 -- ---- 7: a set ≥ N; phase bytes or sets not N long
@@ -35,10 +35,6 @@ abbrev pub phaseFault : ℕ → List ℕ → List ℤ → ℕ
 phaseFault n bytes sets = phaseFaultAt (length bytes) (length sets) (firstFail (setsOk n sets) n) n
 
 -- ---- 10: elements needed
-
--- what a slice of `long` elements needs, where that is too short; else 0
-unfoldable pub shortOf : ℕ → ℕ → ℕ
-shortOf need long = cond (leb need long) 0 need
 
 -- haplotypes 2 N, phased N, names N: the smallest needed count among those too short; 0 where none is
 unfoldable pub phaseShort : ℕ → ℕ → ℕ → ℕ → ℕ

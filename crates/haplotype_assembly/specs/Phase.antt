@@ -7,6 +7,7 @@ use Prim.Native.Nat.{ℕ, zero, suc, _+_, _*_, _/_, _%_}
 use lib.Dec.{leb, eqb}
 use lib.IntN.{ℤ, pos, negsuc}
 use lib.ListN.{length, getD}
+use Rattle.variants_and_fragments.specs.Refusals.{earlier}
 use Rattle.variants_and_fragments.specs.Case.{Case, Variant, alleleCount, alleleOf, variantOf}
 use Rattle.variants_and_fragments.specs.Decode.{tabulate}
 
@@ -68,10 +69,6 @@ unfoldable pub startHaplotypes : Case → List ℕ → List ℕ
 startHaplotypes case bytes = tabulate (2 * length (case .variants)) (startAllele case bytes)
 
 -- ---- set names, where 0 is none
-
--- the smaller of two names; none gives the other one
-unfoldable pub earlier : ℕ → ℕ → ℕ
-earlier a b = cond (eqb a 0) b (cond (eqb b 0) a (low a b))
 
 -- a variant's set is s; a negative one is none
 abbrev pub isSet : ℤ → ℕ → Bool

@@ -1,10 +1,9 @@
 // The given phase of document 01, section 5, and the fragment lines of section 7.
 ghost use mathlib.Core.Path.{_≡_};
 ghost use Prim.Native.Nat.{_≤_};
-ghost use Rattle.haplotype_assembly.specs.GivenPhase.{phaseShort, shortOf, GivenPhase};
+ghost use Rattle.haplotype_assembly.specs.GivenPhase.{phaseShort, GivenPhase};
 ghost use Rattle.haplotype_assembly.specs.FlistBuffer.{FlistBuffer};
 use crate::lines::write_lines;
-use crate::phase::earlier;
 use crate::phase::name_sets;
 use crate::phase::phase_fault;
 use crate::phase::write_phase;
@@ -15,6 +14,8 @@ use pileup::scratch::fragment_ends;
 use variants_and_fragments::Checked;
 use variants_and_fragments::Refusal;
 use variants_and_fragments::check_case;
+use variants_and_fragments::earlier;
+use variants_and_fragments::short_of;
 
 pub mod fields;
 pub mod lines;
@@ -26,16 +27,6 @@ pub mod tally;
 pub enum Phased {
     Done,
     Refused(Refusal),
-}
-
-// What a slice of `long` elements needs, where that is too short; else 0.
-pub fn short_of(need: usize, long: usize) -> usize
-    ensures { λ r. ⌜ r ≡ shortOf need long ⌝ }
-{
-    if need <= long {
-        return 0;
-    }
-    need
 }
 
 // The smallest count needed by a slice too short, for n variants; 0 where none is.

@@ -6,13 +6,14 @@ ghost use lib.ListN.{length};
 ghost use Rattle.variants_and_fragments.specs.First.{firstFail};
 ghost use Rattle.variants_and_fragments.specs.Written.{written};
 ghost use Rattle.variants_and_fragments.specs.Accepted.{CaseIn};
-ghost use Rattle.haplotype_assembly.specs.Phase.{low, high, orderedFirst, orderedSecond, earlier};
+ghost use Rattle.haplotype_assembly.specs.Phase.{low, high, orderedFirst, orderedSecond};
 ghost use Rattle.haplotype_assembly.specs.PhaseRead.{ruleAt, phasedAt, flagOf, flagsAt, startAt, phaseNameAt, NamedTo};
 ghost use Rattle.haplotype_assembly.specs.GivenPhase.{setsOk, phaseFault};
 use crate::fields::allele_length;
 use crate::fields::genotype;
 use crate::fields::pos0;
 use variants_and_fragments::Sizes;
+use variants_and_fragments::earlier;
 use variants_and_fragments::layout::NONE;
 use variants_and_fragments::layout::allele_count;
 use variants_and_fragments::layout::nat_at;
@@ -181,23 +182,6 @@ pub fn phase_fault(n: usize, phase: &[u8], sets: &[i32]) -> usize
 }
 
 // ---- set names
-
-// The smaller of two names; 0, which is none, gives the other one.
-pub fn earlier(a: usize, b: usize) -> usize
-    ensures { λ r. ⌜ r ≡ earlier a b ⌝ }
-{
-    if a == 0 {
-        return b;
-    }
-    if b == 0 {
-        return a;
-    }
-    if a <= b {
-        return a;
-    }
-    b
-}
-
 // Takes variant v into its set's name.
 pub fn note_name(words: &[i32], s: Sizes, sets: &[i32], v: usize, least: &mut [usize])
     requires { ⌜ CaseIn (now words) s ⌝ }

@@ -11,7 +11,7 @@ use Rattle.shuffle.specs.Orders.{orderCount, orderAt}
 use Rattle.sweeps.specs.Sweeps.{SweepCase, RunResult, run, phasedTotal, sourceTotal}
 use Rattle.likelihoods.specs.SweepCaseOf.{sweepCaseOf}
 use Rattle.with_haplotypes.specs.declared.RoundAnswer.{RoundAnswer}
-use Rattle.with_haplotypes.specs.Round.{RoundInput, case, sweepCase, start, orderOfSweep, result, returned}
+use Rattle.with_haplotypes.specs.Round.{RoundInput, runOf, sweepCase, orderOfSweep, result, returned}
 
 module _ (input : RoundInput) (c : Case) where
   abbrev sweepCaseAt : SweepCase
@@ -30,14 +30,13 @@ module _ (input : RoundInput) (c : Case) where
   }
 
 module _ (input : RoundInput) (c : Case) (decoded : decode (input .words) (input .bases) ≡ c) where
-  pub start-at : start input ≡ startHaplotypes c (input .phase)
-  unfolding start case
+  pub start-at : runOf input .start ≡ startHaplotypes c (input .phase)
   start-at = ap (λ (x : Case). startHaplotypes x (input .phase)) decoded
 
-  pub result-at : result input ≡ resultAt input c
-  unfolding result sweepCase start orderOfSweep case resultAt
+  pub result-at : result (runOf input) ≡ resultAt input c
+  unfolding result sweepCase orderOfSweep resultAt
   result-at = ap (resultAt input) decoded
 
-  pub returned-at : returned input ≡ returnedAt input c
-  unfolding returned result sweepCase start orderOfSweep case resultAt returnedAt
+  pub returned-at : returned (runOf input) ≡ returnedAt input c
+  unfolding returned result sweepCase orderOfSweep resultAt returnedAt
   returned-at = ap (returnedAt input) decoded

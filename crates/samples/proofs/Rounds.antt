@@ -8,7 +8,7 @@ use Rattle.variants_and_fragments.specs.Refusals.{done}
 use Rattle.haplotype_assembly.specs.Phase.{startHaplotypes}
 use Rattle.sweeps.specs.Sweeps.{RunResult}
 use Rattle.with_haplotypes.specs.declared.RoundAnswer.{RoundAnswer}
-use Rattle.with_haplotypes.specs.Round.{RoundInput, returned}
+use Rattle.with_haplotypes.specs.Round.{RoundInput, runOf, returned}
 use Rattle.with_haplotypes.specs.Promise.{roundChecks}
 use Rattle.with_haplotypes.proofs.RoundAnswers.{outcome-done}
 use Rattle.samples.specs.Samples.{rates, sizes, roundOn, setsOf, SampleRound}
@@ -29,7 +29,7 @@ module _ (sample : Case) (phase order given left : List ℕ) (answer : RoundAnsw
 
   pub sample-round : Laid sample → Computed → SampleRound sample phase order given left answer
   sample-round laid computed =
-      let returns : returned input ≡ answer = returned-at input sample (laid .decoded) ∙ computed .returns in
+      let returns : returned (runOf input) ≡ answer = returned-at input sample (laid .decoded) ∙ computed .returns in
       record {
         accepted = laid .accepted;
         decoded = laid .decoded;

@@ -22,7 +22,7 @@ use Rattle.genotype_probs.specs.Rates.{ratesFault}
 use Rattle.genotype_probs.specs.Priors.{priorTable, allPriors}
 use Rattle.haplotype_assembly.specs.Phase.{phase0, phase1}
 use Rattle.with_haplotypes.specs.declared.RoundAnswer.{RoundAnswer}
-use Rattle.with_haplotypes.specs.Round.{RoundInput, roundInput, start, result, returned}
+use Rattle.with_haplotypes.specs.Round.{RoundInput, roundInput, runOf, result, returned}
 use Rattle.with_haplotypes.specs.Promise.{RoundSlices, shortOfSlices, roundOutcome}
 
 -- −n
@@ -86,9 +86,9 @@ pub record SampleRound (sample : Case) (phase order given left : List ℕ) (answ
   pub accepted : caseOf (encodeWords sample) (encodeBases sample) ≡ done (sizes sample)
   pub decoded : decode (encodeWords sample) (encodeBases sample) ≡ sample
   -- section 5's haplotypes, those that the run leaves, and what is returned
-  pub starts : start (roundOn sample phase order) ≡ given
-  pub ends : result (roundOn sample phase order) .haps ≡ left
-  pub returns : returned (roundOn sample phase order) ≡ answer
+  pub starts : runOf (roundOn sample phase order) .start ≡ given
+  pub ends : result (runOf (roundOn sample phase order)) .haps ≡ left
+  pub returns : returned (runOf (roundOn sample phase order)) ≡ answer
   -- nothing is refused, whatever slices are lent that are long enough
   pub outcome : (slices : RoundSlices) → shortOfSlices (length (sample .variants)) (length (sample .fragments)) slices ≡ 0
       → roundOutcome (roundOn sample phase order) (setsOf phase) slices ≡ done answer
@@ -114,6 +114,6 @@ pub record Samples : Type 0 where
   -- (j) 113 at (0,1), also from phase '1', where gain is 0 and sweeps are 2
   pub j : SampleRound (reads 113 113) (phase0 ∷ []) (0 ∷ []) (0 ∷ 1 ∷ []) (0 ∷ 1 ∷ []) (settledAfter 1 (neg 846592) (neg 846592))
   pub j-from-1 : SampleRound (reads 113 113) (phase1 ∷ []) (0 ∷ []) (1 ∷ 0 ∷ []) (0 ∷ 1 ∷ []) (settledAfter 2 (neg 846592) (neg 846592))
-  pub j-gain : returned (roundOn (reads 113 113) (phase1 ∷ []) (0 ∷ [])) .end -ℤ returned (roundOn (reads 113 113) (phase1 ∷ []) (0 ∷ [])) .start ≡ pos 0
+  pub j-gain : returned (runOf (roundOn (reads 113 113) (phase1 ∷ []) (0 ∷ []))) .end -ℤ returned (runOf (roundOn (reads 113 113) (phase1 ∷ []) (0 ∷ []))) .start ≡ pos 0
   -- (k) N = 0: one sweep
   pub k : SampleRound noVariants [] [] [] [] (settledAfter 1 (pos 0) (pos 0))
