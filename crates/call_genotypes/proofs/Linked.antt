@@ -14,7 +14,7 @@ use Rattle.steps.proofs.Signed.{cases}
 use Rattle.variants_and_fragments.specs.Pileup.{Row}
 use Rattle.variants_and_fragments.specs.Sums.{sumOver}
 use Rattle.variants_and_fragments.proofs.Alls.{all-imp}
-use Rattle.pileup.specs.Packed.{RowIn, RowsIn, rowsAt, groupStart}
+use Rattle.pileup.specs.Packed.{RowsIn, rowsAt, groupStart}
 use Rattle.pileup.proofs.Groups.{group-rows, group-in}
 use Rattle.genotype_probs.proofs.TableSums.{pair-in}
 use Rattle.sweeps.specs.Sweeps.{SweepCase, allele0, allele1, score, scoreWith, mixOf}

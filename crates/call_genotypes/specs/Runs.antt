@@ -4,7 +4,6 @@ use mathlib.Core.Bool.{Bool}
 use mathlib.Core.List.{List}
 use Prim.Native.Nat.{ℕ, _*_, _%_, _≤_}
 use lib.ListN.{length}
-use lib.IntN.{ℤ}
 use Rattle.shuffle.specs.Permutation.{Permutation}
 use Rattle.shuffle.specs.Orders.{orderAt}
 use Rattle.sweeps.specs.Sweeps.{SweepCase, RunResult, run}

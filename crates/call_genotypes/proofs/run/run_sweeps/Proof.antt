@@ -1,5 +1,5 @@
 -- `call_genotypes::run::run_sweeps` meets its contract. The loop's invariant: the sweeps that are left give the whole run. Assumes nothing.
-use mathlib.Core.Path.{_≡_, refl}
+use mathlib.Core.Path.{refl}
 use Prim.Native.Nat.{_+_, _-_, _*_, _%_, _≤_}
 use native.Mathlib.Omega.{arith}
 use borrow.Author.Needs.{needs}
@@ -9,13 +9,17 @@ use Rattle.sweeps.specs.Sweeps.{SweepCase}
 use Rattle.likelihoods.specs.Held.{sweepReads}
 use Rattle.call_genotypes.specs.Scores.{sweepState}
 use Rattle.call_genotypes.specs.Runs.{orderOf, RunStart}
+use Rattle.call_genotypes.proofs.Sweeping.{SameLengths}
 use Rattle.call_genotypes.proofs.Running.{Running, end-fits, running-start, running-sweep, running-step, run-settles, run-out}
 use Rattle.call_genotypes.proofs.run.run_sweeps.Statement.{statement}
 use Rattle.call_genotypes.proofs.run.run_sweeps.Tie as tie
 
 abbrev Inv-loop : tie.InvT-loop
 Inv-loop t ks ph pri ends piles orders hap₀ lik₀ post₀ n m limit s₀ hap lik post s =
-    ((length hap ≡ length hap₀) × (length lik ≡ length lik₀) × (length post ≡ length post₀)) × ((C : SweepCase) → RunStart C (sweepReads ks ph pri ends piles) (sweepState hap₀ lik₀ post₀) orders (record { n = n; m = m; limit = limit }) → Running C (orderOf orders n m) limit (sweepState hap₀ lik₀ post₀) (sweepState hap lik post) s)
+    let before = sweepState hap₀ lik₀ post₀ in
+    let state = sweepState hap lik post in
+    SameLengths before state
+    × ((C : SweepCase) → RunStart C (sweepReads ks ph pri ends piles) before orders (record { n = n; m = m; limit = limit }) → Running C (orderOf orders n m) limit before state s)
 
 abbrev μ-loop : tie.MeasureT-loop
 μ-loop t ks ph pri ends piles orders hap₀ lik₀ post₀ n m limit s₀ hap lik post s = limit - s

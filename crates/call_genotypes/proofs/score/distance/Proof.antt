@@ -1,6 +1,5 @@
 -- `call_genotypes::score::distance` meets its contract: none of these sums wraps. Assumes nothing.
 use native.Mathlib.Omega.{arith}
-use borrow.Author.Needs.{needs}
 use lib.IntN.{_+ℤ_, _-ℤ_}
 use mir.Syntax.{w64}
 use Rattle.steps.proofs.Signed.{minus-fits, minus-read, read-small, sfits}

@@ -1,6 +1,6 @@
 -- `call_genotypes::visit::move_liks` meets its contract. The loop's invariant: the calls before p have moved their likelihoods. Assumes nothing.
 use mathlib.Core.Path.{_≡_, ap, _∙_}
-use Prim.Native.Nat.{ℕ, _-_, _+_, _*_, _^_, _<_, _≤_}
+use Prim.Native.Nat.{_-_, _+_, _*_, _^_, _<_, _≤_}
 use native.Mathlib.Omega.{arith}
 use borrow.Author.Needs.{needs}
 use lib.ListN.{length}

@@ -1,5 +1,5 @@
 -- `call_genotypes::visit::sweep` meets its contract. The loop's invariant: what is left of the order gives the whole sweep. Assumes nothing.
-use mathlib.Core.Path.{_≡_, refl}
+use mathlib.Core.Path.{refl}
 use Prim.Native.Nat.{_-_}
 use native.Mathlib.Omega.{arith}
 use borrow.Author.Needs.{needs}
@@ -8,13 +8,15 @@ use Rattle.sweeps.specs.Sweeps.{SweepCase}
 use Rattle.likelihoods.specs.Held.{sweepReads}
 use Rattle.call_genotypes.specs.Scores.{sweepState}
 use Rattle.call_genotypes.specs.Visits.{SweepStart}
-use Rattle.call_genotypes.proofs.Sweeping.{Sweeping, sweeping-start, sweeping-visit, sweeping-changed, sweeping-same, sweeping-end}
+use Rattle.call_genotypes.proofs.Sweeping.{SameLengths, Sweeping, sweeping-start, sweeping-visit, sweeping-changed, sweeping-same, sweeping-end}
 use Rattle.call_genotypes.proofs.visit.sweep.Statement.{statement}
 use Rattle.call_genotypes.proofs.visit.sweep.Tie as tie
 
 abbrev Inv-loop : tie.InvT-loop
 Inv-loop t ks ph pri ends piles order hap₀ lik₀ post₀ changed₀ p₀ hap lik post changed p =
-    ((length hap ≡ length hap₀) × (length lik ≡ length lik₀) × (length post ≡ length post₀)) × ((C : SweepCase) → SweepStart C (sweepReads ks ph pri ends piles) (sweepState hap₀ lik₀ post₀) order → Sweeping C order (sweepState hap₀ lik₀ post₀) (sweepState hap lik post) changed p)
+    let before = sweepState hap₀ lik₀ post₀ in
+    let state = sweepState hap lik post in
+    SameLengths before state × ((C : SweepCase) → SweepStart C (sweepReads ks ph pri ends piles) before order → Sweeping C order before state changed p)
 
 abbrev μ-loop : tie.MeasureT-loop
 μ-loop t ks ph pri ends piles order hap₀ lik₀ post₀ changed₀ p₀ hap lik post changed p = length order - p

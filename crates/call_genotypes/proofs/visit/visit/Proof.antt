@@ -1,5 +1,4 @@
 -- `call_genotypes::visit::visit` meets its contract: the best pair of the scores that were written is taken. Assumes nothing.
-use Prim.Native.Nat.{_<_}
 use native.Mathlib.Omega.{arith}
 use borrow.Author.Needs.{needs}
 use Rattle.call_genotypes.proofs.Visited.{k-least, k-three, movable, visited-same, visited-moved}
