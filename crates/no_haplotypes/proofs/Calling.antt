@@ -22,7 +22,7 @@ use Rattle.variants_and_fragments.specs.Written.{written}
 use Rattle.variants_and_fragments.proofs.Decoded.{allele-count-is}
 use Rattle.variants_and_fragments.proofs.GoodCases.{good-case}
 use Rattle.variants_and_fragments.proofs.Sums.{count-le}
-use Rattle.variants_and_fragments.proofs.Usable.{only-length}
+use Rattle.variants_and_fragments.proofs.Only.{only-length}
 use Rattle.variants_and_fragments.proofs.Written.{written-at, written-length}
 use Rattle.pileup.specs.Packed.{Grouped}
 use Rattle.pileup.proofs.Groups.{group-rows, group-in}

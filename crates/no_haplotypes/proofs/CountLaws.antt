@@ -20,7 +20,7 @@ use Rattle.variants_and_fragments.specs.Sums.{countOver}
 use Rattle.variants_and_fragments.proofs.Alls.{all-imp, all-map}
 use Rattle.variants_and_fragments.proofs.Decoded.{fragments-are, strand-is}
 use Rattle.variants_and_fragments.proofs.GoodCases.{fragment-in}
-use Rattle.variants_and_fragments.proofs.Usable.{only-all}
+use Rattle.variants_and_fragments.proofs.Only.{only-all}
 use Rattle.no_haplotypes.specs.NoHaplotypes.{rowStrand, alleleCalls, strandCalls, callsAt}
 
 -- ---- lists

@@ -20,7 +20,7 @@ use Rattle.variants_and_fragments.specs.Decode.{tabulateFrom}
 use Rattle.variants_and_fragments.specs.Layout.{strandAt}
 use Rattle.variants_and_fragments.specs.Pileup.{Row, only}
 use Rattle.variants_and_fragments.specs.Sums.{sumOver}
-use Rattle.variants_and_fragments.proofs.Usable.{only-length}
+use Rattle.variants_and_fragments.proofs.Only.{only-length}
 use Rattle.pileup.specs.Packed.{rowAt, rowsAt, RowIn, RowsIn}
 use Rattle.genotype_probs.specs.Priors.{lnHalf}
 use Rattle.genotype_probs.proofs.ListLaws.{sum-last, table-length, table-last, down-abs}
