@@ -28,6 +28,11 @@ pub term-small : (n : ℕ) (c : Call) (a : ℕ) → natAbs (c .qual) ≤ n → n
 unfolding callTerm
 term-small n c a h k = either-small n (eqb (c .allele) a) (c .one-minus-qual) (c .qual) k h
 
+-- the term of a call from its parts
+pub term-of : (call : Call) (own allele b : ℕ) (q o : ℤ) → allele ≡ call .allele → b ≡ own → q ≡ call .qual → o ≡ call .one-minus-qual → cond (eqb allele b) o q ≡ callTerm call own
+unfolding callTerm
+term-of call own allele b q o ea eb eq eo = rw (ea, eb, eq, eo) refl
+
 module _ (rows hap mask : List ℕ) (i h : ℕ) where
   abbrev v : ℕ
   v = callAt rows i .variant

@@ -27,6 +27,14 @@ fn call_term(allele: usize, own: u8, qual: i64, one_minus_qual: i64) -> i64
     }
 }
 
+// x, where the flag is 1. The product keeps the compiler from making a jump of the test of the allele, which no machine can guess.
+fn weighed(flag: u8, x: i64) -> i64
+    requires { ⌜ natAbs x ≤ 262144 ⌝ }
+    ensures { λ r. ⌜ (flag ≡ 1 → r ≡ x) ⌝ }
+{
+    flag as i64 * x
+}
+
 // What the call of row i adds to its read's likelihood on haplotype h: nothing at a variant whose flag is not 1.
 fn call_share(rows: &[u64], hap: &[u8], mask: &[u8], i: usize, h: usize) -> i64
     requires { ⌜ CallsIn (now rows) (i + 1) (now hap) (now mask) × (h < 2) ⌝ }
@@ -34,8 +42,11 @@ fn call_share(rows: &[u64], hap: &[u8], mask: &[u8], i: usize, h: usize) -> i64
 {
     let row = unpack(rows[i]);
     let v = row.variant;
-    let y = call_term(row.allele, hap[2 * v + h], row.qual, row.one_minus_qual);
-    if mask[v] == 1 { y } else { 0 }
+    let flag = mask[v];
+    let qual = weighed(flag, row.qual);
+    let one_minus_qual = weighed(flag, row.one_minus_qual);
+    let y = call_term(row.allele, hap[2 * v + h], qual, one_minus_qual);
+    if flag == 1 { y } else { 0 }
 }
 
 // A read's likelihoods, from its rows, a to e. At the loop's head the first j of them are added.

@@ -1,7 +1,7 @@
 -- `likelihoods::likelihoods::call_share` meets its contract: a row that is there has its pair and its flag.
 -- Assumes nothing.
 use mathlib.Core.Path.{_≡_, ap, _∙_}
-use Prim.Native.Nat.{_+_, _*_, _<_, _≤_}
+use Prim.Native.Nat.{ℕ, _+_, _*_, _<_, _≤_}
 use native.Mathlib.Omega.{arith}
 use borrow.Author.Needs.{needs}
 use denote.Ref.{now}
@@ -14,7 +14,7 @@ use Rattle.variants_and_fragments.specs.Case.{Call}
 use Rattle.pileup.specs.declared.row.Row.{Row}
 use Rattle.sweeps.specs.Sweeps.{callTerm}
 use Rattle.likelihoods.specs.Likelihoods.{callAt, alleleOn}
-use Rattle.likelihoods.proofs.CallShares.{term-small, share-flagged, share-unflagged}
+use Rattle.likelihoods.proofs.CallShares.{term-small, term-of, share-flagged, share-unflagged}
 use Rattle.likelihoods.proofs.likelihoods.call_share.Statement.{statement}
 use Rattle.likelihoods.proofs.likelihoods.call_share.Tie as tie
 
@@ -43,55 +43,74 @@ start c = c .before .before .before .before .before
 variant-is : (c : tie.After-unpack) → c .unpack .result .variant ≡ call (start c) .variant
 variant-is c = ap (λ (r : Row). r .variant) (c .unpack .ensures)
 
+allele-is : (c : tie.After-unpack) → c .unpack .result .allele ≡ call (start c) .allele
+allele-is c = ap (λ (r : Row). r .allele) (c .unpack .ensures)
+
+small-quals : (s : tie.Start) → (natAbs (call s .qual) ≤ 262144) × (natAbs (call s .one-minus-qual) ≤ 262144)
+small-quals s = (s .pre .0 .qual-small (s .args .i) (omega arith), s .pre .0 .one-minus-qual-small (s .args .i) (omega arith))
+
+shared-slice-read-flag : tie.Need-shared-slice-read-flag
+shared-slice-read-flag c = let u = c .before in rw (variant-is u) (flag-there (start u))
+
+qual-is : (c : tie.After-unpack) → toZ w64 (ofZ w64 (c .unpack .result .qual)) ≡ call (start c) .qual
+qual-is c = ap (λ (r : Row). toZ w64 (ofZ w64 (r .qual))) (c .unpack .ensures) ∙ read-small w64 (call (start c) .qual) (omega (arith, small-quals (start c) .0))
+
+other-is : (c : tie.After-unpack) → toZ w64 (ofZ w64 (c .unpack .result .«one_minus_qual»)) ≡ call (start c) .one-minus-qual
+other-is c = ap (λ (r : Row). toZ w64 (ofZ w64 (r .«one_minus_qual»))) (c .unpack .ensures) ∙ read-small w64 (call (start c) .one-minus-qual) (omega (arith, small-quals (start c) .1))
+
+weighed-requires : tie.Need-weighed-requires
+weighed-requires c κs = let u = c .before .before in rw (qual-is u) (small-quals (start u) .0)
+
+weighed-requires-2 : tie.Need-weighed-requires-2
+weighed-requires-2 c κs = let u = c .before .before .before .before in rw (other-is u) (small-quals (start u) .1)
+
+-- where the row is unpacked
+abbrev unpacking : tie.After-weighed2 → tie.After-unpack
+unpacking c = c .before .before .before .before .before
+
 mul-call-term : tie.Need-mul-call-term
-mul-call-term c = omega (arith, variant-is c, pair-there (start c))
+mul-call-term c = let u = unpacking c in omega (arith, variant-is u, pair-there (start u))
 
 add-call-term : tie.Need-add-call-term
-add-call-term c = omega (arith, variant-is c, pair-there (start c), start c .pre .1)
+add-call-term c = let u = unpacking c in omega (arith, variant-is u, pair-there (start u), start u .pre .1)
 
 shared-slice-read-call-term : tie.Need-shared-slice-read-call-term
-shared-slice-read-call-term c =
-    let u = c .before in omega (arith, variant-is u, pair-there (start u), start u .pre .1)
+shared-slice-read-call-term c = let u = unpacking (c .before) in omega (arith, variant-is u, pair-there (start u), start u .pre .1)
 
 call-term-requires : tie.Need-call-term-requires
 call-term-requires c κs = search needs
-
--- where the row is unpacked
-abbrev unpacking : tie.After-call-term → tie.After-unpack
-unpacking c = c .before .before .before .before
-
-shared-slice-read-if1 : tie.Need-shared-slice-read-if1
-shared-slice-read-if1 c = let u = unpacking (c .before) in rw (variant-is u) (flag-there (start u))
 
 -- the term of the call, read back
 abbrev term : tie.Start → ℤ
 term s = callTerm (call s) (alleleOn (now (s .args .hap)) (s .args .h) (call s .variant))
 
 small : (s : tie.Start) → natAbs (term s) ≤ 262144
-small s = term-small 262144 (call s) _ (s .pre .0 .qual-small (s .args .i) (omega arith)) (s .pre .0 .one-minus-qual-small (s .args .i) (omega arith))
+small s = term-small 262144 (call s) _ (small-quals s .0) (small-quals s .1)
 
-result-is : (c : tie.After-call-term) → toZ w64 (ofZ w64 (c .call-term .result)) ≡ term (start (unpacking c))
-unfolding callTerm
+-- the term, where the flag is 1
+result-is : (c : tie.Then1) → let r = c .before in toZ w64 (ofZ w64 (r .call-term .result)) ≡ term (start (unpacking (r .before .before)))
 result-is c =
-    let u = unpacking c in
-    let s = start u in
-    let q = s .pre .0 .qual-small (s .args .i) (omega arith) in
-    let o = s .pre .0 .one-minus-qual-small (s .args .i) (omega arith) in
-    read-back w64 (c .call-term .result) (c .call-term .ok)
-    ∙ rw (u .unpack .ensures, read-small w64 (call s .qual) (omega arith), read-small w64 (call s .one-minus-qual) (omega arith)) at (c .call-term .ensures)
+    let r = c .before in
+    let w = r .before .before in
+    let u = unpacking w in
+    let p = w .before .before in
+    let q = read-back w64 (p .weighed .result) (p .weighed .ok) ∙ p .weighed .ensures (c .if1 .taken) ∙ qual-is u in
+    let o = read-back w64 (w .weighed2 .result) (w .weighed2 .ok) ∙ w .weighed2 .ensures (c .if1 .taken) ∙ other-is u in
+    read-back w64 (r .call-term .result) (r .call-term .ok)
+    ∙ r .call-term .ensures
+    ∙ term-of (call (start u)) _ _ _ _ _ (allele-is u) (ap (λ (v : ℕ). alleleOn (now (start u .args .hap)) (start u .args .h) v) (variant-is u)) q o
 
 returns : tie.Need-returns
 returns c =
-    let r = c .before .before in
-    let u = unpacking r in
+    let u = unpacking (c .before .before .before) in
     let s = start u in (
-      result-is r ∙ share-flagged (now (s .args .rows)) (now (s .args .hap)) (now (s .args .mask)) (s .args .i) (s .args .h) (rw (variant-is u) at (c .if1 .taken)),
-      rw (result-is r) (small s),
+      result-is c ∙ share-flagged (now (s .args .rows)) (now (s .args .hap)) (now (s .args .mask)) (s .args .i) (s .args .h) (rw (variant-is u) at (c .if1 .taken)),
+      rw (result-is c) (small s),
     )
 
 returns-2 : tie.Need-returns-2
 returns-2 c =
-    let u = unpacking (c .before .before) in
+    let u = unpacking (c .before .before .before) in
     let s = start u in
     (share-unflagged (now (s .args .rows)) (now (s .args .hap)) (now (s .args .mask)) (s .args .i) (s .args .h) (rw (variant-is u) at (c .if1 .left)), omega arith)
 
@@ -102,10 +121,12 @@ call-share-spec =
     mul-unpack
     shared-slice-read-unpack
     unpack-requires
+    shared-slice-read-flag
+    weighed-requires
+    weighed-requires-2
     mul-call-term
     add-call-term
     shared-slice-read-call-term
     call-term-requires
-    shared-slice-read-if1
     returns
     returns-2)
