@@ -1,3 +1,4 @@
+// Fisher-Yates: an order of the variants by the outputs of SplitMix64.
 ghost use mathlib.Core.Path.{_≡_};
 ghost use Prim.Native.Nat.{_+_, _-_, _%_, _^_, _≤_, _<_};
 ghost use lib.ListN.{length};

@@ -1,3 +1,4 @@
+// Sweep orders: the operation `sweep_orders`, and the check of lent orders (document 01, section 7, refusal 8).
 ghost use mathlib.Core.Path.{_≡_};
 ghost use Prim.Native.Nat.{_≤_};
 ghost use Rattle.shuffle.specs.Answers.{ordersOutcome, checkedAs, SweepOrders};

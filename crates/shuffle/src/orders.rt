@@ -1,3 +1,4 @@
+// Orders one after the other: writing them, and finding one that is no permutation.
 ghost use mathlib.Core.Path.{_≡_};
 ghost use Prim.Native.Nat.{ℕ, _+_, _*_, _≤_, _<_};
 ghost use lib.ListN.{length, getD};

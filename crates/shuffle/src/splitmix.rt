@@ -1,3 +1,4 @@
+// SplitMix64: the state, the mixing, and a product that keeps the low 64 bits.
 ghost use mathlib.Core.Path.{_≡_};
 ghost use Prim.Native.Nat.{_*_, _%_, _^_};
 ghost use Rattle.shuffle.specs.SplitMix.{nextState, mixed};
