@@ -11,9 +11,11 @@ use lib.Seq.{getD-set-same, getD-set-other, set-getD}
 use lib.IntN.{ℤ, pos, _+ℤ_, +ℤ-idl, +ℤ-idr}
 use borrow.Author.Tests.{ne-eqb}
 use Rattle.variants_and_fragments.specs.Case.{Call, risingFrom, rising}
-use Rattle.variants_and_fragments.specs.Sums.{sumOver}
+use Rattle.variants_and_fragments.specs.Accepted.{allb as allOf}
+use Rattle.variants_and_fragments.specs.Sums.{sumOver, sumTo, countTo}
+use Rattle.variants_and_fragments.proofs.Sums.{sumTo-cong, countTo-cong}
 use Rattle.variants_and_fragments.proofs.Bools.{T-not, is-true, which, cond-yes, cond-no}
-use Rattle.sweeps.specs.Sweeps.{SweepCase, allele0, allele1, putPair, sameHaps, sumTo, countTo, callTerm, likelihood, hasCall, readShare, allOf, perCall}
+use Rattle.sweeps.specs.Sweeps.{SweepCase, allele0, allele1, putPair, sameHaps, callTerm, likelihood, hasCall, readShare, perCall}
 use Rattle.steps.proofs.Signed.{up, dn, parts-add, up-pos, dn-pos, up-add, dn-add, zlin}
 
 -- ---- tests
@@ -98,16 +100,6 @@ unfolding putPair
 put-self h v = rw (set-getD h (2 * v) 0, set-getD h (2 * v + 1) 0)
 
 -- ---- sums
-pub sumTo-cong : (m : ℕ) (f g : ℕ → ℤ) → ((w : ℕ) → w < m → f w ≡ g w) → sumTo m f ≡ sumTo m g
-unfolding sumTo
-sumTo-cong zero f g e = refl
-sumTo-cong (suc m) f g e = cc (sumTo-cong m f g (λ w l. e w (omega arith)), e m (omega arith))
-
-pub countTo-cong : (m : ℕ) (f g : ℕ → ℕ) → ((w : ℕ) → w < m → f w ≡ g w) → countTo m f ≡ countTo m g
-unfolding countTo
-countTo-cong zero f g e = refl
-countTo-cong (suc m) f g e = cc (countTo-cong m f g (λ w l. e w (omega arith)), e m (omega arith))
-
 pub sumOver-cong : {A : Type 0} (fs : List A) (f g : A → ℤ) → ((x : A) → f x ≡ g x) → sumOver fs f ≡ sumOver fs g
 unfolding sumOver
 sumOver-cong [] f g e = refl

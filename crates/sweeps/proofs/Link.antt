@@ -9,12 +9,12 @@ use lib.Dec.{T, eqb, eqb→eq, eqb-refl}
 use lib.ListN.{length, getD}
 use lib.IntN.{ℤ, pos, _+ℤ_, +ℤ-idl, +ℤ-idr, +ℤ-comm}
 use Rattle.variants_and_fragments.specs.Case.{Call}
-use Rattle.variants_and_fragments.specs.Sums.{sumOver}
+use Rattle.variants_and_fragments.specs.Sums.{sumOver, sumTo}
 use Rattle.variants_and_fragments.proofs.Bools.{T-not, not-T, is-true, is-false, which}
 use Rattle.shuffle.specs.Permutation.{member}
-use Rattle.sweeps.specs.Sweeps.{SweepCase, allele0, allele1, putPair, sameHaps, sumTo, callTerm, likelihood, hasCall, bestPair, visit, sweep, GoodSweepCase, GoodHaps}
+use Rattle.sweeps.specs.Sweeps.{SweepCase, allele0, allele1, putPair, sameHaps, callTerm, likelihood, hasCall, bestPair, visit, sweep, GoodSweepCase, GoodHaps}
 use Rattle.sweeps.specs.Incremental.{termAt, changed, distinct}
-use Rattle.sweeps.proofs.Basics.{or-l, or-r, or-cases, and-l, and-r, eqb-no, at0-other, at1-other, same-eq, same-refl, sumTo-cong}
+use Rattle.sweeps.proofs.Basics.{or-l, or-r, or-cases, and-l, and-r, eqb-no, at0-other, at1-other, same-eq, same-refl}
 use Rattle.steps.proofs.Signed.{up-pos, dn-pos, parts-add, zlin}
 use Rattle.sweeps.proofs.Visit.{visit-good, visit-at0, visit-at1, fixed-stays}
 

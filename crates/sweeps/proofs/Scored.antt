@@ -12,8 +12,9 @@ use lib.IntN.{ℤ, pos, negℤ, _+ℤ_, _-ℤ_, +ℤ-idl, +ℤ-idr}
 use borrow.Author.Tests.{ne-eqb}
 use Rattle.variants_and_fragments.specs.Case.{Call, risingFrom, rising}
 use Rattle.variants_and_fragments.specs.Pileup.{Row}
+use Rattle.variants_and_fragments.specs.Accepted.{allb as allOf}
 use Rattle.variants_and_fragments.specs.Sums.{sumOver}
-use Rattle.sweeps.specs.Sweeps.{SweepCase, allele0, allele1, putPair, callTerm, likelihood, hasCall, readShare, allOf, perCall, withOwn, scoreWith}
+use Rattle.sweeps.specs.Sweeps.{SweepCase, allele0, allele1, putPair, callTerm, likelihood, hasCall, readShare, perCall, withOwn, scoreWith}
 use Rattle.sweeps.specs.Incremental.{termAt}
 use Rattle.sweeps.proofs.Basics.{lik-cong, and-l, and-r, eqb-no, at0-same, at1-same, at0-other, at1-other}
 use Rattle.steps.proofs.Signed.{parts-add, neg-up, neg-dn, zlin}

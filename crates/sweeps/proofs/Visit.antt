@@ -12,10 +12,12 @@ use lib.ListN.{length}
 use lib.IntN.{ℤ, pos, _+ℤ_}
 use lib.Signed.{_≤ℤ_, _<ℤ_}
 use Rattle.variants_and_fragments.specs.Case.{Call, risingFrom, rising}
-use Rattle.variants_and_fragments.specs.Sums.{sumOver}
+use Rattle.variants_and_fragments.specs.Accepted.{allb as allOf}
+use Rattle.variants_and_fragments.specs.Sums.{sumOver, sumTo, countTo}
 use Rattle.variants_and_fragments.proofs.Bools.{T-not, which, cond-yes}
-use Rattle.sweeps.specs.Sweeps.{SweepCase, allele0, allele1, putPair, sumTo, countTo, hasCall, readShare, allOf, perCall, totalOf, withOwn, scoreWith, score, bestPair, visit, phasedTotal, pairNumber, phasedCount, GoodSweepCase, GoodHaps}
-use Rattle.sweeps.proofs.Basics.{lt-or-ge, cond-under, or-r, or-cases, eqb-no, length-put, at0-same, at1-same, at0-other, at1-other, put-self, sumTo-cong, countTo-cong, sumOver-cong, sumOver-cong-of, one-call, less, lessN, sumTo-split, countTo-split, countTo-le, sumOver-split, mixed-cong}
+use Rattle.sweeps.specs.Sweeps.{SweepCase, allele0, allele1, putPair, hasCall, readShare, perCall, totalOf, withOwn, scoreWith, score, bestPair, visit, phasedTotal, pairNumber, phasedCount, GoodSweepCase, GoodHaps}
+use Rattle.variants_and_fragments.proofs.Sums.{sumTo-cong, countTo-cong}
+use Rattle.sweeps.proofs.Basics.{lt-or-ge, cond-under, or-r, or-cases, eqb-no, length-put, at0-same, at1-same, at0-other, at1-other, put-self, sumOver-cong, sumOver-cong-of, one-call, less, lessN, sumTo-split, countTo-split, countTo-le, sumOver-split, mixed-cong}
 use Rattle.steps.proofs.Signed.{up, dn, parts-add, zlin}
 use Rattle.genotype_probs.specs.Posteriors.{FirstMaximum}
 use Rattle.genotype_probs.proofs.Maxima.{meets, maximum-same}
