@@ -16,10 +16,10 @@ use Rattle.variants_and_fragments.specs.Pileup.{Row, rowOf}
 use Rattle.variants_and_fragments.specs.Sums.{sumOver}
 use Rattle.sweeps.specs.Sweeps.{SweepCase, allele0, allele1, putPair, callTerm, likelihood}
 use Rattle.sweeps.specs.Incremental.{rowsIn, pileupFrom, termAt}
-use Rattle.sweeps.proofs.Basics.{which, lik-cong, at0-same, at1-same, at0-other, at1-other}
+use Rattle.sweeps.proofs.Basics.{lik-cong, at0-same, at1-same, at0-other, at1-other}
 use Rattle.sweeps.proofs.Link.{lik-own}
 use Rattle.sweeps.proofs.Scored.{lik-stays}
-use Rattle.sweeps.proofs.Run.{is-true, is-false}
+use Rattle.variants_and_fragments.proofs.Bools.{is-true, is-false, which}
 use Rattle.variants_and_fragments.proofs.Sums.{sum-append}
 use Rattle.pileup.specs.Packed.{rowsAt, groupStart}
 use Rattle.likelihoods.specs.Held.{Liks}

@@ -11,7 +11,7 @@ use lib.IntN.{ℤ, pos}
 use Rattle.sweeps.specs.Sweeps.{SweepCase, allele0, allele1, putPair, sameHaps, score, bestPair, visit}
 use Rattle.sweeps.proofs.Basics.{and-in, and-l, and-r, same-eq, same-refl, put-self, at0-same, at1-same}
 use Rattle.genotype_probs.proofs.Maxima.{maximum-same}
-use Rattle.sweeps.proofs.Run.{is-true}
+use Rattle.variants_and_fragments.proofs.Bools.{is-true}
 use Rattle.likelihoods.specs.Held.{SweepReads}
 use Rattle.call_genotypes.specs.declared.score.Pair.{Pair}
 use Rattle.call_genotypes.specs.Scores.{pairAt, SweepState, sweepState, VisitStart, rawScores, scoredAt}

@@ -10,10 +10,9 @@ use lib.IntN.{ℤ, pos, natAbs, _+ℤ_}
 use mir.Syntax.{w64}
 use mir.Val.{SFits, toZ, ofZ}
 use Rattle.steps.proofs.Signed.{zlin, parts-add, add-abs, sfits, read-small}
-use Rattle.variants_and_fragments.specs.Sums.{sumOver}
+use Rattle.variants_and_fragments.specs.Sums.{sumOver, sumTo}
 use Rattle.variants_and_fragments.specs.Decode.{tabulateFrom}
-use Rattle.sweeps.specs.Sweeps.{sumTo}
-use Rattle.sweeps.proofs.Basics.{sumTo-cong}
+use Rattle.variants_and_fragments.proofs.Sums.{sumTo-cong}
 use Rattle.sweeps.proofs.Link.{sumTo-shift}
 
 -- ---- a sum of sums

@@ -16,7 +16,8 @@ use Rattle.variants_and_fragments.proofs.Bounds.{down-zero, fragment-sum-top}
 use Rattle.variants_and_fragments.proofs.GoodCases.{fragment-in}
 use Rattle.variants_and_fragments.proofs.Usable.{usable-fewer, usable-in, usable-rises}
 use Rattle.genotype_probs.specs.declared.Rates.{Rates}
-use Rattle.sweeps.specs.Sweeps.{SweepCase, GoodSweepCase, allOf, callTerm, likelihood, mixOf}
+use Rattle.variants_and_fragments.specs.Accepted.{allb as allOf}
+use Rattle.sweeps.specs.Sweeps.{SweepCase, GoodSweepCase, callTerm, likelihood, mixOf}
 use Rattle.sweeps.specs.Incremental.{pileupFrom}
 use Rattle.sweeps.proofs.Basics.{and-in}
 use Rattle.sweeps.proofs.Piled.{pile-is}

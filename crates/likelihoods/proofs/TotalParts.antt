@@ -9,10 +9,10 @@ use lib.IntN.{ℤ, pos, natAbs, _+ℤ_, _-ℤ_}
 use lib.ListN.{getD}
 use Rattle.steps.proofs.Signed.{minus-abs}
 use Rattle.steps.proofs.AddExp.{add-size}
-use Rattle.variants_and_fragments.specs.Sums.{sumOver}
+use Rattle.variants_and_fragments.specs.Sums.{sumOver, sumTo}
 use Rattle.variants_and_fragments.specs.Decode.{tabulate}
-use Rattle.sweeps.specs.Sweeps.{SweepCase, allele0, allele1, sumTo, readShare, totalOf, mixOf}
-use Rattle.sweeps.proofs.Basics.{sumTo-cong}
+use Rattle.sweeps.specs.Sweeps.{SweepCase, allele0, allele1, readShare, totalOf, mixOf}
+use Rattle.variants_and_fragments.proofs.Sums.{sumTo-cong}
 use Rattle.likelihoods.specs.Likelihoods.{callsOf, flagged}
 use Rattle.likelihoods.specs.Totals.{pairPrior, heldCase, priorShare, fragmentShare, PriorsIn}
 use Rattle.likelihoods.proofs.RunningSums.{table-sum}

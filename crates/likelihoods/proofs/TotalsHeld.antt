@@ -14,15 +14,15 @@ use Rattle.variants_and_fragments.specs.declared.Sizes.{Sizes}
 use Rattle.variants_and_fragments.specs.Case.{Call}
 use Rattle.variants_and_fragments.specs.Check.{caseOf}
 use Rattle.variants_and_fragments.specs.Refusals.{done}
-use Rattle.variants_and_fragments.specs.Sums.{sumOver}
+use Rattle.variants_and_fragments.specs.Sums.{sumOver, sumTo}
 use Rattle.variants_and_fragments.specs.Decode.{tabulate, decode}
 use Rattle.pileup.specs.Rows.{RowsMade}
 use Rattle.variants_and_fragments.proofs.Decoded.{tabulate-length, tabulate-at}
 use Rattle.genotype_probs.specs.declared.Rates.{Rates}
 use Rattle.genotype_probs.proofs.AlleleLaws.{nine}
 use Rattle.genotype_probs.proofs.TableSums.{place-in}
-use Rattle.sweeps.specs.Sweeps.{SweepCase, GoodHaps, allele0, allele1, sumTo, likelihood, readShare, totalOf, phasedTotal, sourceTotal}
-use Rattle.sweeps.proofs.Basics.{sumTo-cong}
+use Rattle.sweeps.specs.Sweeps.{SweepCase, GoodHaps, allele0, allele1, likelihood, readShare, totalOf, phasedTotal, sourceTotal}
+use Rattle.variants_and_fragments.proofs.Sums.{sumTo-cong}
 use Rattle.likelihoods.specs.Held.{SweepReads, Held, Liks}
 use Rattle.likelihoods.specs.SweepCaseOf.{sweepCaseOf}
 use Rattle.likelihoods.specs.Likelihoods.{callsOf, flagged}

@@ -6,7 +6,8 @@ use Prim.Native.Nat.{ℕ, _+_, _*_, _^_, _≤_, _<_}
 use lib.IntN.{ℤ, pos, natAbs, _+ℤ_}
 use lib.ListN.{length, getD}
 use Rattle.variants_and_fragments.specs.Decode.{tabulate}
-use Rattle.sweeps.specs.Sweeps.{SweepCase, allele0, allele1, sumTo, likelihood, mixOf}
+use Rattle.variants_and_fragments.specs.Sums.{sumTo}
+use Rattle.sweeps.specs.Sweeps.{SweepCase, allele0, allele1, likelihood, mixOf}
 use Rattle.likelihoods.specs.Likelihoods.{callsOf, flagged, alleleOn}
 
 -- the prior of the pair (i, j) at v, 9 places per variant

@@ -9,7 +9,7 @@ use Rattle.steps.specs.OneMinus.{low, first, lnOneMinusExp}
 use Rattle.variants_and_fragments.specs.Refusals.{stop, unless, andThen}
 use Rattle.variants_and_fragments.specs.Words.{within}
 use Rattle.variants_and_fragments.specs.First.{firstFailFrom, firstFail, firstFalse}
-use Rattle.variants_and_fragments.specs.Sums.{sumOver, countOver}
+use Rattle.variants_and_fragments.specs.Sums.{sumOver, countOver, sumTo}
 use Rattle.variants_and_fragments.specs.Case.{usable}
 use Rattle.variants_and_fragments.specs.Layout.{headFault, variantOk, callOk}
 use Rattle.variants_and_fragments.specs.Chain.{linkTest, chainFrom, chainOf, memb, pushAll, reached, goodChain, fragmentTest, isReached, chainFaultAt}
@@ -27,7 +27,7 @@ use Rattle.haplotype_assembly.specs.GivenPhase.{setsOk, phaseFaultAt}
 use Rattle.shuffle.specs.Permutation.{times, allBelow, eachOnce, permutes}
 use Rattle.shuffle.specs.Orders.{orderCount, orderAt}
 use Rattle.shuffle.specs.Answers.{firstBadOrder, ordersOutcome}
-use Rattle.sweeps.specs.Sweeps.{putPair, sameHaps, sumTo, callTerm, likelihood, perCall, readShare, scoreWith, score, bestPair, visit, sweep, run, totalOf, mixOf}
+use Rattle.sweeps.specs.Sweeps.{putPair, sameHaps, callTerm, likelihood, perCall, readShare, scoreWith, score, bestPair, visit, sweep, run, totalOf, mixOf}
 use Rattle.likelihoods.specs.SweepCaseOf.{sweepCaseOf}
 use Rattle.with_haplotypes.specs.Promise.{limitChecks, roundChecks}
 

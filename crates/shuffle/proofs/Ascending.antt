@@ -1,6 +1,6 @@
 -- Laws of `ascending`: its length, and the loop that writes it from the front. Assumes nothing.
 use mathlib.Core.Path.{_≡_, refl, sym, ap, _∙_}
-use mathlib.Core.List.{List, [], _∷_, _++_, append-assoc}
+use mathlib.Core.List.{List, [], _∷_, _++_, append-assoc, append-nil}
 use Prim.Native.Nat.{ℕ, zero, suc, _+_, _<_}
 use native.Mathlib.Numerals.{add-one}
 use native.Mathlib.Omega.{arith}
@@ -20,10 +20,6 @@ ascending-more order i h =
     rw (add-one, drop-cons order i 0)
     (set-at (ascending i) (getD order i 0) (drop (suc i) order) i i (ascending-length i) ∙ sym (append-assoc (ascending i) (i ∷ []) (drop (suc i) order)))
 
-pub append-none : (l : List ℕ) → l ++ [] ≡ l
-append-none [] = refl
-append-none (x ∷ l) = ap (λ (t : List ℕ). x ∷ t) (append-none l)
-
 -- all are written
 pub ascending-all : (order : List ℕ) → ascending (length order) ++ drop (length order) order ≡ ascending (length order)
-ascending-all order = ap (λ (t : List ℕ). ascending (length order) ++ t) (drop-length order) ∙ append-none (ascending (length order))
+ascending-all order = ap (λ (t : List ℕ). ascending (length order) ++ t) (drop-length order) ∙ append-nil (ascending (length order))

@@ -1,7 +1,7 @@
 -- An order made by swaps from ascending is a permutation, since a swap keeps how often each number stands there. `permutes` tests just that
 -- an order is a permutation. Assumes nothing.
 use mathlib.Core.Path.{_≡_, refl, ap, _∙_}
-use mathlib.Core.Bool.{Bool, true, false, _&&_, _||_}
+use mathlib.Core.Bool.{Bool, true, false, _||_}
 use mathlib.Core.List.{List, [], _∷_}
 use Prim.Native.Nat.{ℕ, zero, suc, _+_, _-_, _%_, _<_, _≤_}
 use native.Mathlib.Nat.{mod-lt}
@@ -10,6 +10,7 @@ use native.Mathlib.Omega.{arith}
 use lib.Dec.{T, eqb, ltb}
 use lib.ListN.{length}
 use borrow.Author.Tests.{eq-eqb, eqb-true, lt-ltb, ltb-true}
+use Rattle.variants_and_fragments.proofs.Bools.{both}
 use Rattle.shuffle.specs.SplitMix.{nextState, output}
 use Rattle.shuffle.specs.Permutation.{member, times, Permutation, allBelow, eachOnce, permutes}
 use Rattle.shuffle.specs.Orders.{ascending, swapped, swapsDown, orderFrom}
@@ -44,10 +45,6 @@ order-permutation n state =
     within v t (no h) = absurd (omega (arith, member-times v (orderFrom n state) t, times-order v n state, ascending-absent v n (omega arith)))
 
 -- ---- the test
-pub both : (a b : Bool) → (a && b) ≡ true → (a ≡ true) × (b ≡ true)
-both true b h = (refl, h)
-both false b h = let z : _≡_ {A = ℕ} 0 1 = cc in absurd (omega arith)
-
 below-within : (n : ℕ) (order : List ℕ) → allBelow n order ≡ true → (v : ℕ) → T (member v order) → v < n
 unfolding allBelow member
 below-within n [] h v t = absurd t

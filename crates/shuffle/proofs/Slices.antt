@@ -2,7 +2,7 @@
 -- Assumes nothing.
 use mathlib.Core.Path.{_≡_, refl, sym, ap, _∙_}
 use mathlib.Core.Bool.{Bool, true, false, cond}
-use mathlib.Core.List.{List, [], _++_, append-assoc}
+use mathlib.Core.List.{List, [], _++_, append-assoc, append-nil}
 use Prim.Native.Nat.{ℕ, zero, suc, _+_, _*_, _-_, _/_, _%_, _<_, _≤_}
 use native.Mathlib.Nat.{div-add-mod', suc-mul, zero-mul, mul-zero, mul-le-mul-right, mul-mod-left, mul-div-cancel}
 use native.Mathlib.Numerals.{add-one}
@@ -13,7 +13,6 @@ use lib.Seq.{take-all, take-at, length-take-le}
 use borrow.Author.Tests.{eq-eqb, ne-eqb, eqb-true}
 use Rattle.shuffle.specs.SplitMix.{stateAfter}
 use Rattle.shuffle.specs.Orders.{orderFrom, ordersFrom, orderCount, orderAt}
-use Rattle.shuffle.proofs.Ascending.{append-none}
 use Rattle.shuffle.proofs.Swaps.{order-length}
 
 -- ---- the number of orders
@@ -125,7 +124,7 @@ pub write-end : (n m o seed state : ℕ) (orders : List ℕ) → m * n ≡ lengt
 unfolding ordersFrom
 write-end n m o seed state orders long e inv =
     let none : m - o ≡ 0 = omega arith in
-    sym (append-none orders)
+    sym (append-nil orders)
     ∙ sym (ap (λ (l : List ℕ). l ++ []) (take-all (o * n) orders (omega (arith, ap (λ (k : ℕ). k * n) e))))
     ∙ sym (ap (λ (k : ℕ). take (o * n) orders ++ ordersFrom n k state) none)
     ∙ inv

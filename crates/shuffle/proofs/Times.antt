@@ -10,6 +10,8 @@ use lib.Dec.{T, eqb}
 use lib.ListN.{length, getD, set}
 use lib.Seq.{getD-set-same, getD-set-other, lt-length-set}
 use borrow.Author.Tests.{eq-eqb, ne-eqb}
+use Rattle.variants_and_fragments.specs.Sums.{countTo}
+use Rattle.variants_and_fragments.proofs.Sums.{countTo-plus, countTo-zero, countTo-top}
 use Rattle.shuffle.specs.Permutation.{member, times}
 use Rattle.shuffle.specs.Orders.{ascending, swapped}
 
@@ -99,27 +101,13 @@ unfolding times
 member-tail v w ws t = times-member v (w ∷ ws) (omega (arith, member-times v ws t))
 
 -- ---- sums over the numbers below n
-sumBelow : ℕ → (ℕ → ℕ) → ℕ
-sumBelow zero f = 0
-sumBelow (suc n) f = sumBelow n f + f n
-
-sum-add : (n : ℕ) (f g : ℕ → ℕ) → sumBelow n (λ v. f v + g v) ≡ sumBelow n f + sumBelow n g
-unfolding sumBelow
-sum-add zero f g = refl
-sum-add (suc n) f g = omega (arith, sum-add n f g)
-
-sum-zero : (n : ℕ) → sumBelow n (λ v. 0) ≡ 0
-unfolding sumBelow
-sum-zero zero = refl
-sum-zero (suc n) = omega (arith, sum-zero n)
-
-sum-none : (n w : ℕ) → n ≤ w → sumBelow n (λ v. isOne w v) ≡ 0
-unfolding sumBelow
+sum-none : (n w : ℕ) → n ≤ w → countTo n (λ v. isOne w v) ≡ 0
+unfolding countTo
 sum-none zero w h = refl
 sum-none (suc n) w h = omega (arith, sum-none n w (omega arith), is-other w n (λ e. omega arith))
 
-sum-one : (n w : ℕ) → w < n → sumBelow n (λ v. isOne w v) ≡ 1
-unfolding sumBelow
+sum-one : (n w : ℕ) → w < n → countTo n (λ v. isOne w v) ≡ 1
+unfolding countTo
 sum-one zero w h = absurd (omega arith)
 sum-one (suc n) w h = elim (ℕ-discrete w n) [
   | yes e ↦ omega (arith, sum-none n w (omega arith), is-same w n e)
@@ -127,21 +115,16 @@ sum-one (suc n) w h = elim (ℕ-discrete w n) [
 ]
 
 -- where every entry is below n, the sum of all `times` is the length
-sum-times : (n : ℕ) (l : List ℕ) → ((v : ℕ) → T (member v l) → v < n) → sumBelow n (λ v. times v l) ≡ length l
+sum-times : (n : ℕ) (l : List ℕ) → ((v : ℕ) → T (member v l) → v < n) → countTo n (λ v. times v l) ≡ length l
 unfolding times
-sum-times n [] h = sum-zero n
-sum-times n (w ∷ ws) h = sum-add n (λ v. isOne w v) (λ v. times v ws) ∙ omega (arith, sum-one n w (h w (member-head w ws)), sum-times n ws (λ v t. h v (member-tail v w ws t)))
+sum-times n [] h = countTo-zero n
+sum-times n (w ∷ ws) h = countTo-plus n (λ v. isOne w v) (λ v. times v ws) ∙ omega (arith, sum-one n w (h w (member-head w ws)), sum-times n ws (λ v t. h v (member-tail v w ws t)))
 
-sum-le : (n : ℕ) (f : ℕ → ℕ) → ((v : ℕ) → v < n → f v ≤ 1) → sumBelow n f ≤ n
-unfolding sumBelow
-sum-le zero f h = omega arith
-sum-le (suc n) f h = omega (arith, sum-le n f (λ v k. h v (omega arith)), h n (omega arith))
-
-all-one : (n : ℕ) (f : ℕ → ℕ) → ((v : ℕ) → v < n → f v ≤ 1) → n ≤ sumBelow n f → (v : ℕ) → v < n → f v ≡ 1
-unfolding sumBelow
+all-one : (n : ℕ) (f : ℕ → ℕ) → ((v : ℕ) → v < n → f v ≤ 1) → n ≤ countTo n f → (v : ℕ) → v < n → f v ≡ 1
+unfolding countTo
 all-one zero f h s v k = absurd (omega arith)
 all-one (suc n) f h s v k =
-    let low = sum-le n f (λ u l. h u (omega arith)) in
+    let low = countTo-top n 1 f (λ u l. h u (omega arith)) in
     let top = h n (omega arith) in
     elim (ℕ-discrete v n) [
       | yes e ↦ ap f e ∙ omega (arith, low, top)

@@ -9,24 +9,16 @@ use lib.Dec.{T, eqb, ltb, leb, leb→le, eqb→eq, eqb-refl, ltb→lt, nltb→le
 use lib.ListN.{length, getD, set, length-set}
 use lib.Seq.{getD-set-same, getD-set-other, set-getD}
 use lib.IntN.{ℤ, pos, _+ℤ_, +ℤ-idl, +ℤ-idr}
+use borrow.Author.Tests.{ne-eqb}
 use Rattle.variants_and_fragments.specs.Case.{Call, risingFrom, rising}
-use Rattle.variants_and_fragments.specs.Sums.{sumOver}
-use Rattle.sweeps.specs.Sweeps.{SweepCase, allele0, allele1, putPair, sameHaps, sumTo, countTo, callTerm, likelihood, hasCall, readShare, allOf, perCall}
+use Rattle.variants_and_fragments.specs.Accepted.{allb as allOf}
+use Rattle.variants_and_fragments.specs.Sums.{sumOver, sumTo, countTo}
+use Rattle.variants_and_fragments.proofs.Sums.{sumTo-cong, countTo-cong}
+use Rattle.variants_and_fragments.proofs.Bools.{T-not, is-true, which, cond-yes, cond-no}
+use Rattle.sweeps.specs.Sweeps.{SweepCase, allele0, allele1, putPair, sameHaps, callTerm, likelihood, hasCall, readShare, perCall}
 use Rattle.steps.proofs.Signed.{up, dn, parts-add, up-pos, dn-pos, up-add, dn-add, zlin}
 
 -- ---- tests
-pub which : (b : Bool) → T b ⊎ T (not b)
-which true = inl tt
-which false = inr tt
-
-pub cond-yes : {A : Type 0} (b : Bool) (x y : A) → T b → cond b x y ≡ x
-cond-yes true x y t = refl
-cond-yes false x y t = absurd t
-
-pub cond-no : {A : Type 0} (b : Bool) (x y : A) → T (not b) → cond b x y ≡ y
-cond-no true x y t = absurd t
-cond-no false x y t = refl
-
 pub cond-under : {A : Type 0} (b : Bool) {x x' : A} (y : A) → (T b → x ≡ x') → cond b x y ≡ cond b x' y
 cond-under true y f = f tt
 cond-under false y f = refl
@@ -59,23 +51,8 @@ pub and-in : (a b : Bool) → T a → T b → T (a && b)
 and-in true b s t = t
 and-in false b s t = absurd s
 
-T-true : (b : Bool) → T b → b ≡ true
-T-true true t = refl
-T-true false t = absurd t
-
 pub eqb-no : (a b : ℕ) → T (not (eqb a b)) → a ≢ b
-eqb-no a b t e = clash (eqb a b) t (subst (λ (x : ℕ). T (eqb a x)) e (eqb-refl a))
-  where
-    clash : (c : Bool) → T (not c) → T c → ⊥
-    clash true s u = s
-    clash false s u = u
-
-pub ne-eqb : (a b : ℕ) → a ≢ b → eqb a b ≡ false
-ne-eqb a b f = go (eqb a b) (λ t. f (eqb→eq a b t))
-  where
-    go : (c : Bool) → (T c → ⊥) → c ≡ false
-    go true g = absurd (g tt)
-    go false g = refl
+eqb-no a b t e = T-not (eqb a b) t (subst (λ (x : ℕ). T (eqb a x)) e (eqb-refl a))
 
 pub lt-or-ge : (a b : ℕ) → (a < b) ⊎ (b ≤ a)
 lt-or-ge a b = go (which (ltb a b))
@@ -123,16 +100,6 @@ unfolding putPair
 put-self h v = rw (set-getD h (2 * v) 0, set-getD h (2 * v + 1) 0)
 
 -- ---- sums
-pub sumTo-cong : (m : ℕ) (f g : ℕ → ℤ) → ((w : ℕ) → w < m → f w ≡ g w) → sumTo m f ≡ sumTo m g
-unfolding sumTo
-sumTo-cong zero f g e = refl
-sumTo-cong (suc m) f g e = cc (sumTo-cong m f g (λ w l. e w (omega arith)), e m (omega arith))
-
-pub countTo-cong : (m : ℕ) (f g : ℕ → ℕ) → ((w : ℕ) → w < m → f w ≡ g w) → countTo m f ≡ countTo m g
-unfolding countTo
-countTo-cong zero f g e = refl
-countTo-cong (suc m) f g e = cc (countTo-cong m f g (λ w l. e w (omega arith)), e m (omega arith))
-
 pub sumOver-cong : {A : Type 0} (fs : List A) (f g : A → ℤ) → ((x : A) → f x ≡ g x) → sumOver fs f ≡ sumOver fs g
 unfolding sumOver
 sumOver-cong [] f g e = refl
@@ -161,7 +128,7 @@ one-call v b (c ∷ cs) x t = go (which (eqb (c .variant) v)) (one-call v (suc (
     go : T (eqb (c .variant) v) ⊎ T (not (eqb (c .variant) v)) → perCall v cs x ≡ cond (hasCall v cs) x (pos 0)
         → cond (eqb (c .variant) v) x (pos 0) +ℤ perCall v cs x ≡ cond (eqb (c .variant) v || hasCall v cs) x (pos 0)
     go (inl u) ih =
-        let e : eqb (c .variant) v ≡ true = T-true (eqb (c .variant) v) u in
+        let e : eqb (c .variant) v ≡ true = is-true (eqb (c .variant) v) u in
         let r = no-call v (suc (c .variant)) cs x (omega (arith, eqb→eq (c .variant) v u)) (and-r (leb b (c .variant)) (risingFrom (suc (c .variant)) cs) t) in
         rw (e, r .1, +ℤ-idr)
     go (inr u) ih = let e : eqb (c .variant) v ≡ false = ne-eqb (c .variant) v (eqb-no (c .variant) v u) in rw (e, ih, +ℤ-idl)

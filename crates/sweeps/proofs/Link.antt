@@ -5,31 +5,20 @@ use mathlib.Core.Bool.{Bool, true, false, not, cond, _||_, _&&_}
 use mathlib.Core.List.{List, [], _∷_}
 use Prim.Native.Nat.{ℕ, zero, suc, _+_, _*_, _<_, _≤_}
 use native.Mathlib.Omega.{arith}
-use lib.Dec.{T, eqb, eqb→eq, eqb-refl, not-T}
+use lib.Dec.{T, eqb, eqb→eq, eqb-refl}
 use lib.ListN.{length, getD}
 use lib.IntN.{ℤ, pos, _+ℤ_, +ℤ-idl, +ℤ-idr, +ℤ-comm}
 use Rattle.variants_and_fragments.specs.Case.{Call}
-use Rattle.variants_and_fragments.specs.Sums.{sumOver}
+use Rattle.variants_and_fragments.specs.Sums.{sumOver, sumTo}
+use Rattle.variants_and_fragments.proofs.Bools.{T-not, not-T, is-true, is-false, which}
 use Rattle.shuffle.specs.Permutation.{member}
-use Rattle.sweeps.specs.Sweeps.{SweepCase, allele0, allele1, putPair, sameHaps, sumTo, callTerm, likelihood, hasCall, bestPair, visit, sweep, GoodSweepCase, GoodHaps}
+use Rattle.sweeps.specs.Sweeps.{SweepCase, allele0, allele1, putPair, sameHaps, callTerm, likelihood, hasCall, bestPair, visit, sweep, GoodSweepCase, GoodHaps}
 use Rattle.sweeps.specs.Incremental.{termAt, changed, distinct}
-use Rattle.sweeps.proofs.Basics.{which, cond-yes, cond-no, or-l, or-r, or-cases, and-l, and-r, eqb-no, at0-other, at1-other, same-eq, same-refl, sumTo-cong}
+use Rattle.sweeps.proofs.Basics.{or-l, or-r, or-cases, and-l, and-r, eqb-no, at0-other, at1-other, same-eq, same-refl}
 use Rattle.steps.proofs.Signed.{up-pos, dn-pos, parts-add, zlin}
 use Rattle.sweeps.proofs.Visit.{visit-good, visit-at0, visit-at1, fixed-stays}
 
 -- ---- likelihoods: with v at a' v, from those with v at a v
-is-true : (b : Bool) → T b → b ≡ true
-is-true true t = refl
-is-true false t = absurd t
-
-is-false : (b : Bool) → T (not b) → b ≡ false
-is-false true t = absurd t
-is-false false t = refl
-
-T-not-T : (a : Bool) → T a → T (not a) → ⊥
-T-not-T true t u = u
-T-not-T false t u = t
-
 not-or-l : (a b : Bool) → T (not (a || b)) → T (not a)
 not-or-l true b t = t
 not-or-l false b t = tt
@@ -126,7 +115,7 @@ module _ (C : SweepCase) where
         → (allele0 (visit C v h) v ≡ allele0 h v) × (allele1 (visit C v h) v ≡ allele1 h v) → ⊥
     own-pair v h k H t e =
         let s : visit C v h ≡ h = fixed-stays C g v k h H (record { fst = sym (e .0) ∙ visit-at0 C g v k h H; snd = sym (e .1) ∙ visit-at1 C g v k h H }) in
-        T-not-T (sameHaps h (visit C v h)) (rw s (same-refl h)) t
+        T-not (sameHaps h (visit C v h)) t (rw s (same-refl h))
 
     pub flag-on : (vs h : List ℕ) → ((v : ℕ) → T (member v vs) → v < C .n) → T (distinct vs) → GoodHaps C h → T (changed C vs h) → Differs vs h (sweep C vs h)
     unfolding changed sweep member distinct
@@ -150,7 +139,7 @@ module _ (C : SweepCase) where
             }
         go k ih (inr u) =
             let r = ih u in
-            let e : r .where-it ≢ v = λ q. T-not-T (member v vs) (rw q at (r .in-it)) out in
+            let e : r .where-it ≢ v = λ q. T-not (member v vs) out (rw q at (r .in-it)) in
             record {
               where-it = r .where-it;
               in-it = or-r (eqb v (r .where-it)) (member (r .where-it) vs) (r .in-it);

@@ -2,22 +2,19 @@
 use mathlib.Core.Path.{_≡_, refl}
 use mathlib.Core.Bool.{not}
 use mathlib.Core.List.{List, [], _∷_}
-use Prim.Native.Nat.{ℕ, _≤_, _<_}
+use Prim.Native.Nat.{ℕ, _≤_}
 use native.Mathlib.Omega.{arith}
-use lib.Dec.{T, ltb, lt→ltb, not-T}
-use Rattle.shuffle.specs.Permutation.{Permutation, member, times, allBelow}
+use lib.Dec.{T}
+use Rattle.variants_and_fragments.proofs.Bools.{not-T, true-is, both}
+use Rattle.shuffle.specs.Permutation.{Permutation, member, times, allBelow, eachOnce, permutes}
+use Rattle.shuffle.proofs.Permuted.{permutation-permutes}
 use Rattle.shuffle.proofs.Times.{is-same, member-times, member-head, member-tail}
 use Rattle.sweeps.specs.Incremental.{distinct}
 use Rattle.sweeps.proofs.Basics.{and-in}
 
-within-below : (n : ℕ) (vs : List ℕ) → ((v : ℕ) → T (member v vs) → v < n) → T (allBelow n vs)
-unfolding allBelow
-within-below n [] h = tt
-within-below n (w ∷ ws) h =
-    and-in (ltb w n) (allBelow n ws) (lt→ltb w n (h w (member-head w ws))) (within-below n ws (λ v t. h v (member-tail v w ws t)))
-
 pub permutation-below : {n : ℕ} {vs : List ℕ} → Permutation n vs → T (allBelow n vs)
-permutation-below {n} {vs} p = within-below n vs (p .within)
+unfolding permutes
+permutation-below {n} {vs} p = true-is (allBelow n vs) (both (allBelow n vs) (eachOnce n vs) (permutation-permutes n vs p) .0)
 
 -- what stands once at most stands in no rest of the order again
 once-distinct : (vs : List ℕ) → ((v : ℕ) → T (member v vs) → times v vs ≤ 1) → T (distinct vs)

@@ -1,23 +1,14 @@
 -- The pile of a variant, as variants_and_fragments defines it, is the pileup over the usable calls of each fragment. Assumes nothing.
-use mathlib.Core.Path.{_≡_, refl, sym, ap, _∙_}
+use mathlib.Core.Path.{_≡_, refl, ap, _∙_}
 use mathlib.Core.Bool.{Bool, true, false, cond}
-use mathlib.Core.List.{List, [], _∷_, _++_, map}
+use mathlib.Core.List.{List, [], _∷_, map}
 use Prim.Native.Nat.{ℕ, suc}
 use lib.Dec.{eqb}
 use lib.IntN.{ℤ}
 use Rattle.variants_and_fragments.specs.Case.{Case, Call, Fragment}
 use Rattle.variants_and_fragments.specs.Pileup.{only, Row, rowOf, usableCalls, rowsFrom, rowsOf, atVariant, pileOf}
+use Rattle.variants_and_fragments.proofs.Only.{only-append}
 use Rattle.sweeps.specs.Incremental.{rowsIn, pileupFrom}
-
-only-append : {X : Type 0} (p : X → Bool) (xs ys : List X) → only p (xs ++ ys) ≡ only p xs ++ only p ys
-unfolding only
-only-append p [] ys = refl
-only-append {X} p (x ∷ xs) ys = go (p x) (only-append p xs ys)
-  where
-    go : (b : Bool) → only p (xs ++ ys) ≡ only p xs ++ only p ys
-        → cond b (x ∷ only p (xs ++ ys)) (only p (xs ++ ys)) ≡ cond b (x ∷ only p xs) (only p xs) ++ only p ys
-    go true e = ap (λ l. x ∷ l) e
-    go false e = e
 
 only-rows : (v f : ℕ) (cs : List Call) → only (atVariant v) (map (rowOf f) cs) ≡ rowsIn v f cs
 unfolding only rowsIn

@@ -12,27 +12,16 @@ use lib.Dec.{T, eqb}
 use lib.ListN.{length, getD}
 use lib.IntN.{ℤ, pos, negℤ, _+ℤ_, _-ℤ_, _*ℤ_}
 use lib.Signed.{_≤ℤ_, _<ℤ_, ≤ℤ-refl}
+use Rattle.variants_and_fragments.proofs.Bools.{T-not, is-true, is-false}
 use Rattle.shuffle.specs.Permutation.{Permutation, member, times}
 use Rattle.shuffle.proofs.Times.{times-member}
 use Rattle.genotype_probs.specs.Posteriors.{FirstMaximum}
-use Rattle.sweeps.specs.Sweeps.{SweepCase, RunResult, allele0, allele1, sameHaps, scoreWith, score, countTo, bestPair, visit, sweep, run, phasedTotal, pairNumber, phasedCount, GoodSweepCase, GoodHaps}
+use Rattle.sweeps.specs.Sweeps.{SweepCase, RunResult, allele0, allele1, sameHaps, scoreWith, score, bestPair, visit, sweep, run, phasedTotal, pairNumber, phasedCount, GoodSweepCase, GoodHaps}
 use Rattle.sweeps.specs.Demand3.{after, Stands, Ends, Demand3}
-use Rattle.sweeps.proofs.Basics.{which, cond-ind, same-eq, same-refl, countTo-le}
+use Rattle.sweeps.proofs.Basics.{cond-ind, same-eq, same-refl, countTo-le}
 use Rattle.steps.proofs.Signed.{up, dn, up-pos, dn-pos, parts-add, neg-up, neg-dn, parts-times, zlin}
 use Rattle.sweeps.proofs.Visit.{Gain, Fixed, places, total-cong, places-cong, best-first, idx-below, square-nine}
 use Rattle.sweeps.proofs.Sweep.{Quiet, Swept, sweep-swept, fixed-sweep}
-
-pub clash : (b : Bool) → T b → T (not b) → ⊥
-clash true t u = u
-clash false t u = t
-
-pub is-true : (b : Bool) → T b → b ≡ true
-is-true true t = refl
-is-true false t = absurd t
-
-pub is-false : (b : Bool) → T (not b) → b ≡ false
-is-false true t = absurd t
-is-false false t = refl
 
 pub each-of : {n : ℕ} {vs : List ℕ} → Permutation n vs → (v : ℕ) → v < n → T (member v vs)
 each-of {n} {vs} q v l = times-member v vs (omega (arith, q .once v l))
@@ -48,7 +37,7 @@ module _ (C : SweepCase) (g : GoodSweepCase C) (o : ℕ → List ℕ) (ok : (s :
   rests zero s h H fx = record { same-haps = refl; one-more = omega arith }
   rests (suc f) s h H fx = cond-ind (Rests s h) (sameHaps h (sweep C (o s) h)) _ _
       (λ t. record { same-haps = stay; one-more = omega arith })
-      (λ t. absurd (clash (sameHaps h (sweep C (o s) h)) (rw stay (same-refl h)) t))
+      (λ t. absurd (T-not (sameHaps h (sweep C (o s) h)) t (rw stay (same-refl h))))
     where
       stay : sweep C (o s) h ≡ h
       stay = fixed-sweep C g (o s) h (ok s .within) H fx

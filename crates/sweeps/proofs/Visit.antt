@@ -12,9 +12,12 @@ use lib.ListN.{length}
 use lib.IntN.{ℤ, pos, _+ℤ_}
 use lib.Signed.{_≤ℤ_, _<ℤ_}
 use Rattle.variants_and_fragments.specs.Case.{Call, risingFrom, rising}
-use Rattle.variants_and_fragments.specs.Sums.{sumOver}
-use Rattle.sweeps.specs.Sweeps.{SweepCase, allele0, allele1, putPair, sumTo, countTo, hasCall, readShare, allOf, perCall, totalOf, withOwn, scoreWith, score, bestPair, visit, phasedTotal, pairNumber, phasedCount, GoodSweepCase, GoodHaps}
-use Rattle.sweeps.proofs.Basics.{which, lt-or-ge, cond-yes, cond-no, cond-under, or-r, or-cases, eqb-no, length-put, at0-same, at1-same, at0-other, at1-other, put-self, sumTo-cong, countTo-cong, sumOver-cong, sumOver-cong-of, one-call, less, lessN, sumTo-split, countTo-split, countTo-le, sumOver-split, mixed-cong}
+use Rattle.variants_and_fragments.specs.Accepted.{allb as allOf}
+use Rattle.variants_and_fragments.specs.Sums.{sumOver, sumTo, countTo}
+use Rattle.variants_and_fragments.proofs.Bools.{T-not, which, cond-yes}
+use Rattle.sweeps.specs.Sweeps.{SweepCase, allele0, allele1, putPair, hasCall, readShare, perCall, totalOf, withOwn, scoreWith, score, bestPair, visit, phasedTotal, pairNumber, phasedCount, GoodSweepCase, GoodHaps}
+use Rattle.variants_and_fragments.proofs.Sums.{sumTo-cong, countTo-cong}
+use Rattle.sweeps.proofs.Basics.{lt-or-ge, cond-under, or-r, or-cases, eqb-no, length-put, at0-same, at1-same, at0-other, at1-other, put-self, sumOver-cong, sumOver-cong-of, one-call, less, lessN, sumTo-split, countTo-split, countTo-le, sumOver-split, mixed-cong}
 use Rattle.steps.proofs.Signed.{up, dn, parts-add, zlin}
 use Rattle.genotype_probs.specs.Posteriors.{FirstMaximum}
 use Rattle.genotype_probs.proofs.Maxima.{meets, maximum-same}
@@ -22,10 +25,6 @@ use Rattle.genotype_probs.proofs.Maxima.{meets, maximum-same}
 or-not : (a b : Bool) → T (a || b) → T (not a) → T b
 or-not true b t u = absurd u
 or-not false b t u = t
-
-T-not-T : (a : Bool) → T a → T (not a) → ⊥
-T-not-T true t u = u
-T-not-T false t u = t
 
 or-of : (a b : Bool) → (T a → T b) → b ≡ (a || b)
 or-of true true f = refl
@@ -89,7 +88,7 @@ module _ (C : SweepCase) where
     frags-rest = sumOver-cong (C .frags) _ _ (λ cs. go cs (which (hasCall v cs)))
       where
         ne : (cs : List Call) → T (not (hasCall v cs)) → (w : ℕ) → T (hasCall w cs) → w ≢ v
-        ne cs t w u e = T-not-T (hasCall v cs) (rw e at u) t
+        ne cs t w u e = T-not (hasCall v cs) t (rw e at u)
 
         go : (cs : List Call) → T (hasCall v cs) ⊎ T (not (hasCall v cs))
             → cond (hasCall v cs) (pos 0) (readShare C (C .phased) (putPair h v i j) cs) ≡ cond (hasCall v cs) (pos 0) (readShare C (C .phased) h cs)
@@ -275,7 +274,7 @@ module _ (C : SweepCase) where
       unphased-agrees p w t = (sym (visit-other0 w ne), sym (visit-other1 w ne))
         where
           ne : w ≢ v
-          ne e = T-not-T (C .phased v) (rw e at t) p
+          ne e = T-not (C .phased v) p (rw e at t)
 
       agree-step : Agree h (visit C v h) → Step h (visit C v h)
       agree-step e = record { mono = omega (zlin, total-cong h (visit C v h) e); moves = inr e }

@@ -10,7 +10,8 @@ use lib.ListN.{length, getD, set}
 use lib.IntN.{ℤ, pos, _+ℤ_, _-ℤ_}
 use Rattle.steps.specs.Logs.{addExp}
 use Rattle.variants_and_fragments.specs.Case.{Call, rising}
-use Rattle.variants_and_fragments.specs.Sums.{sumOver}
+use Rattle.variants_and_fragments.specs.Accepted.{allb as allOf}
+use Rattle.variants_and_fragments.specs.Sums.{sumOver, sumTo, countTo}
 use Rattle.genotype_probs.specs.Posteriors.{firstMaximum}
 
 -- `ln_add_exp` of a read's two likelihoods less 4,096 each
@@ -45,20 +46,6 @@ sameHaps [] [] = true
 sameHaps [] (y ∷ ys) = false
 sameHaps (x ∷ xs) [] = false
 sameHaps (x ∷ xs) (y ∷ ys) = eqb x y && sameHaps xs ys
-
--- ---- sums and tests
--- f 0 + .. + f (m − 1)
-unfoldable pub sumTo : ℕ → (ℕ → ℤ) → ℤ
-sumTo zero f = pos 0
-sumTo (suc m) f = sumTo m f +ℤ f m
-
-unfoldable pub countTo : ℕ → (ℕ → ℕ) → ℕ
-countTo zero f = 0
-countTo (suc m) f = countTo m f + f m
-
-unfoldable pub allOf : {A : Type 0} → (A → Bool) → List A → Bool
-allOf b [] = true
-allOf b (x ∷ xs) = b x && allOf b xs
 
 -- ---- likelihoods
 -- one_minus_qual on a match and qual otherwise

@@ -17,7 +17,7 @@ use Rattle.variants_and_fragments.specs.Check.{caseOf}
 use Rattle.variants_and_fragments.specs.Refusals.{done}
 use Rattle.variants_and_fragments.specs.Decode.{decode}
 use Rattle.variants_and_fragments.specs.Pileup.{usableCalls}
-use Rattle.variants_and_fragments.specs.Sums.{sumOver, countOver, DownTo}
+use Rattle.variants_and_fragments.specs.Sums.{sumOver, countOver, DownTo, sumTo}
 use Rattle.variants_and_fragments.proofs.Alls.{all-imp, all-map}
 use Rattle.variants_and_fragments.proofs.Bounds.{down-low, down-high, down-in, down-zero, down-more, down-add, down-sum, calls-sum}
 use Rattle.variants_and_fragments.proofs.GoodCases.{good-case}
@@ -27,7 +27,7 @@ use Rattle.genotype_probs.specs.Rates.{ratesFault}
 use Rattle.genotype_probs.specs.Priors.{getPrior}
 use Rattle.genotype_probs.proofs.PriorBounds.{Down, prior-down}
 use Rattle.genotype_probs.proofs.RateLaws.{rates-in}
-use Rattle.sweeps.specs.Sweeps.{SweepCase, allele0, allele1, putPair, sumTo, likelihood, hasCall, perCall, readShare, withOwn, scoreWith, score, totalOf, mixOf}
+use Rattle.sweeps.specs.Sweeps.{SweepCase, allele0, allele1, putPair, likelihood, hasCall, perCall, readShare, withOwn, scoreWith, score, totalOf, mixOf}
 use Rattle.sweeps.proofs.Basics.{one-call}
 use Rattle.likelihoods.specs.Likelihoods.{callShare}
 use Rattle.likelihoods.specs.SweepCaseOf.{sweepCaseOf}
