@@ -14,12 +14,13 @@ use Rattle.steps.proofs.Signed.{cases, add-abs}
 use Rattle.variants_and_fragments.specs.Decode.{tabulateFrom, tabulate}
 use Rattle.variants_and_fragments.specs.Pileup.{Row}
 use Rattle.variants_and_fragments.specs.Sums.{sumOver}
+use Rattle.variants_and_fragments.proofs.Decoded.{tabulate-length, tabulate-at}
 use Rattle.variants_and_fragments.proofs.Tabulated.{table-more, table-end}
 use Rattle.sweeps.specs.Incremental.{alleleSum}
 use Rattle.sweeps.proofs.Fours.{allele-sum-on}
 use Rattle.likelihoods.specs.Held.{Within}
 use Rattle.call_genotypes.specs.Scores.{addFour, AlleleSums}
-use Rattle.call_genotypes.proofs.Tables.{table-length, table-at, sets-before, sets-after, sets-at, replicate-at}
+use Rattle.call_genotypes.proofs.Tables.{sets-before, sets-after, sets-at, replicate-at}
 
 -- the four stores, one after the other
 pub four-added : (acc a1 a2 a3 a4 : List ℤ) (x : ℕ) (value : ℕ → ℤ)
@@ -46,13 +47,13 @@ module _ (value : ℕ → ℤ) (x : ℕ) (acc : List ℤ) (long : length acc ≡
 
   four-long : length four ≡ 4
   unfolding four
-  four-long = table-length (pos 0) (λ w. getD acc (4 * x + w) (pos 0) +ℤ value w) 0 4
+  four-long = tabulate-length 4 (λ w. getD acc (4 * x + w) (pos 0) +ℤ value w)
 
   added-own : (w : ℕ) → w < 4 → getD (addFour value x acc) (4 * x + w) (pos 0) ≡ getD acc (4 * x + w) (pos 0) +ℤ value w
   unfolding addFour four
   added-own w h =
       sets-at (pos 0) four acc (4 * x) w (omega (arith, four-long)) (omega (arith, four-long))
-      ∙ table-at (pos 0) (λ w. getD acc (4 * x + w) (pos 0) +ℤ value w) 4 w h
+      ∙ tabulate-at 4 (λ w. getD acc (4 * x + w) (pos 0) +ℤ value w) w (pos 0) h
 
   added-before : (i : ℕ) → i < 4 * x → getD (addFour value x acc) i (pos 0) ≡ getD acc i (pos 0)
   unfolding addFour four

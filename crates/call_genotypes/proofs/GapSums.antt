@@ -12,16 +12,15 @@ use lib.ListN.{length, getD}
 use lib.IntN.{ℤ, pos, _+ℤ_, _-ℤ_, +ℤ-idl, +ℤ-idr}
 use Rattle.steps.proofs.Signed.{zlin, parts-add, parts-minus}
 use Rattle.variants_and_fragments.specs.Case.{All}
-use Rattle.variants_and_fragments.specs.Pileup.{Row, noRow}
+use Rattle.variants_and_fragments.specs.Pileup.{Row}
 use Rattle.pileup.specs.Packed.{rowAt, rowsAt}
 use Rattle.variants_and_fragments.specs.Sums.{sumOver}
+use Rattle.genotype_probs.proofs.ListLaws.{sum-plus, table-length}
 use Rattle.sweeps.specs.Sweeps.{callTerm}
 use Rattle.sweeps.specs.Incremental.{fourValue, whichValue, alleleSum}
 use Rattle.sweeps.proofs.Basics.{sumOver-cong}
 use Rattle.sweeps.proofs.Fours.{allele-sums}
 use Rattle.call_genotypes.specs.Scores.{onePlus, gapValue, rowGaps, turn, AlleleSums, qualSum, baseSum, neitherSum, pairGap}
-use Rattle.likelihoods.proofs.RunningSums.{sum-plus}
-use Rattle.call_genotypes.proofs.Tables.{table-length}
 use Rattle.call_genotypes.proofs.GapLaws.{rowFour, value-is, gaps-are, neither-is, base-phased, base-unphased}
 
 module _ (phased : Bool) (g0 g1 : ℕ) (turns lik : List ℤ) (turns-are : (x : ℕ) → getD turns x (pos 0) ≡ turn phased g0 g1 x) where
@@ -143,5 +142,5 @@ module _ (g0 g1 : ℕ) (turns lik : List ℤ) where
 pub neither-are : (phased : Bool) (g0 g1 : ℕ) (turns lik : List ℤ) → ((x : ℕ) → getD turns x (pos 0) ≡ turn phased g0 g1 x) → g1 < 3
     → (piles : List ℕ) (a e : ℕ) (acc : List ℤ) → AlleleSums (rowGaps turns lik) (rowsAt piles a e) acc → All (λ row. row .call .allele < 3) (rowsAt piles a e)
     → neitherSum phased g1 piles acc a e ≡ sumOver (rowsAt piles a e) (λ row. rowFour phased g0 g1 lik row 0)
-neither-are true g0 g1 turns lik turns-are h piles a e acc A low = phased-neither g0 g1 turns lik (rowsAt piles a e) acc A low (e - a) (table-length noRow (rowAt piles) a (e - a)) turns-are h
-neither-are false g0 g1 turns lik turns-are h piles a e acc A low = unphased-neither g0 g1 turns lik (rowsAt piles a e) acc A low (e - a) (table-length noRow (rowAt piles) a (e - a)) turns-are
+neither-are true g0 g1 turns lik turns-are h piles a e acc A low = phased-neither g0 g1 turns lik (rowsAt piles a e) acc A low (e - a) (table-length (rowAt piles) a (e - a)) turns-are h
+neither-are false g0 g1 turns lik turns-are h piles a e acc A low = unphased-neither g0 g1 turns lik (rowsAt piles a e) acc A low (e - a) (table-length (rowAt piles) a (e - a)) turns-are

@@ -16,7 +16,8 @@ use Rattle.variants_and_fragments.specs.Sums.{sumOver}
 use Rattle.variants_and_fragments.proofs.Alls.{all-imp}
 use Rattle.pileup.specs.Packed.{RowsIn, rowsAt, groupStart}
 use Rattle.pileup.proofs.Groups.{group-rows, group-in}
-use Rattle.genotype_probs.proofs.TableSums.{pair-in}
+use Rattle.genotype_probs.proofs.ListLaws.{down-abs}
+use Rattle.genotype_probs.proofs.TableSums.{tabulate-cong, pair-in}
 use Rattle.sweeps.specs.Sweeps.{SweepCase, allele0, allele1, score, scoreWith, mixOf}
 use Rattle.sweeps.specs.Incremental.{pileupFrom, share, whichValue, rowValue}
 use Rattle.sweeps.proofs.Basics.{sumOver-cong}
@@ -27,8 +28,6 @@ use Rattle.call_genotypes.specs.declared.score.Pair.{Pair}
 use Rattle.call_genotypes.specs.Scores.{pairAt, rowGaps, turn, PileFits, AlleleSums, neitherSum, pairGap, scoresOf, ScoresRoom, SweepState, VisitStart, rawScores, scoredAt}
 use Rattle.call_genotypes.proofs.GapLaws.{rowFour}
 use Rattle.call_genotypes.proofs.GapSums.{pairs-are, neither-are}
-use Rattle.call_genotypes.proofs.Sizes.{down-abs}
-use Rattle.call_genotypes.proofs.Tables.{table-same}
 
 -- rows of a case are rows of a larger one
 rows-wider : {n f a e : ℕ} {words : List ℕ} (n' f' : ℕ) → n ≤ n' → f ≤ f' → RowsIn n f words a e → RowsIn n' f' words a e
@@ -132,8 +131,7 @@ module _ {C : SweepCase} {reads : SweepReads} {state : SweepState} {v : ℕ} (S 
 
     scores-are : scoresOf (reads .pri) acc base v (C .k v) ≡ rawScores (C .k v) (score C v h)
     unfolding score
-    scores-are = table-same _ _ 0 (C .k v * C .k v) (λ p a e.
-        let l : p < C .k v * C .k v = omega arith in
+    scores-are = tabulate-cong (C .k v * C .k v) _ _ (λ p l.
         let n = pair-in (C .k v) p (H .good .some-allele v (S .v-in)) l in
         let t = H .good .three-alleles v (S .v-in) in
         ap (λ z. (z +ℤ base) +ℤ pairGap acc (p / C .k v) (p % C .k v)) (H .pri-are v p (S .v-in) l) ∙ pair-score-is (p / C .k v) (p % C .k v) (omega arith) (omega arith))

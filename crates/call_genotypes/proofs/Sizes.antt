@@ -7,25 +7,16 @@ use native.Mathlib.Omega.{arith}
 use lib.Dec.{eqb}
 use lib.ListN.{getD}
 use lib.IntN.{ℤ, pos, natAbs, _+ℤ_, _-ℤ_, _*ℤ_}
-use Rattle.steps.proofs.Signed.{zlin, up-pos, dn-pos, neg-up, neg-dn, natAbs-parts, by-sign, add-abs, minus-abs}
+use Rattle.steps.proofs.Signed.{add-abs, minus-abs}
 use Rattle.steps.proofs.AddExp.{add-size}
-use Rattle.variants_and_fragments.specs.Sums.{DownTo}
 use Rattle.variants_and_fragments.specs.Pileup.{Row}
 use Rattle.pileup.specs.Packed.{RowIn}
+use Rattle.genotype_probs.proofs.ListLaws.{down-abs}
 use Rattle.sweeps.specs.Sweeps.{callTerm}
 use Rattle.likelihoods.specs.Held.{Within}
 use Rattle.call_genotypes.specs.declared.score.Gaps.{Gaps}
 use Rattle.call_genotypes.specs.Scores.{onePlus, gapValue, valueOf, rowGap, rowGaps, baseSum, pairGap}
 use Rattle.call_genotypes.proofs.Turns.{times-size}
-
--- a number in −n..0
-pub down-abs : (n : ℕ) (z : ℤ) → DownTo n z → natAbs z ≤ n
-down-abs n z d =
-    let l = d .low in
-    let h = d .high in
-    let u = neg-up (pos n) in
-    let v = neg-dn (pos n) in
-    by-sign z (λ e. omega (zlin, natAbs-parts z, up-pos 0, dn-pos 0, up-pos n, dn-pos n)) (λ e. omega (zlin, natAbs-parts z, up-pos n, dn-pos n))
 
 -- ---- a call's four numbers
 pub one-plus-size : (d : ℤ) (n : ℕ) → natAbs d ≤ n → natAbs (onePlus d) ≤ n + 4096

@@ -1,28 +1,13 @@
--- Tables of a function's values, and a run of stores: what stands at each index. Assumes nothing.
-use mathlib.Core.Path.{_≡_, refl, ap, _∙_}
+-- A run of stores: what stands at each index. Assumes nothing.
+use mathlib.Core.Path.{_≡_, refl, _∙_}
 use mathlib.Core.List.{List, [], _∷_}
 use Prim.Native.Nat.{ℕ, zero, suc, _+_, _<_, _≤_}
 use native.Mathlib.Omega.{arith}
-use native.Mathlib.Nat.{zero-add, add-zero}
+use native.Mathlib.Nat.{add-zero}
 use lib.ListN.{length, getD, set, replicate, length-set}
 use lib.Seq.{sets, getD-set-same, getD-set-other}
-use Rattle.variants_and_fragments.specs.Decode.{tabulateFrom, tabulate}
 
 module _ {X : Type 0} (d : X) where
-  pub table-length : (g : ℕ → X) (i n : ℕ) → length (tabulateFrom g i n) ≡ n
-  unfolding tabulateFrom
-  table-length g i zero = refl
-  table-length g i (suc n) = ap suc (table-length g (suc i) n)
-
-  pub table-from : (g : ℕ → X) (i n j : ℕ) → j < n → getD (tabulateFrom g i n) j d ≡ g (i + j)
-  unfolding tabulateFrom
-  table-from g i zero j h = absurd (omega arith)
-  table-from g i (suc n) zero h = ap g (omega arith)
-  table-from g i (suc n) (suc j) h = table-from g (suc i) n j (omega arith) ∙ ap g (omega arith)
-
-  pub table-at : (g : ℕ → X) (n j : ℕ) → j < n → getD (tabulate n g) j d ≡ g j
-  table-at g n j h = table-from g 0 n j h ∙ ap g (zero-add j)
-
   -- a run of stores leaves what lies before it and after it
   pub sets-before : (vs l : List X) (i j : ℕ) → j < i → getD (sets l i vs) j d ≡ getD l j d
   sets-before [] l i j h = refl
@@ -44,9 +29,3 @@ module _ {X : Type 0} (d : X) where
   replicate-at zero i = refl
   replicate-at (suc n) zero = refl
   replicate-at (suc n) (suc i) = replicate-at n i
-
--- equal values give equal tables
-pub table-same : {X : Type 0} (g h : ℕ → X) (i n : ℕ) → ((j : ℕ) → i ≤ j → j < i + n → g j ≡ h j) → tabulateFrom g i n ≡ tabulateFrom h i n
-unfolding tabulateFrom
-table-same g h i zero e = refl
-table-same g h i (suc n) e = cc (e i (omega arith) (omega arith), table-same g h (suc i) n (λ j a b. e j (omega arith) (omega arith)))

@@ -8,6 +8,7 @@ use native.Mathlib.Omega.{arith}
 use lib.Dec.{T, eqb, eqb→eq, eqb-refl}
 use lib.ListN.{length, getD}
 use lib.IntN.{ℤ, pos}
+use Rattle.variants_and_fragments.proofs.Decoded.{tabulate-length, tabulate-at}
 use Rattle.sweeps.specs.Sweeps.{SweepCase, allele0, allele1, putPair, sameHaps, score, bestPair, visit}
 use Rattle.sweeps.proofs.Basics.{and-in, and-l, and-r, same-eq, same-refl, put-self, at0-same, at1-same}
 use Rattle.genotype_probs.proofs.Maxima.{maximum-same}
@@ -17,7 +18,7 @@ use Rattle.call_genotypes.specs.declared.score.Pair.{Pair}
 use Rattle.call_genotypes.specs.Scores.{pairAt, SweepState, sweepState, VisitStart, rawScores, scoredAt}
 use Rattle.call_genotypes.specs.Visits.{bestAt, BestPair, Movable, PairPut, Visited}
 use Rattle.call_genotypes.proofs.Linked.{in-haps}
-use Rattle.call_genotypes.proofs.Tables.{table-length, table-at, sets-at}
+use Rattle.call_genotypes.proofs.Tables.{sets-at}
 use Rattle.genotype_probs.proofs.AlleleLaws.{nine}
 
 -- two tests that follow from each other are one
@@ -56,14 +57,14 @@ module _ {C : SweepCase} {reads : SweepReads} {before : SweepState} {v : ℕ} (S
 
   table-nine : length table ≡ C .k v * C .k v
   unfolding table
-  table-nine = table-length (pos 0) (score C v h) 0 (C .k v * C .k v)
+  table-nine = tabulate-length (C .k v * C .k v) (score C v h)
 
   module _ (post' : List ℤ) (old new : Pair) (ep : post' ≡ scoredAt C v before) (eo : old ≡ pairAt h v) (B : BestPair post' v (getD (reads .ks) v 0) new) where
     score-at : (g : ℕ) → g < C .k v * C .k v → getD post' (9 * v + g) (pos 0) ≡ score C v h g
     unfolding table
     score-at g l =
         let m = nine (C .k v) (S .standing .held .good .three-alleles v (S .v-in)) in
-        rw ep (sets-at (pos 0) table (before .post) (9 * v) g (omega (arith, table-nine)) (omega (arith, table-nine, S .standing .room, S .v-in)) ∙ table-at (pos 0) (score C v h) (C .k v * C .k v) g l)
+        rw ep (sets-at (pos 0) table (before .post) (9 * v) g (omega (arith, table-nine)) (omega (arith, table-nine, S .standing .room, S .v-in)) ∙ tabulate-at (C .k v * C .k v) (score C v h) g (pos 0) l)
 
     best-is : bestAt post' v (C .k v) ≡ bestPair C v h
     unfolding bestPair

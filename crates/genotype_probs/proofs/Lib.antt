@@ -1,4 +1,3 @@
-pub mod Places
 pub mod Pairs
 pub mod Comparisons
 pub mod RateLaws

@@ -1,10 +1,10 @@
--- What the functions that write the priors go by: the table, the alleles of an accepted case, and places written in a lent slice.
+-- What the functions that write the priors go by: the table, and the alleles of an accepted case.
 -- Assumes nothing.
 use mathlib.Core.Path.{_≡_}
 use mathlib.Core.List.{List}
-use Prim.Native.Nat.{ℕ, zero, suc, _+_, _≤_, _<_}
+use Prim.Native.Nat.{ℕ, _≤_, _<_}
 use lib.IntN.{ℤ, pos, natAbs}
-use lib.ListN.{length, getD, set}
+use lib.ListN.{length, getD}
 use Rattle.variants_and_fragments.specs.declared.Sizes.{Sizes}
 use Rattle.variants_and_fragments.specs.Layout.{Sized}
 use Rattle.variants_and_fragments.specs.Alleles.{VariantsIn, allelesStart}
@@ -19,8 +19,3 @@ pub record AllelesIn (w : List ℤ) (b : List ℕ) (s : Sizes) : Type 0 where
   pub sized : Sized w s
   pub variants : VariantsIn w s
   pub bases : length b ≡ allelesStart w (s .n)
-
--- l with g 0, .., g (n − 1) in the n places from `at` on
-unfoldable pub writtenFrom : {X : Type 0} → (ℕ → X) → ℕ → ℕ → List X → List X
-writtenFrom g at zero l = l
-writtenFrom g at (suc n) l = set (writtenFrom g at n l) (at + n) (g n)

@@ -7,7 +7,7 @@ ghost use lib.IntN.{pos, natAbs, _-ℤ_};
 ghost use lib.ListN.{drop};
 ghost use Rattle.steps.specs.Table.{knots};
 ghost use Rattle.steps.specs.Logs.{steps, lnAddExp, logOf, size};
-ghost use Rattle.genotype_probs.specs.Places.{writtenFrom};
+ghost use Rattle.variants_and_fragments.specs.Written.{writtenFrom};
 ghost use Rattle.genotype_probs.specs.Posteriors.{TableAt, entryAt, rowSum, tableSum, normalized, postAt, maxGenotype, atMostOne, maxGenotypePost, isOther, otherSum};
 use steps::LogProb;
 use steps::logs;

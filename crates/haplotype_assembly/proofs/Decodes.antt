@@ -17,16 +17,12 @@ use Rattle.variants_and_fragments.specs.Layout.{alleleCountAt}
 use Rattle.variants_and_fragments.specs.Accepted.{CaseIn}
 use Rattle.variants_and_fragments.specs.Case.{alleleCount, alleleOf, variantOf}
 use Rattle.variants_and_fragments.specs.Decode.{decode}
+use Rattle.variants_and_fragments.proofs.Written.{written-same}
 use Rattle.haplotype_assembly.specs.Phase.{phasedTest, phasedRule, phased, phasedFlags, byteOf, isPhase, pairPlace, startAllele, nameBelow, setName, nameOfSet, phaseName}
 use Rattle.haplotype_assembly.specs.PhaseRead.{startAt, ruleAt, phasedAt, flagOf, flagsAt, setNameAt, phaseNameAt}
 use Rattle.haplotype_assembly.proofs.Cited.{case-in, bases-in, variants-are, pos0-is, genotype0-is, genotype1-is, allele-count-is, allele-length}
 
 -- ---- definitions over equal parts are equal
-pub written-same : {A : Type 0} (f g : ℕ → A) (n : ℕ) (l : List A) → ((i : ℕ) → i < n → f i ≡ g i) → written f n l ≡ written g n l
-unfolding written
-written-same f g zero l h = refl
-written-same f g (suc n) l h = rw (h n (omega arith), written-same f g n l (λ i k. h i (omega arith)))
-
 names-same : (p q : ℕ → ℕ) (sets : List ℤ) (s n : ℕ) → ((v : ℕ) → v < n → p v ≡ q v) → nameBelow p sets s n ≡ nameBelow q sets s n
 unfolding nameBelow
 names-same p q sets s zero h = refl

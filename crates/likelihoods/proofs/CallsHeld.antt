@@ -4,30 +4,21 @@ use mathlib.Core.Path.{_≡_, refl, ap, _∙_}
 use mathlib.Core.List.{List, [], _∷_, map}
 use Prim.Native.Nat.{ℕ, zero, suc, _*_, _≤_, _<_}
 use native.Mathlib.Omega.{arith}
-use lib.IntN.{ℤ, natAbs, pos}
+use lib.IntN.{ℤ}
 use lib.ListN.{length}
-use Rattle.steps.proofs.Signed.{zlin, cases, up-pos, dn-pos, neg-up, neg-dn, natAbs-parts, by-sign}
+use Rattle.steps.proofs.Signed.{cases}
 use Rattle.variants_and_fragments.specs.declared.Sizes.{Sizes}
 use Rattle.variants_and_fragments.specs.Case.{Call, fragmentOf}
 use Rattle.variants_and_fragments.specs.Accepted.{CaseIn}
 use Rattle.variants_and_fragments.specs.Decode.{decode}
 use Rattle.variants_and_fragments.specs.Pileup.{Row, rowOf, usableCalls, fragmentRows}
-use Rattle.variants_and_fragments.specs.Sums.{DownTo}
 use Rattle.pileup.specs.Packed.{RowsIn, groupStart, Grouped}
 use Rattle.pileup.specs.Rows.{RowsMade}
 use Rattle.pileup.proofs.Groups.{group-rows, group-in}
+use Rattle.genotype_probs.proofs.ListLaws.{down-abs}
 use Rattle.likelihoods.specs.Likelihoods.{rowCall, callsBetween, callsOf, CallsIn, EndsIn}
 
 -- ---- ranges
--- a number in −n..0
-pub down-abs : (n : ℕ) (z : ℤ) → DownTo n z → natAbs z ≤ n
-down-abs n z d =
-    let l = d .low in
-    let h = d .high in
-    let u = neg-up (pos n) in
-    let v = neg-dn (pos n) in
-    by-sign z (λ e. omega (zlin, natAbs-parts z, up-pos 0, dn-pos 0, up-pos n, dn-pos n)) (λ e. omega (zlin, natAbs-parts z, up-pos n, dn-pos n))
-
 -- the rows of the first g groups
 groups-in : {n f m : ℕ} {group : ℕ → List Row} {ends words : List ℕ} → Grouped n f m group ends words → n ≤ 1024 → f ≤ 4096 → (g : ℕ) → g ≤ m → RowsIn n f words 0 (groupStart ends g)
 unfolding groupStart

@@ -1,7 +1,6 @@
--- Sums that a loop adds up one term at a time, each kept within a bound; a sum over a table as such a sum; a sum of sums.
+-- Sums that a loop adds up one term at a time, each kept within a bound; a sum over a table as such a sum.
 -- Assumes nothing.
 use mathlib.Core.Path.{_≡_, refl, sym, ap, _∙_}
-use mathlib.Core.List.{List, [], _∷_}
 use Prim.Native.Nat.{ℕ, zero, suc, _+_, _^_, _≤_, _<_}
 use native.Mathlib.Omega.{arith}
 use native.Mathlib.Nat.{add-zero, add-suc, suc-add}
@@ -9,19 +8,11 @@ use native.Mathlib.Numerals.{add-one}
 use lib.IntN.{ℤ, pos, natAbs, _+ℤ_}
 use mir.Syntax.{w64}
 use mir.Val.{SFits, toZ, ofZ}
-use Rattle.steps.proofs.Signed.{zlin, parts-add, add-abs, sfits, read-small}
+use Rattle.steps.proofs.Signed.{add-abs, sfits, read-small}
 use Rattle.variants_and_fragments.specs.Sums.{sumOver, sumTo}
 use Rattle.variants_and_fragments.specs.Decode.{tabulateFrom}
 use Rattle.variants_and_fragments.proofs.Sums.{sumTo-cong}
 use Rattle.sweeps.proofs.Link.{sumTo-shift}
-
--- ---- a sum of sums
-pub sum-plus : {X : Type 0} (xs : List X) (f g : X → ℤ) → sumOver xs (λ x. f x +ℤ g x) ≡ sumOver xs f +ℤ sumOver xs g
-unfolding sumOver
-sum-plus [] f g = refl
-sum-plus (x ∷ xs) f g =
-    let e = sum-plus xs f g in
-    omega (zlin, e, parts-add (f x +ℤ g x) (sumOver xs (λ x. f x +ℤ g x)), parts-add (f x) (g x), parts-add (sumOver xs f) (sumOver xs g), parts-add (f x) (sumOver xs f), parts-add (g x) (sumOver xs g), parts-add (f x +ℤ sumOver xs f) (g x +ℤ sumOver xs g))
 
 -- ---- a sum over a table
 pub table-sum : {X : Type 0} (g : ℕ → X) (t : X → ℤ) (a n : ℕ) → sumOver (tabulateFrom g a n) t ≡ sumTo n (λ j. t (g (a + j)))

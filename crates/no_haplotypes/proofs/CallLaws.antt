@@ -1,9 +1,9 @@
 -- One variant called: what its nine places fix of its answer, and the words that the counts over its pile make.
 -- Assumes nothing.
-use mathlib.Core.Path.{_≡_, refl, sym, ap, _∙_}
+use mathlib.Core.Path.{_≡_, sym, ap, _∙_}
 use mathlib.Core.Bool.{Bool, true, false, cond, _&&_, _||_}
 use mathlib.Core.List.{List}
-use Prim.Native.Nat.{ℕ, zero, suc, _+_, _*_, _-_, _/_, _%_, _^_, _≤_, _<_}
+use Prim.Native.Nat.{ℕ, _+_, _*_, _-_, _/_, _%_, _^_, _≤_, _<_}
 use native.Mathlib.Omega.{arith}
 use lib.Dec.{eqb}
 use lib.Ieee.{Float}
@@ -21,12 +21,13 @@ use Rattle.variants_and_fragments.specs.Case.{All}
 use Rattle.variants_and_fragments.specs.Decode.{decode}
 use Rattle.variants_and_fragments.specs.Layout.{alleleCountAt, depthAt}
 use Rattle.variants_and_fragments.specs.Pileup.{Row, only, pileOf}
+use Rattle.variants_and_fragments.specs.Written.{writtenFrom}
 use Rattle.variants_and_fragments.proofs.Alls.{all-imp}
 use Rattle.variants_and_fragments.proofs.Decoded.{strand-is, dp-is}
+use Rattle.variants_and_fragments.proofs.Written.{from-same}
 use Rattle.pileup.specs.Packed.{rowAt}
 use Rattle.genotype_probs.specs.declared.posteriors.Genotype.{Genotype}
 use Rattle.genotype_probs.specs.declared.posteriors.GenotypePost.{GenotypePost}
-use Rattle.genotype_probs.specs.Places.{writtenFrom}
 use Rattle.genotype_probs.specs.Posteriors.{entryAt, postOf, postAt, maxGenotype, atMostOne, maxGenotypePost, TableAt}
 use Rattle.genotype_probs.proofs.AlleleLaws.{nine}
 use Rattle.genotype_probs.proofs.ListLaws.{table-length}
@@ -124,16 +125,11 @@ module _ (w priors other : List ℤ) (b : List ℕ) (v : ℕ) (same : (p : ℕ) 
   unfolding scoredFrom
   scored-same p h = rw (getD-drop (9 * v) priors p (pos 0) ∙ same p h ∙ sym (getD-drop (9 * v) other p (pos 0)))
 
-  pub from-same : madeFrom w priors b v ≡ madeFrom w other b v
+  pub made-same : madeFrom w priors b v ≡ madeFrom w other b v
   unfolding posteriorsFrom
-  from-same = rw (tabulate-cong 9 (scoredFrom (drop (9 * v) priors) (alleleCountAt w v) rows) (scoredFrom (drop (9 * v) other) (alleleCountAt w v) rows) scored-same)
+  made-same = rw (tabulate-cong 9 (scoredFrom (drop (9 * v) priors) (alleleCountAt w v) rows) (scoredFrom (drop (9 * v) other) (alleleCountAt w v) rows) scored-same)
 
 -- ---- one variant
-from-each : {X : Type 0} (g h : ℕ → X) (at n : ℕ) (l : List X) → ((p : ℕ) → g p ≡ h p) → writtenFrom g at n l ≡ writtenFrom h at n l
-unfolding writtenFrom
-from-each g h at zero l e = refl
-from-each g h at (suc n) l e = rw (from-each g h at n l e, e n)
-
 module _ {w : List ℤ} {s : Sizes} {piles : List ℕ} {v : ℕ} {pile : Pile} (held : PileHeld w s piles v pile) {post post' : List ℤ} {counts : List ℕ} (made : PosteriorsMade w s (pileRows piles pile) v post post' counts) (room : 9 * v + 9 ≤ length post') where
   abbrev k : ℕ
   k = alleleCountAt w v
@@ -160,7 +156,7 @@ module _ {w : List ℤ} {s : Sizes} {piles : List ℕ} {v : ℕ} {pile : Pile} (
       let c : (b : List ℕ) → g ≡ calledFrom (madeFrom w post b v) k = λ b. e ∙ called-same (drop (9 * v) post') (madeFrom w post b v) k low (same b) in
       record {
         past = made .past;
-        variants-are = λ b. f ∙ from-each (λ p. pos (getD (answerValues (g .genotype) counts (pile .ambiguous) depth) p 0)) (answerFrom (madeFrom w post b v) k (decode w b) v) (13 * v) 13 variants (words-are held b counts (made .counts-are) (g .genotype) depth (depth-is held b depth d) (madeFrom w post b v) k (ap (λ (r : GenotypePost). r .genotype) (c b)));
+        variants-are = λ b. f ∙ from-same (λ p. pos (getD (answerValues (g .genotype) counts (pile .ambiguous) depth) p 0)) (answerFrom (madeFrom w post b v) k (decode w b) v) (13 * v) 13 variants (λ p _. words-are held b counts (made .counts-are) (g .genotype) depth (depth-is held b depth d) (madeFrom w post b v) k (ap (λ (r : GenotypePost). r .genotype) (c b)) p);
         quals-are = λ b. ap (set quals v) (i ∙ qual-same (drop (9 * v) post') (madeFrom w post b v) k low (same b));
         gqs-are = λ b. ap (set gqs v) (j ∙ ap (λ (r : GenotypePost). capped (phredOf (lnOneMinusExp (steps (r .post .0))))) (c b));
       }

@@ -10,14 +10,12 @@ use lib.ListN.{length, getD}
 use Rattle.variants_and_fragments.specs.declared.Sizes.{Sizes}
 use Rattle.variants_and_fragments.specs.Decode.{decode}
 use Rattle.variants_and_fragments.specs.Layout.{alleleCountAt}
-use Rattle.variants_and_fragments.specs.Written.{written}
-use Rattle.variants_and_fragments.proofs.Written.{written-on, written-length}
-use Rattle.genotype_probs.specs.Places.{writtenFrom}
-use Rattle.genotype_probs.proofs.Places.{from-after}
+use Rattle.variants_and_fragments.specs.Written.{writtenFrom, written}
+use Rattle.variants_and_fragments.proofs.Written.{written-on, written-length, from-after}
 use Rattle.no_haplotypes.specs.NoHaplotypes.{answerFrom, qualFrom, gqFrom}
 use Rattle.no_haplotypes.specs.Tally.{PriorsAt}
 use Rattle.no_haplotypes.specs.Calling.{PriorsIn, madeFrom, VariantCalled, VariantsCalled}
-use Rattle.no_haplotypes.proofs.CallLaws.{from-same}
+use Rattle.no_haplotypes.proofs.CallLaws.{made-same}
 
 -- the variants before v are called
 pub record CallingTo (w : List ℤ) (s : Sizes) (post₀ variants₀ : List ℤ) (quals₀ gqs₀ : List Float) (v : ℕ) (post variants : List ℤ) (quals gqs : List Float) : Type 0 where
@@ -55,7 +53,7 @@ module _ {w : List ℤ} {s : Sizes} {post₀ variants₀ : List ℤ} {quals₀ g
   pub calling-on : {post' variants' : List ℤ} {quals' gqs' : List Float} → v < s .n → length post' ≡ length post → VariantCalled w v post variants quals gqs post' variants' quals' gqs' → CallingTo w s post₀ variants₀ quals₀ gqs₀ (v + 1) post' variants' quals' gqs'
   calling-on h l f =
       let n = alleleCountAt w v in
-      let same : (b : List ℕ) → madeFrom w post b v ≡ madeFrom w post₀ b v = λ b. from-same w post post₀ b v (λ p m. c .rest (9 * v + p) (omega arith)) in
+      let same : (b : List ℕ) → madeFrom w post b v ≡ madeFrom w post₀ b v = λ b. made-same w post post₀ b v (λ p m. c .rest (9 * v + p) (omega arith)) in
       let z : 13 * v + 13 ≡ 13 * (v + 1) = omega arith in
       record {
         inside = omega arith;

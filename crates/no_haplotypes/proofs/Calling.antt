@@ -2,7 +2,7 @@
 -- Assumes nothing.
 use mathlib.Core.Path.{_≡_, refl, sym, ap, _∙_}
 use mathlib.Core.List.{List, []}
-use Prim.Native.Nat.{ℕ, zero, suc, _+_, _*_, _/_, _%_, _^_, _≤_, _<_}
+use Prim.Native.Nat.{ℕ, _+_, _*_, _/_, _%_, _^_, _≤_, _<_}
 use native.Mathlib.Omega.{arith}
 use lib.Dec.{eqb, ltb}
 use lib.Ieee.{Float}
@@ -23,7 +23,7 @@ use Rattle.variants_and_fragments.proofs.Decoded.{allele-count-is}
 use Rattle.variants_and_fragments.proofs.GoodCases.{good-case}
 use Rattle.variants_and_fragments.proofs.Sums.{count-le}
 use Rattle.variants_and_fragments.proofs.Only.{only-length}
-use Rattle.variants_and_fragments.proofs.Written.{written-at, written-length}
+use Rattle.variants_and_fragments.proofs.Written.{written-at, written-length, written-same}
 use Rattle.pileup.specs.Packed.{Grouped}
 use Rattle.pileup.proofs.Groups.{group-rows, group-in}
 use Rattle.genotype_probs.specs.declared.Rates.{Rates}
@@ -70,11 +70,6 @@ module _ {w : List ℤ} {s : Sizes} {ambiguous ends piles : List ℕ} (p : Piled
       }
 
 -- ---- the priors
-written-same : {X : Type 0} (g h : ℕ → X) (n : ℕ) (l : List X) → ((i : ℕ) → i < n → g i ≡ h i) → written g n l ≡ written h n l
-unfolding written
-written-same g h zero l f = refl
-written-same g h (suc n) l f = rw (written-same g h n l (λ i m. f i (omega arith)), f n (omega arith))
-
 all-small : (rates : Rates) → ratesFault rates ≡ 7 → (variant : Variant) (p : ℕ) → natAbs (allPriors (priorTable rates) variant p) ≤ 2 ^ 21
 unfolding allPriors
 all-small rates e variant p = let k = alleleCount variant in by-cond (ltb p (k * k)) _ (λ _. prior-small rates e variant (p / k) (p % k))

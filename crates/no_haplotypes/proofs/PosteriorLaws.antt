@@ -15,11 +15,11 @@ use Rattle.variants_and_fragments.specs.declared.Sizes.{Sizes}
 use Rattle.variants_and_fragments.specs.Decode.{tabulate}
 use Rattle.variants_and_fragments.specs.Layout.{alleleCountAt}
 use Rattle.variants_and_fragments.specs.Pileup.{Row}
+use Rattle.variants_and_fragments.specs.Written.{writtenFrom}
 use Rattle.variants_and_fragments.proofs.Decoded.{tabulate-at}
-use Rattle.genotype_probs.specs.Places.{writtenFrom}
+use Rattle.variants_and_fragments.proofs.Written.{from-length, from-past, from-at}
 use Rattle.genotype_probs.specs.Posteriors.{sumOf, entryAt, rowSum, tableSum, normalized, TableAt}
 use Rattle.genotype_probs.proofs.AlleleLaws.{nine}
-use Rattle.genotype_probs.proofs.Places.{from-length, from-past, from-at}
 use Rattle.genotype_probs.proofs.TableSums.{tabulate-cong, place-in, pair-in}
 use Rattle.genotype_probs.proofs.TableSizes.{normal-size}
 use Rattle.no_haplotypes.specs.Tally.{CountsIn, Tallied, SumsIn, pairGain, gained, PriorsAt, scoredFrom, posteriorsFrom, PosteriorsMade}

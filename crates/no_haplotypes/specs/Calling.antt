@@ -14,12 +14,11 @@ use Rattle.variants_and_fragments.specs.Case.{All}
 use Rattle.variants_and_fragments.specs.Decode.{decode}
 use Rattle.variants_and_fragments.specs.Layout.{alleleCountAt}
 use Rattle.variants_and_fragments.specs.Pileup.{pileOf, ambiguousCount}
-use Rattle.variants_and_fragments.specs.Written.{written}
+use Rattle.variants_and_fragments.specs.Written.{writtenFrom, written}
 use Rattle.pileup.specs.Packed.{RowIn, groupStart}
 use Rattle.pileup.specs.Piles.{PilesMade}
 use Rattle.genotype_probs.specs.declared.posteriors.Genotype.{Genotype}
 use Rattle.genotype_probs.specs.declared.Rates.{Rates}
-use Rattle.genotype_probs.specs.Places.{writtenFrom}
 use Rattle.genotype_probs.specs.Priors.{priorTable}
 use Rattle.no_haplotypes.specs.declared.tally.Pile.{Pile}
 use Rattle.no_haplotypes.specs.NoHaplotypes.{callsAt, answerFrom, qualFrom, gqFrom, answerAt, qualAt, gqAt}

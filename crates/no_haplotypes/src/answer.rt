@@ -11,7 +11,7 @@ ghost use Rattle.steps.specs.OneMinus.{lnOneMinusExp};
 ghost use Rattle.steps.specs.Phred.{phredOf, capped};
 ghost use Rattle.variants_and_fragments.specs.Accepted.{CaseIn};
 ghost use Rattle.variants_and_fragments.specs.Layout.{depthAt};
-ghost use Rattle.genotype_probs.specs.Places.{writtenFrom};
+ghost use Rattle.variants_and_fragments.specs.Written.{writtenFrom};
 ghost use Rattle.no_haplotypes.specs.NoHaplotypes.{qualFrom};
 ghost use Rattle.no_haplotypes.specs.Calling.{answerValues, WordsIn, larger};
 use genotype_probs::posteriors::Genotype;

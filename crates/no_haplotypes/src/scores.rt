@@ -8,7 +8,7 @@ ghost use lib.ListN.{drop, replicate};
 ghost use Rattle.steps.specs.Table.{knots};
 ghost use Rattle.variants_and_fragments.specs.Accepted.{CaseIn};
 ghost use Rattle.variants_and_fragments.specs.Layout.{alleleCountAt};
-ghost use Rattle.genotype_probs.specs.Places.{writtenFrom};
+ghost use Rattle.variants_and_fragments.specs.Written.{writtenFrom};
 ghost use Rattle.no_haplotypes.specs.Tally.{pileRows, PileIn, SumsIn, pairGain, gained, PriorsAt, PosteriorsMade};
 use crate::tally::Pile;
 use crate::tally::tally;

@@ -20,12 +20,11 @@ use Rattle.variants_and_fragments.specs.Pileup.{only}
 use Rattle.variants_and_fragments.specs.Written.{written}
 use Rattle.variants_and_fragments.proofs.Decoded.{tabulate-at, fragments-are}
 use Rattle.variants_and_fragments.proofs.GoodCases.{good-case}
-use Rattle.variants_and_fragments.proofs.Written.{written-length, written-at, written-past}
+use Rattle.variants_and_fragments.proofs.Written.{written-length, written-at, written-past, written-same}
 use Rattle.genotype_probs.specs.Posteriors.{normalized, TableAt, mirror, isOther, others, otherSum}
 use Rattle.genotype_probs.proofs.AlleleLaws.{nine}
 use Rattle.genotype_probs.proofs.Maxima.{genotype-maximum}
 use Rattle.genotype_probs.specs.declared.Rates.{Rates}
-use Rattle.haplotype_assembly.proofs.Decodes.{written-same}
 use Rattle.sweeps.specs.Sweeps.{SweepCase, GoodSweepCase, allele0, likelihood, score}
 use Rattle.sweeps.specs.Demand3.{Demand3}
 use Rattle.sweeps.specs.Posts.{posts}

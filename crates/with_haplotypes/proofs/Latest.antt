@@ -13,6 +13,7 @@ use lib.IntN.{ℤ, pos}
 use lib.ListN.{length, getD}
 use lib.Seq.{sets, length-sets}
 use Rattle.steps.proofs.Signed.{cases, by-test}
+use Rattle.variants_and_fragments.proofs.Decoded.{tabulate-length, tabulate-at}
 use Rattle.shuffle.specs.Permutation.{Permutation, member, times}
 use Rattle.sweeps.specs.Sweeps.{SweepCase, GoodSweepCase, score, visit}
 use Rattle.sweeps.specs.Demand3.{after}
@@ -21,7 +22,7 @@ use Rattle.sweeps.proofs.Basics.{or-l, or-r}
 use Rattle.sweeps.proofs.Posts.{length-posts}
 use Rattle.sweeps.proofs.Visit.{square-nine}
 use Rattle.call_genotypes.specs.Scores.{rawScores}
-use Rattle.call_genotypes.proofs.Tables.{table-length, table-at, sets-before, sets-after, sets-at}
+use Rattle.call_genotypes.proofs.Tables.{sets-before, sets-after, sets-at}
 use Rattle.with_haplotypes.specs.Round.{atVisit}
 
 -- where a count is 0, so are its first and its rest
@@ -34,7 +35,7 @@ module _ (C : SweepCase) (good : GoodSweepCase C) where
   tableOf v h = rawScores (C .k v) (score C v h)
 
   table-nine : (v : ℕ) (h : List ℕ) → v < C .n → length (tableOf v h) ≤ 9
-  table-nine v h l = omega (arith, table-length (pos 0) (score C v h) 0 (C .k v * C .k v), square-nine C good v l)
+  table-nine v h l = omega (arith, tabulate-length (C .k v * C .k v) (score C v h), square-nine C good v l)
 
   -- ---- one visit
   -- another variant's table is stored elsewhere
@@ -50,8 +51,8 @@ module _ (C : SweepCase) (good : GoodSweepCase C) where
   stored-at : (v p : ℕ) (h : List ℕ) (ps : List ℤ) → v < C .n → 9 * C .n ≤ length ps → p < C .k v * C .k v
       → getD (sets ps (9 * v) (tableOf v h)) (9 * v + p) (pos 0) ≡ score C v h p
   stored-at v p h ps l room q =
-      sets-at (pos 0) (tableOf v h) ps (9 * v) p (omega (arith, table-length (pos 0) (score C v h) 0 (C .k v * C .k v))) (omega (arith, table-nine v h l))
-      ∙ table-at (pos 0) (score C v h) (C .k v * C .k v) p q
+      sets-at (pos 0) (tableOf v h) ps (9 * v) p (omega (arith, tabulate-length (C .k v * C .k v) (score C v h))) (omega (arith, table-nine v h l))
+      ∙ tabulate-at (C .k v * C .k v) (score C v h) p (pos 0) q
 
   -- ---- one sweep, by an order whose entries are variants
   abbrev Inside : List ℕ → Type 0

@@ -10,11 +10,9 @@ use lib.IntN.{ℤ, pos}
 use lib.ListN.{length, getD, drop}
 use lib.Seq.{drop-set-lt}
 use Rattle.steps.proofs.Signed.{by-test}
-use Rattle.variants_and_fragments.specs.Written.{written}
-use Rattle.variants_and_fragments.proofs.Written.{written-at, written-length, written-past}
-use Rattle.genotype_probs.specs.Places.{writtenFrom}
+use Rattle.variants_and_fragments.specs.Written.{writtenFrom, written}
+use Rattle.variants_and_fragments.proofs.Written.{written-at, written-length, written-past, from-after}
 use Rattle.genotype_probs.specs.Posteriors.{sumOf, entryAt, rowSum, tableSum, normalized, TableAt}
-use Rattle.genotype_probs.proofs.Places.{from-after}
 use Rattle.genotype_probs.proofs.TableSums.{tabulate-cong, place-in}
 use Rattle.with_haplotypes.specs.NormalizedPosteriors.{normalizedAt}
 

@@ -25,6 +25,7 @@ use Rattle.variants_and_fragments.proofs.Usable.{usable-fewer, usable-in, usabl
 use Rattle.genotype_probs.specs.declared.Rates.{Rates}
 use Rattle.genotype_probs.specs.Rates.{ratesFault}
 use Rattle.genotype_probs.specs.Priors.{getPrior}
+use Rattle.genotype_probs.proofs.ListLaws.{down-abs}
 use Rattle.genotype_probs.proofs.PriorBounds.{Down, prior-down}
 use Rattle.genotype_probs.proofs.RateLaws.{rates-in}
 use Rattle.sweeps.specs.Sweeps.{SweepCase, allele0, allele1, putPair, likelihood, hasCall, perCall, readShare, withOwn, scoreWith, score, totalOf, mixOf}
@@ -32,7 +33,6 @@ use Rattle.sweeps.proofs.Basics.{one-call}
 use Rattle.likelihoods.specs.Likelihoods.{callShare}
 use Rattle.likelihoods.specs.SweepCaseOf.{sweepCaseOf}
 use Rattle.likelihoods.proofs.SweepCases.{likelihood-sum, cond-down, share-down, variants-are, mix-is}
-use Rattle.call_genotypes.proofs.Sizes.{down-abs}
 
 -- ---- numbers in −n..0
 from-down : {n : ℕ} {z : ℤ} → Down n z → DownTo n z

@@ -14,10 +14,10 @@ use mir.Syntax.{w64}
 use mir.Val.{toZ, ofZ}
 use mir.Facts.{toZ-ofZ}
 use Rattle.steps.proofs.Signed.{by-test, read-back, read-small}
-use Rattle.genotype_probs.specs.Places.{writtenFrom}
+use Rattle.variants_and_fragments.specs.Written.{writtenFrom}
+use Rattle.variants_and_fragments.proofs.Written.{from-on, from-length, from-past}
 use Rattle.genotype_probs.specs.Posteriors.{normalized}
 use Rattle.genotype_probs.proofs.AlleleLaws.{nine}
-use Rattle.genotype_probs.proofs.Places.{from-on, from-length, from-past}
 use Rattle.genotype_probs.proofs.posteriors.subtract.Statement.{statement}
 use Rattle.genotype_probs.proofs.posteriors.subtract.Tie as tie
 

@@ -12,11 +12,11 @@ use mir.Syntax.{w64}
 use mir.Val.{toZ, ofZ}
 use Rattle.steps.proofs.Signed.{read-back}
 use Rattle.variants_and_fragments.specs.Decode.{variantFrom}
+use Rattle.variants_and_fragments.specs.Written.{writtenFrom}
+use Rattle.variants_and_fragments.proofs.Written.{from-on, from-length, from-join}
 use Rattle.genotype_probs.specs.Priors.{allPriors}
-use Rattle.genotype_probs.specs.Places.{writtenFrom}
 use Rattle.genotype_probs.proofs.AlleleLaws.{nine, place-is, past-places}
 use Rattle.genotype_probs.proofs.Pairs.{NextPair, pair-start, pair-div, pair-mod, first-in, row-on, place-on}
-use Rattle.genotype_probs.proofs.Places.{from-on, from-length, from-join}
 use Rattle.genotype_probs.proofs.priors.get_all_priors.Statement.{statement}
 use Rattle.genotype_probs.proofs.priors.get_all_priors.Tie as tie
 

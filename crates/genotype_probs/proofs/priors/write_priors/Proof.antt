@@ -10,11 +10,9 @@ use Rattle.variants_and_fragments.specs.Layout.{sizesOf}
 use Rattle.variants_and_fragments.specs.Alleles.{allelesStart}
 use Rattle.variants_and_fragments.proofs.AlleleBytes.{off-on}
 use Rattle.variants_and_fragments.specs.Decode.{variantFrom, decode}
-use Rattle.variants_and_fragments.specs.Written.{written}
-use Rattle.variants_and_fragments.proofs.Written.{written-length}
+use Rattle.variants_and_fragments.specs.Written.{writtenFrom, written}
+use Rattle.variants_and_fragments.proofs.Written.{written-length, from-after}
 use Rattle.genotype_probs.specs.Priors.{allPriors, priorAt}
-use Rattle.genotype_probs.specs.Places.{writtenFrom}
-use Rattle.genotype_probs.proofs.Places.{from-after}
 use Rattle.genotype_probs.proofs.AlleleLaws.{start-top, element-is}
 use Rattle.genotype_probs.proofs.priors.write_priors.Statement.{statement}
 use Rattle.genotype_probs.proofs.priors.write_priors.Tie as tie

@@ -7,8 +7,8 @@ use native.Mathlib.Omega.{arith}
 use denote.Ref.{now}
 use lib.IntN.{ℤ, pos}
 use lib.ListN.{length}
-use Rattle.genotype_probs.specs.Places.{writtenFrom}
-use Rattle.genotype_probs.proofs.Places.{from-on, from-length}
+use Rattle.variants_and_fragments.specs.Written.{writtenFrom}
+use Rattle.variants_and_fragments.proofs.Written.{from-on, from-length}
 use Rattle.genotype_probs.proofs.priors.write_zeros.Statement.{statement}
 use Rattle.genotype_probs.proofs.priors.write_zeros.Tie as tie
 

@@ -12,8 +12,8 @@ use mir.Syntax.{w64}
 use mir.Val.{toZ, ofZ}
 use mir.Facts.{toZ-ofZ}
 use Rattle.steps.proofs.Signed.{read-back, read-small}
-use Rattle.genotype_probs.specs.Places.{writtenFrom}
-use Rattle.genotype_probs.proofs.Places.{from-on, from-length, from-past}
+use Rattle.variants_and_fragments.specs.Written.{writtenFrom}
+use Rattle.variants_and_fragments.proofs.Written.{from-on, from-length, from-past}
 use Rattle.no_haplotypes.specs.Tally.{gained}
 use Rattle.no_haplotypes.proofs.scores.write_scores.Statement.{statement}
 use Rattle.no_haplotypes.proofs.scores.write_scores.Tie as tie
