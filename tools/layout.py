@@ -1,6 +1,7 @@
 """The layout of a case (document 01, section 2) and of the slices that the operations write, with its limits.
 
 No other script has the offset of a field, the stride of a record or a limit: a change of the layout is a change here.
+Run by itself it prints the same as a C header, for bench/limit.c: python3 tools/layout.py > FILE
 """
 from types import SimpleNamespace
 
@@ -83,3 +84,26 @@ def needs(word, n, f):
         "check": [], "priors": [TABLE * n], "nohap": [CALLED.words * n, n, n], "phase": [PAIR * n, n, n],
         "run": [PAIR * n, PAIR * f, TABLE * n, n, n], "filter": [n],
     }[word]
+
+
+HEADER = """/* Written by tools/layout.py: words of each record, offsets of its fields, limits; then what is written per variant. */
+%s
+enum { MAX_VARIANTS = %d, MAX_FRAGMENTS = %d, MAX_CALLS = %d, MAX_ALLELES = %d, MAX_LENGTH = %d, LOWEST = %d };
+enum { PAIR = %d, TABLE = %d };
+"""
+
+
+def record_header(name, record):
+    """The words of a record and its fields' offsets, with the record's first letter before each."""
+    fields = ["%s_%s = %d" % (name[0], field.upper(), getattr(record, field)) for field in record.widths]
+    return "enum { %s = %d, %s };" % (name, record.words, ", ".join(fields))
+
+
+def main():
+    records = {"HEAD": HEAD, "VARIANT": VARIANT, "FRAGMENT": FRAGMENT, "CALL": CALL}
+    print(HEADER % ("\n".join(record_header(*pair) for pair in records.items()), MAX_VARIANTS, MAX_FRAGMENTS, MAX_CALLS,
+                    MAX_ALLELES, MAX_LENGTH, LOWEST, PAIR, TABLE), end="")
+
+
+if __name__ == "__main__":
+    main()

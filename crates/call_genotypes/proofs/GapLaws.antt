@@ -1,5 +1,4 @@
--- A call's four values are "neither" plus its gaps; and "neither" is its last number less 4,096, then at a phased variant less its gap if the
--- second haplotype has its allele, at an unphased one plus its qual. Assumes nothing.
+-- A call's four values are "neither" plus what its four numbers say that a score rises. Assumes nothing.
 use mathlib.Core.Path.{_≡_, refl, sym, ap, _∙_}
 use mathlib.Core.Bool.{Bool, true, false, cond}
 use mathlib.Core.List.{List}
@@ -8,24 +7,19 @@ use native.Mathlib.Omega.{arith}
 use lib.Dec.{eqb}
 use lib.ListN.{getD}
 use lib.IntN.{ℤ, pos, _+ℤ_, _-ℤ_, _*ℤ_, zero-*ℤ}
-use Rattle.steps.specs.Logs.{addExp}
 use Rattle.steps.proofs.Signed.{zlin, up-pos, dn-pos, parts-add, parts-minus}
 use Rattle.variants_and_fragments.specs.Case.{Call}
 use Rattle.variants_and_fragments.specs.Pileup.{Row}
 use Rattle.sweeps.specs.Sweeps.{callTerm, mixOf}
 use Rattle.sweeps.specs.Incremental.{without, fourValue}
-use Rattle.call_genotypes.specs.Scores.{onePlus, gapValue, rowGap, rowGaps, turn}
-use Rattle.steps.proofs.AddExp.{add-exp-from}
+use Rattle.call_genotypes.specs.Scores.{onePlus, mixValue, rowGap, rowMixes, riseOf, turn}
+use Rattle.likelihoods.proofs.TotalParts.{mixed-from}
 use Rattle.call_genotypes.proofs.Turns.{times-one, times-minus}
 
 -- a row's value w of the four, where v is at (g0, g1) and lik has the likelihoods that stand
 unfoldable pub rowFour : Bool → ℕ → ℕ → List ℤ → Row → ℕ → ℤ
 rowFour phased g0 g1 lik row w =
     fourValue mixOf (without phased (getD lik (2 * row .fragment) (pos 0)) (row .call) g0) (without phased (getD lik (2 * row .fragment + 1) (pos 0)) (row .call) g1) (row .call) w
-
-mixed-from : (x y z d : ℤ) → x -ℤ pos 4096 ≡ z +ℤ d → y -ℤ pos 4096 ≡ z → mixOf x y ≡ z +ℤ onePlus d
-unfolding mixOf
-mixed-from x y z d e f = ap (λ (u : ℤ). addExp u (y -ℤ pos 4096)) e ∙ ap (λ (u : ℤ). addExp (z +ℤ d) u) f ∙ add-exp-from d z
 
 module _ (b0 b1 q o : ℤ) where
   abbrev low : ℤ
@@ -37,7 +31,7 @@ module _ (b0 b1 q o : ℤ) where
   abbrev rise : ℤ
   rise = o -ℤ q
 
-  pub neither-is : mixOf (b0 +ℤ q) (b1 +ℤ q) ≡ low +ℤ onePlus far
+  neither-is : mixOf (b0 +ℤ q) (b1 +ℤ q) ≡ low +ℤ onePlus far
   neither-is = mixed-from (b0 +ℤ q) (b1 +ℤ q) low far (omega (zlin, parts-add b0 q, parts-minus (b0 +ℤ q) (pos 4096), parts-add b1 q, parts-minus (b1 +ℤ q) (pos 4096), parts-minus b0 b1, parts-add low far)) refl
 
   first-is : mixOf (b0 +ℤ o) (b1 +ℤ q) ≡ low +ℤ onePlus (far +ℤ rise)
@@ -61,19 +55,19 @@ up-two z m n g = omega (zlin, parts-add z g, parts-add (z +ℤ g) m, parts-add z
 up-three : (z n g : ℤ) → (z +ℤ g) +ℤ n ≡ (z +ℤ n) +ℤ g
 up-three z n g = omega (zlin, parts-add z g, parts-add (z +ℤ g) n, parts-add z n, parts-add (z +ℤ n) g)
 
--- a value is "neither" plus a gap
-gap-is : (b0 b1 b : ℤ) (c : Call) (w : ℕ) → w < 3 → fourValue mixOf b0 b1 c (suc w) ≡ fourValue mixOf b0 b1 c 0 +ℤ gapValue b (b0 -ℤ b1) (c .one-minus-qual -ℤ c .qual) w
-unfolding fourValue gapValue
-gap-is b0 b1 b c zero l = let q = c .qual in let o = c .one-minus-qual in
+-- a value is "neither" plus a rise
+rise-is : (b0 b1 : ℤ) (c : Call) (w : ℕ) → w < 3 → fourValue mixOf b0 b1 c (suc w) ≡ fourValue mixOf b0 b1 c 0 +ℤ riseOf (mixValue (b0 -ℤ b1) (c .one-minus-qual -ℤ c .qual)) w
+unfolding fourValue riseOf mixValue
+rise-is b0 b1 c zero l = let q = c .qual in let o = c .one-minus-qual in
     first-is b0 b1 q o ∙ up-one (low b0 b1 q o) (onePlus (far b0 b1 q o +ℤ rise b0 b1 q o)) (onePlus (far b0 b1 q o))
     ∙ ap (λ (z : ℤ). z +ℤ (onePlus (far b0 b1 q o +ℤ rise b0 b1 q o) -ℤ onePlus (far b0 b1 q o))) (sym (neither-is b0 b1 q o))
-gap-is b0 b1 b c (suc zero) l = let q = c .qual in let o = c .one-minus-qual in
+rise-is b0 b1 c (suc zero) l = let q = c .qual in let o = c .one-minus-qual in
     second-is b0 b1 q o ∙ up-two (low b0 b1 q o) (onePlus (far b0 b1 q o -ℤ rise b0 b1 q o)) (onePlus (far b0 b1 q o)) (rise b0 b1 q o)
     ∙ ap (λ (z : ℤ). z +ℤ ((onePlus (far b0 b1 q o -ℤ rise b0 b1 q o) -ℤ onePlus (far b0 b1 q o)) +ℤ rise b0 b1 q o)) (sym (neither-is b0 b1 q o))
-gap-is b0 b1 b c (suc (suc zero)) l = let q = c .qual in let o = c .one-minus-qual in
+rise-is b0 b1 c (suc (suc zero)) l = let q = c .qual in let o = c .one-minus-qual in
     both-is b0 b1 q o ∙ up-three (low b0 b1 q o) (onePlus (far b0 b1 q o)) (rise b0 b1 q o)
     ∙ ap (λ (z : ℤ). z +ℤ rise b0 b1 q o) (sym (neither-is b0 b1 q o))
-gap-is b0 b1 b c (suc (suc (suc w))) l = absurd (omega arith)
+rise-is b0 b1 c (suc (suc (suc w))) l = absurd (omega arith)
 
 -- the likelihoods' distance without the call's own terms
 far-is : (phased h0 h1 : Bool) (l0 l1 q o : ℤ) → (l0 -ℤ cond phased (cond h0 o q) (pos 0)) -ℤ (l1 -ℤ cond phased (cond h1 o q) (pos 0))
@@ -84,19 +78,12 @@ far-is true false true l0 l1 q o = rw (times-one (o -ℤ q)) (omega (zlin, parts
 far-is true false false l0 l1 q o = rw (zero-*ℤ (o -ℤ q)) (omega (zlin, parts-minus l0 q, parts-minus l1 q, parts-minus (l0 -ℤ q) (l1 -ℤ q), parts-minus l0 l1, parts-add (l0 -ℤ l1) (pos 0), up-pos 0, dn-pos 0))
 far-is false h0 h1 l0 l1 q o = rw (zero-*ℤ (o -ℤ q)) (omega (zlin, parts-minus l0 (pos 0), parts-minus l1 (pos 0), parts-minus (l0 -ℤ pos 0) (l1 -ℤ pos 0), parts-minus l0 l1, parts-add (l0 -ℤ l1) (pos 0), up-pos 0, dn-pos 0))
 
--- "neither" and the fourth number: at a phased variant, and at an unphased one
-pub base-phased : (h : Bool) (l q o m : ℤ) → l +ℤ m ≡ ((((l -ℤ cond h o q) +ℤ q) -ℤ pos 4096 +ℤ m) +ℤ pos 4096) +ℤ cond h (o -ℤ q) (pos 0)
-base-phased true l q o m =
-    let z = ((l -ℤ o) +ℤ q) -ℤ pos 4096 in
-    omega (zlin, parts-add l m, parts-minus l o, parts-add (l -ℤ o) q, parts-minus ((l -ℤ o) +ℤ q) (pos 4096), parts-add z m, parts-add (z +ℤ m) (pos 4096), parts-minus o q, parts-add ((z +ℤ m) +ℤ pos 4096) (o -ℤ q))
-base-phased false l q o m =
-    let z = ((l -ℤ q) +ℤ q) -ℤ pos 4096 in
-    omega (zlin, parts-add l m, parts-minus l q, parts-add (l -ℤ q) q, parts-minus ((l -ℤ q) +ℤ q) (pos 4096), parts-add z m, parts-add (z +ℤ m) (pos 4096), parts-add ((z +ℤ m) +ℤ pos 4096) (pos 0), up-pos 0, dn-pos 0)
-
-pub base-unphased : (l q m : ℤ) → (l +ℤ m) +ℤ q ≡ ((((l -ℤ pos 0) +ℤ q) -ℤ pos 4096) +ℤ m) +ℤ pos 4096
-base-unphased l q m =
-    let z = ((l -ℤ pos 0) +ℤ q) -ℤ pos 4096 in
-    omega (zlin, parts-add l m, parts-add (l +ℤ m) q, parts-minus l (pos 0), parts-add (l -ℤ pos 0) q, parts-minus ((l -ℤ pos 0) +ℤ q) (pos 4096), parts-add z m, parts-add (z +ℤ m) (pos 4096), up-pos 0, dn-pos 0)
+-- a rise reads four numbers
+rise-cong : (m n : ℕ → ℤ) (w : ℕ) → ((u : ℕ) → m u ≡ n u) → riseOf m w ≡ riseOf n w
+unfolding riseOf
+rise-cong m n zero e = cc (e 0, e 3)
+rise-cong m n (suc zero) e = cc (e 1, e 2, e 3)
+rise-cong m n (suc (suc w)) e = e 2
 
 module _ (phased : Bool) (g0 g1 : ℕ) (turns lik : List ℤ) (turns-are : (x : ℕ) → getD turns x (pos 0) ≡ turn phased g0 g1 x) where
   abbrev first-lik : Row → ℤ
@@ -117,11 +104,13 @@ module _ (phased : Bool) (g0 g1 : ℕ) (turns lik : List ℤ) (turns-are : (x : 
       ap (λ (z : ℤ). (first-lik row -ℤ second-lik row) +ℤ (z *ℤ rowGap row)) (turns-are (row .call .allele))
       ∙ sym (far-is phased (eqb (row .call .allele) g0) (eqb (row .call .allele) g1) (first-lik row) (second-lik row) (row .call .qual) (row .call .one-minus-qual))
 
-  pub gaps-are : (row : Row) (w : ℕ) → rowGaps turns lik row w ≡ gapValue (second-lik row) (without0 row -ℤ without1 row) (rowGap row) w
-  unfolding rowGaps
-  gaps-are row w = ap (λ (d : ℤ). gapValue (second-lik row) d (rowGap row) w) (distance-is row)
+  mixes-are : (row : Row) (w : ℕ) → rowMixes turns lik row w ≡ mixValue (without0 row -ℤ without1 row) (rowGap row) w
+  unfolding rowMixes
+  mixes-are row w = ap (λ (d : ℤ). mixValue d (rowGap row) w) (distance-is row)
 
   -- a row's value of the four
-  pub value-is : (row : Row) (w : ℕ) → w < 3 → rowFour phased g0 g1 lik row (suc w) ≡ rowFour phased g0 g1 lik row 0 +ℤ rowGaps turns lik row w
+  pub value-is : (row : Row) (w : ℕ) → w < 3 → rowFour phased g0 g1 lik row (suc w) ≡ rowFour phased g0 g1 lik row 0 +ℤ riseOf (rowMixes turns lik row) w
   unfolding rowFour
-  value-is row w l = gap-is (without0 row) (without1 row) (second-lik row) (row .call) w l ∙ ap (λ (z : ℤ). fourValue mixOf (without0 row) (without1 row) (row .call) 0 +ℤ z) (sym (gaps-are row w))
+  value-is row w l =
+      rise-is (without0 row) (without1 row) (row .call) w l
+      ∙ ap (λ (z : ℤ). fourValue mixOf (without0 row) (without1 row) (row .call) 0 +ℤ z) (sym (rise-cong (rowMixes turns lik row) (mixValue (without0 row -ℤ without1 row) (rowGap row)) w (mixes-are row)))

@@ -1,41 +1,58 @@
--- The scores of all pairs from the sums of the calls' numbers per allele: "neither" of all rows, and what a pair takes more. Assumes nothing.
+-- The scores of all pairs from the sums of the calls' numbers per allele: "neither" of all rows, and what a pair rises above it. Assumes nothing.
 use mathlib.Core.Path.{_≡_, refl, sym, ap, _∙_}
 use mathlib.Core.Bool.{Bool, true, false, cond}
-use mathlib.Core.List.{List, [], _∷_}
-use Prim.Native.Nat.{ℕ, _+_, _-_, _*_, _<_}
+use mathlib.Core.List.{List}
+use Prim.Native.Nat.{ℕ, zero, suc, _+_, _<_}
 use native.Mathlib.Omega.{arith}
-use native.Mathlib.Nat.{add-zero, mul-zero, mul-suc}
 use native.Mathlib.Decide.{ℕ-discrete}
 use borrow.Author.Tests.{eq-eqb, ne-eqb, eqb-true}
 use lib.Dec.{eqb}
-use lib.ListN.{length, getD}
+use lib.ListN.{getD}
 use lib.IntN.{ℤ, pos, _+ℤ_, _-ℤ_, +ℤ-idl, +ℤ-idr}
 use Rattle.steps.proofs.Signed.{zlin, parts-add, parts-minus}
-use Rattle.variants_and_fragments.specs.Case.{All}
 use Rattle.variants_and_fragments.specs.Pileup.{Row}
-use Rattle.pileup.specs.Packed.{rowAt, rowsAt}
 use Rattle.variants_and_fragments.specs.Sums.{sumOver}
-use Rattle.genotype_probs.proofs.ListLaws.{sum-plus, table-length}
-use Rattle.sweeps.specs.Sweeps.{callTerm}
-use Rattle.sweeps.specs.Incremental.{fourValue, whichValue, alleleSum}
+use Rattle.genotype_probs.proofs.ListLaws.{sum-plus}
+use Rattle.sweeps.specs.Incremental.{whichValue, alleleSum}
 use Rattle.sweeps.proofs.Basics.{sumOver-cong}
-use Rattle.sweeps.proofs.Fours.{allele-sums}
-use Rattle.call_genotypes.specs.Scores.{onePlus, gapValue, rowGaps, turn, AlleleSums, qualSum, baseSum, neitherSum, pairGap}
-use Rattle.call_genotypes.proofs.GapLaws.{rowFour, value-is, gaps-are, neither-is, base-phased, base-unphased}
+use Rattle.call_genotypes.specs.Scores.{rowMixes, turn, AlleleSums, sumsAt, riseOf, pairRise}
+use Rattle.call_genotypes.proofs.GapLaws.{rowFour, value-is}
+
+-- ---- sums of what some rows have
+cond-plus : (b : Bool) (x y : ℤ) → cond b (x +ℤ y) (pos 0) ≡ cond b x (pos 0) +ℤ cond b y (pos 0)
+cond-plus true x y = refl
+cond-plus false x y = refl
+
+both-sum : (rows : List Row) (has : Row → Bool) (f g : Row → ℤ) → sumOver rows (λ row. cond (has row) (f row +ℤ g row) (pos 0)) ≡ sumOver rows (λ row. cond (has row) (f row) (pos 0)) +ℤ sumOver rows (λ row. cond (has row) (g row) (pos 0))
+both-sum rows has f g =
+    sumOver-cong rows (λ row. cond (has row) (f row +ℤ g row) (pos 0)) (λ row. cond (has row) (f row) (pos 0) +ℤ cond (has row) (g row) (pos 0)) (λ row. cond-plus (has row) (f row) (g row))
+    ∙ sum-plus rows (λ row. cond (has row) (f row) (pos 0)) (λ row. cond (has row) (g row) (pos 0))
+
+back : (x y : ℤ) → x ≡ (x -ℤ y) +ℤ y
+back x y = omega (zlin, parts-minus x y, parts-add (x -ℤ y) y)
+
+away : (s x y : ℤ) → s ≡ x +ℤ y → x ≡ s -ℤ y
+away s x y e = omega (zlin, parts-add x y, parts-minus s y)
+
+less-sum : (rows : List Row) (has : Row → Bool) (f g : Row → ℤ) → sumOver rows (λ row. cond (has row) (f row -ℤ g row) (pos 0)) ≡ sumOver rows (λ row. cond (has row) (f row) (pos 0)) -ℤ sumOver rows (λ row. cond (has row) (g row) (pos 0))
+less-sum rows has f g =
+    away (sumOver rows (λ row. cond (has row) (f row) (pos 0))) (sumOver rows (λ row. cond (has row) (f row -ℤ g row) (pos 0))) (sumOver rows (λ row. cond (has row) (g row) (pos 0)))
+    (sumOver-cong rows (λ row. cond (has row) (f row) (pos 0)) (λ row. cond (has row) ((f row -ℤ g row) +ℤ g row) (pos 0)) (λ row. ap (λ (z : ℤ). cond (has row) z (pos 0)) (back (f row) (g row)))
+    ∙ both-sum rows has (λ row. f row -ℤ g row) g)
 
 module _ (phased : Bool) (g0 g1 : ℕ) (turns lik : List ℤ) (turns-are : (x : ℕ) → getD turns x (pos 0) ≡ turn phased g0 g1 x) where
-  -- what (i, j) takes of a row over "neither": the gaps of its allele
+  -- what (i, j) takes of a row over "neither": what its allele's numbers say
   rowPair : ℕ → ℕ → Row → ℤ
   rowPair i j row =
-      cond (eqb i j) (cond (eqb (row .call .allele) i) (rowGaps turns lik row 2) (pos 0))
-      (cond (eqb (row .call .allele) i) (rowGaps turns lik row 0) (pos 0) +ℤ cond (eqb (row .call .allele) j) (rowGaps turns lik row 1) (pos 0))
+      cond (eqb i j) (cond (eqb (row .call .allele) i) (riseOf (rowMixes turns lik row) 2) (pos 0))
+      (cond (eqb (row .call .allele) i) (riseOf (rowMixes turns lik row) 0) (pos 0) +ℤ cond (eqb (row .call .allele) j) (riseOf (rowMixes turns lik row) 1) (pos 0))
 
-  taken-same : (row : Row) (t : Bool) → rowFour phased g0 g1 lik row (cond t 1 0 + cond t 2 0) ≡ rowFour phased g0 g1 lik row 0 +ℤ cond t (rowGaps turns lik row 2) (pos 0)
+  taken-same : (row : Row) (t : Bool) → rowFour phased g0 g1 lik row (cond t 1 0 + cond t 2 0) ≡ rowFour phased g0 g1 lik row 0 +ℤ cond t (riseOf (rowMixes turns lik row) 2) (pos 0)
   taken-same row true = value-is phased g0 g1 turns lik turns-are row 2 (omega arith)
   taken-same row false = sym (+ℤ-idr _)
 
   taken-other : (row : Row) (s t : Bool) → (s ≡ true → t ≡ true → ⊥)
-      → rowFour phased g0 g1 lik row (cond s 1 0 + cond t 2 0) ≡ rowFour phased g0 g1 lik row 0 +ℤ (cond s (rowGaps turns lik row 0) (pos 0) +ℤ cond t (rowGaps turns lik row 1) (pos 0))
+      → rowFour phased g0 g1 lik row (cond s 1 0 + cond t 2 0) ≡ rowFour phased g0 g1 lik row 0 +ℤ (cond s (riseOf (rowMixes turns lik row) 0) (pos 0) +ℤ cond t (riseOf (rowMixes turns lik row) 1) (pos 0))
   taken-other row true true f = absurd (f refl refl)
   taken-other row true false f = value-is phased g0 g1 turns lik turns-are row 0 (omega arith) ∙ ap (λ (z : ℤ). rowFour phased g0 g1 lik row 0 +ℤ z) (sym (+ℤ-idr _))
   taken-other row false true f = value-is phased g0 g1 turns lik turns-are row 1 (omega arith) ∙ ap (λ (z : ℤ). rowFour phased g0 g1 lik row 0 +ℤ z) (sym (+ℤ-idl _))
@@ -49,98 +66,34 @@ module _ (phased : Bool) (g0 g1 : ℕ) (turns lik : List ℤ) (turns-are : (x : 
   ]
 
   -- all rows
-  module _ (rows : List Row) (acc : List ℤ) (A : AlleleSums (rowGaps turns lik) rows acc) where
-    sum-at : (x w : ℕ) → x < 3 → w < 4 → sumOver rows (λ row. cond (eqb (row .call .allele) x) (rowGaps turns lik row w) (pos 0)) ≡ getD acc (4 * x + w) (pos 0)
-    unfolding alleleSum
-    sum-at x w a b = sym (A .sums x w a b)
+  module _ (rows : List Row) (acc : List ℤ) (A : AlleleSums (rowMixes turns lik) rows acc) where
+    abbrev value : Row → ℕ → ℤ
+    value = rowMixes turns lik
 
-    gaps-sum : (i j : ℕ) → i < 3 → j < 3 → sumOver rows (rowPair i j) ≡ pairGap acc i j
+    -- the rises of one allele's rows are the rise of its sums
+    rise-sum : (x w : ℕ) → x < 3 → sumOver rows (λ row. cond (eqb (row .call .allele) x) (riseOf (value row) w) (pos 0)) ≡ riseOf (sumsAt acc x) w
+    unfolding riseOf alleleSum
+    rise-sum x zero h =
+        less-sum rows (λ row. eqb (row .call .allele) x) (λ row. value row 0) (λ row. value row 3)
+        ∙ cc (A .sums x 0 h (omega arith), A .sums x 3 h (omega arith))
+    rise-sum x (suc zero) h =
+        both-sum rows (λ row. eqb (row .call .allele) x) (λ row. value row 1 -ℤ value row 3) (λ row. value row 2)
+        ∙ cc (less-sum rows (λ row. eqb (row .call .allele) x) (λ row. value row 1) (λ row. value row 3), A .sums x 1 h (omega arith), A .sums x 2 h (omega arith), A .sums x 3 h (omega arith))
+    rise-sum x (suc (suc w)) h = sym (A .sums x 2 h (omega arith))
+
+    rises-sum : (i j : ℕ) → i < 3 → j < 3 → sumOver rows (rowPair i j) ≡ pairRise acc i j
     unfolding rowPair
-    gaps-sum i j h l = go (eqb i j)
+    rises-sum i j h l = go (eqb i j)
       where
-        go : (t : Bool) → sumOver rows (λ row. cond t (cond (eqb (row .call .allele) i) (rowGaps turns lik row 2) (pos 0)) (cond (eqb (row .call .allele) i) (rowGaps turns lik row 0) (pos 0) +ℤ cond (eqb (row .call .allele) j) (rowGaps turns lik row 1) (pos 0)))
-            ≡ cond t (getD acc (4 * i + 2) (pos 0)) (getD acc (4 * i) (pos 0) +ℤ getD acc (4 * j + 1) (pos 0))
-        go true = sum-at i 2 h (omega arith)
-        go false = sum-plus rows (λ row. cond (eqb (row .call .allele) i) (rowGaps turns lik row 0) (pos 0)) (λ row. cond (eqb (row .call .allele) j) (rowGaps turns lik row 1) (pos 0))
-            ∙ cc (sum-at i 0 h (omega arith), sum-at j 1 l (omega arith), add-zero (4 * i))
+        go : (t : Bool) → sumOver rows (λ row. cond t (cond (eqb (row .call .allele) i) (riseOf (value row) 2) (pos 0)) (cond (eqb (row .call .allele) i) (riseOf (value row) 0) (pos 0) +ℤ cond (eqb (row .call .allele) j) (riseOf (value row) 1) (pos 0)))
+            ≡ cond t (riseOf (sumsAt acc i) 2) (riseOf (sumsAt acc i) 0 +ℤ riseOf (sumsAt acc j) 1)
+        go true = rise-sum i 2 h
+        go false = sum-plus rows (λ row. cond (eqb (row .call .allele) i) (riseOf (value row) 0) (pos 0)) (λ row. cond (eqb (row .call .allele) j) (riseOf (value row) 1) (pos 0))
+            ∙ cc (rise-sum i 0 h, rise-sum j 1 l)
 
     -- what the pair takes of all rows
-    pub pairs-are : (i j : ℕ) → i < 3 → j < 3 → sumOver rows (λ row. rowFour phased g0 g1 lik row (whichValue i j (row .call .allele))) ≡ sumOver rows (λ row. rowFour phased g0 g1 lik row 0) +ℤ pairGap acc i j
+    pub pairs-are : (i j : ℕ) → i < 3 → j < 3 → sumOver rows (λ row. rowFour phased g0 g1 lik row (whichValue i j (row .call .allele))) ≡ sumOver rows (λ row. rowFour phased g0 g1 lik row 0) +ℤ pairRise acc i j
     pairs-are i j h l =
         sumOver-cong rows (λ row. rowFour phased g0 g1 lik row (whichValue i j (row .call .allele))) (λ row. rowFour phased g0 g1 lik row 0 +ℤ rowPair i j row) (taken-is i j)
         ∙ sum-plus rows (λ row. rowFour phased g0 g1 lik row 0) (rowPair i j)
-        ∙ ap (λ (z : ℤ). sumOver rows (λ row. rowFour phased g0 g1 lik row 0) +ℤ z) (gaps-sum i j h l)
-
-    -- the last numbers of all rows
-    bases-are : All (λ row. row .call .allele < 3) rows → (getD acc 3 (pos 0) +ℤ getD acc 7 (pos 0)) +ℤ getD acc 11 (pos 0) ≡ sumOver rows (λ row. rowGaps turns lik row 3)
-    bases-are low = cc (A .sums 0 3 (omega arith) (omega arith), A .sums 1 3 (omega arith) (omega arith), A .sums 2 3 (omega arith) (omega arith), allele-sums (rowGaps turns lik) (λ x. 3) rows low)
-
-sum-const : (rows : List Row) (n : ℕ) → sumOver rows (λ row. pos n) ≡ pos (n * length rows)
-unfolding sumOver
-sum-const [] n = ap pos (omega (arith, mul-zero n))
-sum-const (row ∷ rows) n = rw (sum-const rows n) (ap pos (omega (arith, mul-suc n (length rows))))
-
-all-but : (f c y s : ℤ) → s ≡ (f +ℤ c) +ℤ y → (s -ℤ c) -ℤ y ≡ f
-all-but f c y s e = omega (zlin, parts-add f c, parts-add (f +ℤ c) y, parts-minus s c, parts-minus (s -ℤ c) y)
-
-all-and : (f c y s : ℤ) → s +ℤ y ≡ f +ℤ c → (s -ℤ c) +ℤ y ≡ f
-all-and f c y s e = omega (zlin, parts-add f c, parts-add s y, parts-minus s c, parts-add (s -ℤ c) y)
-
--- ---- "neither" of all rows, from their sums
-module _ (g0 g1 : ℕ) (turns lik : List ℤ) where
-  row-phased : ((x : ℕ) → getD turns x (pos 0) ≡ turn true g0 g1 x) → (row : Row)
-      → rowGaps turns lik row 3 ≡ (rowFour true g0 g1 lik row 0 +ℤ pos 4096) +ℤ cond (eqb (row .call .allele) g1) (rowGaps turns lik row 2) (pos 0)
-  unfolding rowFour fourValue gapValue callTerm
-  row-phased turns-are row =
-      let l0 = getD lik (2 * row .fragment) (pos 0) in
-      let l1 = getD lik (2 * row .fragment + 1) (pos 0) in
-      let q = row .call .qual in
-      let o = row .call .one-minus-qual in
-      let b0 = l0 -ℤ cond (eqb (row .call .allele) g0) o q in
-      let b1 = l1 -ℤ cond (eqb (row .call .allele) g1) o q in
-      cc (gaps-are true g0 g1 turns lik turns-are row 3, gaps-are true g0 g1 turns lik turns-are row 2, neither-is b0 b1 q o, base-phased (eqb (row .call .allele) g1) l1 q o (onePlus (b0 -ℤ b1)))
-
-  row-unphased : ((x : ℕ) → getD turns x (pos 0) ≡ turn false g0 g1 x) → (row : Row)
-      → rowGaps turns lik row 3 +ℤ row .call .qual ≡ rowFour false g0 g1 lik row 0 +ℤ pos 4096
-  unfolding rowFour fourValue gapValue callTerm
-  row-unphased turns-are row =
-      let l0 = getD lik (2 * row .fragment) (pos 0) in
-      let l1 = getD lik (2 * row .fragment + 1) (pos 0) in
-      let q = row .call .qual in
-      cc (gaps-are false g0 g1 turns lik turns-are row 3, neither-is (l0 -ℤ pos 0) (l1 -ℤ pos 0) q (row .call .one-minus-qual), base-unphased l1 q (onePlus ((l0 -ℤ pos 0) -ℤ (l1 -ℤ pos 0))))
-
-  module _ (rows : List Row) (acc : List ℤ) (A : AlleleSums (rowGaps turns lik) rows acc) (low : All (λ row. row .call .allele < 3) rows) (n : ℕ) (long : length rows ≡ n) where
-    abbrev bases : ℤ
-    bases = sumOver rows (λ row. rowGaps turns lik row 3)
-
-    constants : sumOver rows (λ row. pos 4096) ≡ pos (4096 * n)
-    constants = sum-const rows 4096 ∙ ap (λ (m : ℕ). pos (4096 * m)) long
-
-    phased-neither : ((x : ℕ) → getD turns x (pos 0) ≡ turn true g0 g1 x) → g1 < 3 → baseSum acc n -ℤ getD acc (4 * g1 + 2) (pos 0) ≡ sumOver rows (λ row. rowFour true g0 g1 lik row 0)
-    unfolding alleleSum
-    phased-neither turns-are h =
-        let four : Row → ℤ = λ row. rowFour true g0 g1 lik row 0 in
-        let own : Row → ℤ = λ row. cond (eqb (row .call .allele) g1) (rowGaps turns lik row 2) (pos 0) in
-        let s : bases ≡ (sumOver rows four +ℤ pos (4096 * n)) +ℤ getD acc (4 * g1 + 2) (pos 0) =
-        sumOver-cong rows (λ row. rowGaps turns lik row 3) (λ row. (four row +ℤ pos 4096) +ℤ own row) (row-phased turns-are)
-        ∙ sum-plus rows (λ row. four row +ℤ pos 4096) own
-        ∙ cc (sum-plus rows four (λ row. pos 4096), constants, A .sums g1 2 h (omega arith)) in
-        let t = bases-are true g0 g1 turns lik turns-are rows acc A low in
-        all-but (sumOver rows four) (pos (4096 * n)) (getD acc (4 * g1 + 2) (pos 0)) ((getD acc 3 (pos 0) +ℤ getD acc 7 (pos 0)) +ℤ getD acc 11 (pos 0)) (t ∙ s)
-
-    unphased-neither : ((x : ℕ) → getD turns x (pos 0) ≡ turn false g0 g1 x) → baseSum acc n +ℤ qualSum rows ≡ sumOver rows (λ row. rowFour false g0 g1 lik row 0)
-    unphased-neither turns-are =
-        let four : Row → ℤ = λ row. rowFour false g0 g1 lik row 0 in
-        let s : bases +ℤ qualSum rows ≡ sumOver rows four +ℤ pos (4096 * n) =
-        sym (sum-plus rows (λ row. rowGaps turns lik row 3) (λ row. row .call .qual))
-        ∙ sumOver-cong rows (λ row. rowGaps turns lik row 3 +ℤ row .call .qual) (λ row. four row +ℤ pos 4096) (row-unphased turns-are)
-        ∙ sum-plus rows four (λ row. pos 4096) ∙ cc (constants) in
-        let t = bases-are false g0 g1 turns lik turns-are rows acc A low in
-        all-and (sumOver rows four) (pos (4096 * n)) (qualSum rows) ((getD acc 3 (pos 0) +ℤ getD acc 7 (pos 0)) +ℤ getD acc 11 (pos 0)) (ap (λ (y : ℤ). y +ℤ qualSum rows) t ∙ s)
-
--- the same of the rows that stand at a..e
-pub neither-are : (phased : Bool) (g0 g1 : ℕ) (turns lik : List ℤ) → ((x : ℕ) → getD turns x (pos 0) ≡ turn phased g0 g1 x) → g1 < 3
-    → (piles : List ℕ) (a e : ℕ) (acc : List ℤ) → AlleleSums (rowGaps turns lik) (rowsAt piles a e) acc → All (λ row. row .call .allele < 3) (rowsAt piles a e)
-    → neitherSum phased g1 piles acc a e ≡ sumOver (rowsAt piles a e) (λ row. rowFour phased g0 g1 lik row 0)
-neither-are true g0 g1 turns lik turns-are h piles a e acc A low = phased-neither g0 g1 turns lik (rowsAt piles a e) acc A low (e - a) (table-length (rowAt piles) a (e - a)) turns-are h
-neither-are false g0 g1 turns lik turns-are h piles a e acc A low = unphased-neither g0 g1 turns lik (rowsAt piles a e) acc A low (e - a) (table-length (rowAt piles) a (e - a)) turns-are
+        ∙ ap (λ (z : ℤ). sumOver rows (λ row. rowFour phased g0 g1 lik row 0) +ℤ z) (rises-sum i j h l)

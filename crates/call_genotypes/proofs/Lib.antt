@@ -1,5 +1,6 @@
 pub mod Tables
 pub mod Turns
+pub mod Far
 pub mod GapLaws
 pub mod GapSums
 pub mod Sizes

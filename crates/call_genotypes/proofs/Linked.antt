@@ -5,19 +5,19 @@ use mathlib.Core.Bool.{Bool, true, false, not, cond}
 use mathlib.Core.List.{List}
 use Prim.Native.Nat.{ℕ, _+_, _*_, _/_, _%_, _^_, _<_, _≤_}
 use native.Mathlib.Omega.{arith}
+use native.Mathlib.Nat.{zero-div, zero-mod}
 use borrow.Author.Tests.{eq-eqb, ne-eqb}
 use lib.Dec.{eqb}
 use lib.ListN.{length, getD, List·getD-eq-default}
 use lib.Seq.{sets}
-use lib.IntN.{ℤ, pos, _+ℤ_, +ℤ-assoc}
-use Rattle.steps.proofs.Signed.{cases}
+use lib.IntN.{ℤ, pos, natAbs, _+ℤ_, _-ℤ_}
+use Rattle.steps.proofs.Signed.{cases, zlin, up-pos, dn-pos, parts-add, parts-minus}
 use Rattle.variants_and_fragments.specs.Pileup.{Row}
 use Rattle.variants_and_fragments.specs.Sums.{sumOver}
-use Rattle.variants_and_fragments.proofs.Alls.{all-imp}
 use Rattle.pileup.specs.Packed.{RowsIn, rowsAt, groupStart}
 use Rattle.pileup.proofs.Groups.{group-rows, group-in}
 use Rattle.genotype_probs.proofs.ListLaws.{down-abs}
-use Rattle.genotype_probs.proofs.TableSums.{tabulate-cong, pair-in}
+use Rattle.genotype_probs.proofs.TableSums.{tabulate-cong, pair-in, place-in}
 use Rattle.sweeps.specs.Sweeps.{SweepCase, allele0, allele1, score, scoreWith, mixOf}
 use Rattle.sweeps.specs.Incremental.{pileupFrom, share, whichValue, rowValue}
 use Rattle.sweeps.proofs.Basics.{sumOver-cong}
@@ -25,9 +25,9 @@ use Rattle.sweeps.proofs.Scored.{score-pileup}
 use Rattle.sweeps.proofs.Fours.{share-value}
 use Rattle.likelihoods.specs.Held.{SweepReads, Held, Liks, Within}
 use Rattle.call_genotypes.specs.declared.score.Pair.{Pair}
-use Rattle.call_genotypes.specs.Scores.{pairAt, rowGaps, turn, PileFits, AlleleSums, neitherSum, pairGap, scoresOf, ScoresRoom, SweepState, VisitStart, rawScores, scoredAt}
+use Rattle.call_genotypes.specs.Scores.{pairAt, rowMixes, turn, PileFits, AlleleSums, riseOf, pairRise, belowFirst, scoresOf, ScoresRoom, SweepState, VisitStart, overFirst, scoredAt}
 use Rattle.call_genotypes.proofs.GapLaws.{rowFour}
-use Rattle.call_genotypes.proofs.GapSums.{pairs-are, neither-are}
+use Rattle.call_genotypes.proofs.GapSums.{pairs-are}
 
 -- rows of a case are rows of a larger one
 rows-wider : {n f a e : ℕ} {words : List ℕ} (n' f' : ℕ) → n ≤ n' → f ≤ f' → RowsIn n f words a e → RowsIn n' f' words a e
@@ -42,6 +42,12 @@ rows-wider n' f' hn hf r = record {
     one-minus-qual-in = i .one-minus-qual-in;
   };
 }
+
+-- what is common to two scores falls out of their difference
+apart : (p q n s r : ℤ) → (p +ℤ (pos 0 -ℤ (q +ℤ r))) +ℤ s ≡ (p +ℤ (n +ℤ s)) -ℤ (q +ℤ (n +ℤ r))
+apart p q n s r =
+    let z = pos 0 -ℤ (q +ℤ r) in
+    omega (zlin, up-pos 0, dn-pos 0, parts-add q r, parts-minus (pos 0) (q +ℤ r), parts-add p z, parts-add (p +ℤ z) s, parts-add n s, parts-add p (n +ℤ s), parts-add n r, parts-add q (n +ℤ r), parts-minus (p +ℤ (n +ℤ s)) (q +ℤ (n +ℤ r)))
 
 -- ---- what stands before a visit
 even-odd : {X : Type 0} (i : ℕ) → (i ≡ 2 * (i / 2) → X) → (i ≡ 2 * (i / 2) + 1 → X) → X
@@ -93,6 +99,12 @@ module _ {C : SweepCase} {reads : SweepReads} (H : Held C reads) where
       pri-small = λ p l. H .pri-small v p in-n l;
     })
 
+-- the first pair's prior is one of them
+pub first-small : {pri post : List ℤ} {v k : ℕ} → ScoresRoom pri post v k → natAbs (getD pri (9 * v) (pos 0)) ≤ 2 ^ 21
+first-small {pri} {v = v} {k = k} room =
+    let z : 9 * v + 0 ≡ 9 * v = omega arith in
+    rw z at (room .pri-small 0 (omega (arith, place-in 0 0 k (room .k-least) (room .k-least))))
+
 -- ---- the scores
 module _ {C : SweepCase} {reads : SweepReads} {state : SweepState} {v : ℕ} (S : VisitStart C reads state v) where
   abbrev H : Held C reads
@@ -117,46 +129,58 @@ module _ {C : SweepCase} {reads : SweepReads} {state : SweepState} {v : ℕ} (S 
   abbrev pile-of : List Row
   pile-of = pileupFrom v 0 (C .frags)
 
-  module _ (turns acc : List ℤ) (base : ℤ) (turns-are : (x : ℕ) → getD turns x (pos 0) ≡ turn (C .phased v) (allele0 h v) (allele1 h v) x) (A : AlleleSums (rowGaps turns (state .lik)) pile-of acc)
-      (b : base ≡ sumOver pile-of (λ row. values row 0)) where
-    pair-score-is : (i j : ℕ) → i < 3 → j < 3 → (C .prior v i j +ℤ base) +ℤ pairGap acc i j ≡ scoreWith C v h i j
-    pair-score-is i j l m = sym
-        (score-pileup C (H .good .rise) v h (omega (arith, S .standing .haps .len, S .v-in)) L0 L1 (S .standing .liks .firsts) (S .standing .liks .seconds) i j
+  -- what neither haplotype's allele changes: common to the scores of all pairs
+  abbrev common : ℤ
+  common = sumOver pile-of (λ row. values row 0)
+
+  module _ (turns acc : List ℤ) (base : ℤ) (turns-are : (x : ℕ) → getD turns x (pos 0) ≡ turn (C .phased v) (allele0 h v) (allele1 h v) x) (A : AlleleSums (rowMixes turns (state .lik)) pile-of acc)
+      (b : base ≡ belowFirst (reads .pri) acc v) where
+    pair-score-is : (i j : ℕ) → i < 3 → j < 3 → scoreWith C v h i j ≡ C .prior v i j +ℤ (common +ℤ pairRise acc i j)
+    pair-score-is i j l m =
+        score-pileup C (H .good .rise) v h (omega (arith, S .standing .haps .len, S .v-in)) L0 L1 (S .standing .liks .firsts) (S .standing .liks .seconds) i j
         ∙ ap (λ z. C .prior v i j +ℤ z)
         (sumOver-cong pile-of (share C v h L0 L1 i j) (λ row. values row (whichValue i j (row .call .allele)))
         (λ row. share-value C v h L0 L1 i j row ∙ value-is row (whichValue i j (row .call .allele)))
-        ∙ pairs-are (C .phased v) (allele0 h v) (allele1 h v) turns (state .lik) turns-are pile-of acc A i j l m
-        ∙ ap (λ z. z +ℤ pairGap acc i j) (sym b))
-        ∙ sym (+ℤ-assoc (C .prior v i j) base (pairGap acc i j)))
+        ∙ pairs-are (C .phased v) (allele0 h v) (allele1 h v) turns (state .lik) turns-are pile-of acc A i j l m)
 
-    scores-are : scoresOf (reads .pri) acc base v (C .k v) ≡ rawScores (C .k v) (score C v h)
+    -- the first pair's
+    some : 1 ≤ C .k v
+    some = H .good .some-allele v (S .v-in)
+
+    first-prior : getD (reads .pri) (9 * v) (pos 0) ≡ C .prior v 0 0
+    first-prior = let z : 9 * v + 0 ≡ 9 * v = omega arith in rw (z, zero-div (C .k v), zero-mod (C .k v)) at (H .pri-are v 0 (S .v-in) (omega (arith, place-in 0 0 (C .k v) some some)))
+
+    first-score : score C v h 0 ≡ C .prior v 0 0 +ℤ (common +ℤ getD acc 2 (pos 0))
+    unfolding score riseOf
+    first-score = rw (zero-div (C .k v), zero-mod (C .k v)) (pair-score-is 0 0 (omega arith) (omega arith))
+
+    over-first : (i j : ℕ) → i < 3 → j < 3 → (C .prior v i j +ℤ base) +ℤ pairRise acc i j ≡ scoreWith C v h i j -ℤ score C v h 0
+    over-first i j l m =
+        rw (pair-score-is i j l m, first-score, b, first-prior) (apart (C .prior v i j) (C .prior v 0 0) common (pairRise acc i j) (getD acc 2 (pos 0)))
+
+    scores-are : scoresOf (reads .pri) acc base v (C .k v) ≡ overFirst (C .k v) (score C v h)
     unfolding score
     scores-are = tabulate-cong (C .k v * C .k v) _ _ (λ p l.
-        let n = pair-in (C .k v) p (H .good .some-allele v (S .v-in)) l in
+        let n = pair-in (C .k v) p some l in
         let t = H .good .three-alleles v (S .v-in) in
-        ap (λ z. (z +ℤ base) +ℤ pairGap acc (p / C .k v) (p % C .k v)) (H .pri-are v p (S .v-in) l) ∙ pair-score-is (p / C .k v) (p % C .k v) (omega arith) (omega arith))
+        ap (λ z. (z +ℤ base) +ℤ pairRise acc (p / C .k v) (p % C .k v)) (H .pri-are v p (S .v-in) l) ∙ over-first (p / C .k v) (p % C .k v) (omega arith) (omega arith))
 
   pub in-haps : 2 * v + 1 < length h
   in-haps = omega (arith, S .standing .haps .len, S .v-in)
 
   -- the alleles that stand are two of three
-  second-three : allele1 h v < 3
-  second-three = omega (arith, S .standing .haps .high v (S .v-in), H .good .three-alleles v (S .v-in))
-
   pub pair-three : (old : Pair) → old ≡ pairAt h v → (old .first < 3) × (old .second < 3)
-  pair-three old e = rw e (omega (arith, S .standing .haps .low v (S .v-in), H .good .three-alleles v (S .v-in)), second-three)
+  pair-three old e =
+      let t = H .good .three-alleles v (S .v-in) in
+      rw e (omega (arith, S .standing .haps .low v (S .v-in)), omega (arith, S .standing .haps .high v (S .v-in)))
 
   -- the same from what the code has: the start of the pile, the flag of a phased variant, each allele's turn and the sums
   pub scored : (a : ℕ) (old : Pair) (turns acc post' : List ℤ) (base : ℤ) → a ≡ groupStart (reads .ends) v → old ≡ pairAt h v
       → ((x : ℕ) → getD turns x (pos 0) ≡ turn (not (eqb (getD (reads .ph) v 0) 0)) (old .first) (old .second) x)
-      → AlleleSums (rowGaps turns (state .lik)) (rowsAt (reads .piles) a (getD (reads .ends) v 0)) acc
-      → base ≡ neitherSum (not (eqb (getD (reads .ph) v 0) 0)) (old .second) (reads .piles) acc a (getD (reads .ends) v 0)
+      → AlleleSums (rowMixes turns (state .lik)) (rowsAt (reads .piles) a (getD (reads .ends) v 0)) acc
+      → base ≡ belowFirst (reads .pri) acc v
       → post' ≡ sets (state .post) (9 * v) (scoresOf (reads .pri) acc base v (getD (reads .ks) v 0)) → post' ≡ scoredAt C v state
   scored a old turns acc post' base e eo turns-are A b q =
       let w = rw (phased-is H v (S .v-in), eo) at turns-are in
-      let r = pile-rows H v (S .v-in) in
-      let low = all-imp (λ row g. g .allele-in) (H .piles-are .rows-in v (S .v-in)) in
-      let B = rw (e, r) at A in
-      let n = neither-are (C .phased v) (allele0 h v) (allele1 h v) turns (state .lik) w second-three (reads .piles) (groupStart (reads .ends) v) (getD (reads .ends) v 0) acc (rw r B) (rw r low) in
-      let c = rw (e, eo, phased-is H v (S .v-in), n, r) at b in
-      q ∙ rw (H .ks-are v (S .v-in), scores-are turns acc base w B c)
+      let B = rw (e, pile-rows H v (S .v-in)) at A in
+      q ∙ rw (H .ks-are v (S .v-in), scores-are turns acc base w B b)

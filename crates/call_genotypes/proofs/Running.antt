@@ -19,7 +19,7 @@ use Rattle.sweeps.proofs.Run.{demand3}
 use Rattle.sweeps.proofs.Sweep.{sweep-swept}
 use Rattle.likelihoods.specs.Held.{SweepReads, Liks}
 use Rattle.call_genotypes.specs.declared.run.Plan.{Plan}
-use Rattle.call_genotypes.specs.Scores.{rawScores, SweepState}
+use Rattle.call_genotypes.specs.Scores.{overFirst, SweepState}
 use Rattle.call_genotypes.specs.Visits.{SweepStart, Swept}
 use Rattle.call_genotypes.specs.Runs.{orderOf, RunStart, resultOf, Ran}
 
@@ -30,7 +30,7 @@ pub record Running (C : SweepCase) (o : ℕ → List ℕ) (limit : ℕ) (before 
   pub long : length (state .post) ≡ length (before .post)
   pub left : run C o limit 0 (before .hap) ≡ run C o (limit - s) s (state .hap)
   pub stood : state .hap ≡ after C o (before .hap) s
-  pub scores : state .post ≡ posts rawScores C o (before .hap) (before .post) s
+  pub scores : state .post ≡ posts overFirst C o (before .hap) (before .post) s
 
 module _ {C : SweepCase} {reads : SweepReads} {before : SweepState} {orders : List ℕ} {plan : Plan} (R : RunStart C reads before orders plan) where
   abbrev n : ℕ
@@ -70,7 +70,7 @@ module _ {C : SweepCase} {reads : SweepReads} {before : SweepState} {orders : Li
   }
 
   -- the end of the run
-  ran : {state : SweepState} {s : ℕ} {settled : Bool} → run C o limit 0 (before .hap) ≡ resultOf s settled (state .hap) → Liks C (state .hap) (state .lik) → state .post ≡ posts rawScores C o (before .hap) (before .post) s
+  ran : {state : SweepState} {s : ℕ} {settled : Bool} → run C o limit 0 (before .hap) ≡ resultOf s settled (state .hap) → Liks C (state .hap) (state .lik) → state .post ≡ posts overFirst C o (before .hap) (before .post) s
       → Ran C orders plan before state (record { sweeps = s; settled = settled })
   ran q L p = record { result = q; demand3 = rw q at (demand3 C (R .standing .held .good) o order-good limit (before .hap) (R .some-sweep) (R .standing .haps)); liks = L; scores = p }
 
@@ -98,7 +98,7 @@ module _ {C : SweepCase} {reads : SweepReads} {before : SweepState} {orders : Li
           let g : sameHaps (state .hap) (sweep C (o s) (state .hap)) ≡ not flag = f ∙ ap not (sym (w .told)) in
           r .left ∙ rw (e, w .haps, ← g, add-one)
 
-      scores-on : state' .post ≡ posts rawScores C o (before .hap) (before .post) (s + 1)
+      scores-on : state' .post ≡ posts overFirst C o (before .hap) (before .post) (s + 1)
       unfolding posts
       scores-on = rw add-one (cc (w .scores, r .stood, r .scores))
 
@@ -107,7 +107,7 @@ module _ {C : SweepCase} {reads : SweepReads} {before : SweepState} {orders : Li
       running-step e = record {
         good = rw (w .haps) (sweep-swept C (R .standing .held .good) (o s) (state .hap) (order-good s .within) (r .good) .good);
         liks = w .liks;
-        long = ap length (w .scores) ∙ length-recorded rawScores C (o s) (state .hap) (state .post) ∙ r .long;
+        long = ap length (w .scores) ∙ length-recorded overFirst C (o s) (state .hap) (state .post) ∙ r .long;
         left = rw e at run-step;
         stood = rw add-one (cc (w .haps, r .stood));
         scores = scores-on;

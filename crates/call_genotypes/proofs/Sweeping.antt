@@ -15,7 +15,7 @@ use Rattle.sweeps.specs.Posts.{recorded}
 use Rattle.sweeps.proofs.Basics.{and-l, and-r}
 use Rattle.sweeps.proofs.Visit.{visit-good}
 use Rattle.likelihoods.specs.Held.{SweepReads, Liks}
-use Rattle.call_genotypes.specs.Scores.{rawScores, SweepState, VisitStart}
+use Rattle.call_genotypes.specs.Scores.{overFirst, SweepState, VisitStart}
 use Rattle.call_genotypes.specs.Visits.{Visited, SweepStart, Swept}
 
 pub below-at : (n : ℕ) (vs : List ℕ) (p : ℕ) → T (allBelow n vs) → p < length vs → getD vs p 0 < n
@@ -33,7 +33,7 @@ pub record Sweeping (C : SweepCase) (order : List ℕ) (before state : SweepStat
   pub liks : Liks C (state .hap) (state .lik)
   pub long : length (state .post) ≡ length (before .post)
   pub left : sweep C (drop p order) (state .hap) ≡ sweep C order (before .hap)
-  pub scores : recorded rawScores C (drop p order) (state .hap) (state .post) ≡ recorded rawScores C order (before .hap) (before .post)
+  pub scores : recorded overFirst C (drop p order) (state .hap) (state .post) ≡ recorded overFirst C order (before .hap) (before .post)
   pub told : (flag || changed C (drop p order) (state .hap)) ≡ changed C order (before .hap)
 
 or-false : (a : Bool) → (a || false) ≡ a
@@ -76,7 +76,7 @@ module _ {C : SweepCase} {reads : SweepReads} {before : SweepState} {order : Lis
             record {
               good = rw (r .haps) (visit-good C (S .standing .held .good) v (below-at (C .n) order p (S .order-in) l) (state .hap) (s .good));
               liks = r .liks;
-              long = ap length (r .scores) ∙ length-sets (state .post) (9 * v) (rawScores (C .k v) (score C v (state .hap))) ∙ s .long;
+              long = ap length (r .scores) ∙ length-sets (state .post) (9 * v) (overFirst (C .k v) (score C v (state .hap))) ∙ s .long;
               left = rw (r .haps) (rw d at (s .left));
               scores = rw (r .haps, r .scores) (rw d at (s .scores));
               told = rw (e, r .told, r .haps, or-assoc) (rw d at (s .told));

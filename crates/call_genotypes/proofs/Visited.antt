@@ -3,19 +3,22 @@
 use mathlib.Core.Path.{_≡_, refl, sym, ap, _∙_}
 use mathlib.Core.Bool.{Bool, true, false, not, _&&_}
 use mathlib.Core.List.{List}
-use Prim.Native.Nat.{ℕ, _+_, _*_, _<_, _≤_}
+use Prim.Native.Nat.{ℕ, zero, suc, _+_, _*_, _<_, _≤_}
 use native.Mathlib.Omega.{arith}
 use lib.Dec.{T, eqb, eqb→eq, eqb-refl}
 use lib.ListN.{length, getD}
-use lib.IntN.{ℤ, pos}
+use lib.IntN.{ℤ, pos, _-ℤ_}
 use Rattle.variants_and_fragments.proofs.Decoded.{tabulate-length, tabulate-at}
 use Rattle.sweeps.specs.Sweeps.{SweepCase, allele0, allele1, putPair, sameHaps, score, bestPair, visit}
 use Rattle.sweeps.proofs.Basics.{and-in, and-l, and-r, same-eq, same-refl, put-self, at0-same, at1-same}
+use lib.Signed.{ltZ}
+use Rattle.steps.proofs.Signed.{by-test, zlin, parts-minus}
+use Rattle.genotype_probs.specs.Posteriors.{firstMaximum}
 use Rattle.genotype_probs.proofs.Maxima.{maximum-same}
 use Rattle.variants_and_fragments.proofs.Bools.{is-true}
 use Rattle.likelihoods.specs.Held.{SweepReads}
 use Rattle.call_genotypes.specs.declared.score.Pair.{Pair}
-use Rattle.call_genotypes.specs.Scores.{pairAt, SweepState, sweepState, VisitStart, rawScores, scoredAt}
+use Rattle.call_genotypes.specs.Scores.{pairAt, SweepState, sweepState, VisitStart, overFirst, scoredAt}
 use Rattle.call_genotypes.specs.Visits.{bestAt, BestPair, Movable, PairPut, Visited}
 use Rattle.call_genotypes.proofs.Linked.{in-haps}
 use Rattle.call_genotypes.proofs.Tables.{sets-at}
@@ -36,6 +39,18 @@ same-put h v i j l = iff _ _
     let q = eqb→eq (allele1 h v) j (and-r (eqb (allele0 h v) i) (eqb (allele1 h v) j) t) in
     rw (← p, ← q, put-self h v) (same-refl h))
 
+-- what is taken from all numbers does not matter for the first of the greatest
+less-test : (x y c : ℤ) → ltZ (x -ℤ c) (y -ℤ c) ≡ ltZ x y
+less-test x y c =
+    by-test (ltZ x y)
+    (λ t. let h : ltZ (x -ℤ c) (y -ℤ c) ≡ true = omega (zlin, parts-minus x c, parts-minus y c) in h ∙ sym t)
+    (λ t. let h : ltZ (x -ℤ c) (y -ℤ c) ≡ false = omega (zlin, parts-minus x c, parts-minus y c) in h ∙ sym t)
+
+maximum-shifted : (f : ℕ → ℤ) (c : ℤ) (n : ℕ) → firstMaximum (λ g. f g -ℤ c) n ≡ firstMaximum f n
+unfolding firstMaximum
+maximum-shifted f c zero = refl
+maximum-shifted f c (suc n) = rw (maximum-shifted f c n, less-test (f (firstMaximum f n)) (f n) c)
+
 module _ {C : SweepCase} {reads : SweepReads} {before : SweepState} {v : ℕ} (S : VisitStart C reads before v) where
   abbrev h : List ℕ
   h = before .hap
@@ -53,22 +68,24 @@ module _ {C : SweepCase} {reads : SweepReads} {before : SweepState} {v : ℕ} (S
   movable = record { ks = reads .ks; pri = reads .pri; held = S .standing .held; haps = S .standing .haps; liks = S .standing .liks; v-in = S .v-in }
 
   table : List ℤ
-  table = rawScores (C .k v) (score C v h)
+  table = overFirst (C .k v) (score C v h)
 
   table-nine : length table ≡ C .k v * C .k v
   unfolding table
-  table-nine = tabulate-length (C .k v * C .k v) (score C v h)
+  table-nine = tabulate-length (C .k v * C .k v) (λ p. score C v h p -ℤ score C v h 0)
 
   module _ (post' : List ℤ) (old new : Pair) (ep : post' ≡ scoredAt C v before) (eo : old ≡ pairAt h v) (B : BestPair post' v (getD (reads .ks) v 0) new) where
-    score-at : (g : ℕ) → g < C .k v * C .k v → getD post' (9 * v + g) (pos 0) ≡ score C v h g
+    score-at : (g : ℕ) → g < C .k v * C .k v → getD post' (9 * v + g) (pos 0) ≡ score C v h g -ℤ score C v h 0
     unfolding table
     score-at g l =
         let m = nine (C .k v) (S .standing .held .good .three-alleles v (S .v-in)) in
-        rw ep (sets-at (pos 0) table (before .post) (9 * v) g (omega (arith, table-nine)) (omega (arith, table-nine, S .standing .room, S .v-in)) ∙ tabulate-at (C .k v * C .k v) (score C v h) g (pos 0) l)
+        rw ep (sets-at (pos 0) table (before .post) (9 * v) g (omega (arith, table-nine)) (omega (arith, table-nine, S .standing .room, S .v-in)) ∙ tabulate-at (C .k v * C .k v) (λ p. score C v h p -ℤ score C v h 0) g (pos 0) l)
 
     best-is : bestAt post' v (C .k v) ≡ bestPair C v h
     unfolding bestPair
-    best-is = maximum-same (λ g. getD post' (9 * v + g) (pos 0)) (score C v h) (C .k v * C .k v) score-at
+    best-is =
+        maximum-same (λ g. getD post' (9 * v + g) (pos 0)) (λ g. score C v h g -ℤ score C v h 0) (C .k v * C .k v) score-at
+        ∙ maximum-shifted (score C v h) (score C v h 0) (C .k v * C .k v)
 
     visit-is : visit C v h ≡ putPair h v (new .first) (new .second)
     unfolding visit

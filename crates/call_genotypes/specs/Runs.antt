@@ -12,7 +12,7 @@ use Rattle.sweeps.specs.Posts.{posts}
 use Rattle.likelihoods.specs.Held.{SweepReads, Liks}
 use Rattle.call_genotypes.specs.declared.run.Plan.{Plan}
 use Rattle.call_genotypes.specs.declared.run.RunAnswer.{RunAnswer}
-use Rattle.call_genotypes.specs.Scores.{rawScores, SweepState, Standing}
+use Rattle.call_genotypes.specs.Scores.{overFirst, SweepState, Standing}
 
 -- sweep s (from 0) uses lent order s mod m, of m orders of n entries each
 unfoldable pub orderOf : List ℕ → ℕ → ℕ → ℕ → List ℕ
@@ -40,7 +40,7 @@ pub record Ran (C : SweepCase) (orders : List ℕ) (plan : Plan) (before after :
   -- the likelihoods of the haplotypes that it leaves
   pub liks : Liks C (after .hap) (after .lik)
   -- each variant's latest scores
-  pub scores : after .post ≡ posts rawScores C (orderOf orders (plan .n) (plan .m)) (before .hap) (before .post) (r .sweeps)
+  pub scores : after .post ≡ posts overFirst C (orderOf orders (plan .n) (plan .m)) (before .hap) (before .post) (r .sweeps)
 
 -- whatever case stands
 abbrev pub RanFrom : SweepReads → SweepState → List ℕ → Plan → SweepState → RunAnswer → Type 0

@@ -1,21 +1,21 @@
 -- What the code of a visit computes from the lent slices, row by row and pair by pair. Assumes nothing.
 use mathlib.Core.Path.{_≡_}
-use mathlib.Core.Bool.{Bool, cond}
+use mathlib.Core.Bool.{Bool, cond, _||_}
 use mathlib.Core.List.{List}
 use Prim.Native.Nat.{ℕ, zero, suc, _+_, _-_, _*_, _/_, _%_, _^_, _<_, _≤_}
 use lib.Dec.{eqb}
 use lib.ListN.{length, getD}
 use lib.Seq.{sets}
-use lib.IntN.{ℤ, pos, natAbs, _+ℤ_, _-ℤ_, _*ℤ_}
+use lib.IntN.{ℤ, pos, natAbs, negℤ, _+ℤ_, _-ℤ_, _*ℤ_}
+use lib.Signed.{ltZ}
 use Rattle.steps.specs.Logs.{addExp}
 use Rattle.variants_and_fragments.specs.Pileup.{Row}
 use Rattle.variants_and_fragments.specs.Decode.{tabulate}
-use Rattle.variants_and_fragments.specs.Sums.{sumOver}
 use Rattle.sweeps.specs.Sweeps.{SweepCase, GoodHaps, allele0, allele1, score}
 use Rattle.sweeps.specs.Incremental.{alleleSum}
-use Rattle.call_genotypes.specs.declared.score.Gaps.{Gaps}
+use Rattle.call_genotypes.specs.declared.score.Mixes.{Mixes}
 use Rattle.call_genotypes.specs.declared.score.Pair.{Pair}
-use Rattle.pileup.specs.Packed.{rowsAt, RowIn, RowsIn}
+use Rattle.pileup.specs.Packed.{RowIn, RowsIn}
 use Rattle.likelihoods.specs.Held.{SweepReads, Held, Liks, Within}
 
 -- the pair that stands at v
@@ -26,21 +26,24 @@ pairAt h v = record { first = allele0 h v; second = allele1 h v }
 abbrev pub onePlus : ℤ → ℤ
 onePlus d = addExp d (pos 0)
 
--- the four numbers of a call whose one_minus_qual is g above its qual, its read having without it a first likelihood d above the second: how far
--- a score rises over the one where neither haplotype has the call's allele, if the first has (0), the second (1), both (2); and, b being
--- the read's second likelihood that stands, b plus ln(1 + exp(d)) (3)
-unfoldable pub gapValue : ℤ → ℤ → ℤ → ℕ → ℤ
-gapValue b d g zero = onePlus (d +ℤ g) -ℤ onePlus d
-gapValue b d g (suc zero) = (onePlus (d -ℤ g) -ℤ onePlus d) +ℤ g
-gapValue b d g (suc (suc zero)) = g
-gapValue b d g (suc (suc (suc w))) = b +ℤ onePlus d
+-- the four numbers of a call with the gap g, whose read's first likelihood without it is d above the second: ln(1 + exp(..)) of that distance if
+-- the first haplotype alone has the call's allele (0), if the second alone has it (1), and if neither or both have it (3); and the gap (2)
+unfoldable pub mixValue : ℤ → ℤ → ℕ → ℤ
+mixValue d g zero = onePlus (d +ℤ g)
+mixValue d g (suc zero) = onePlus (d -ℤ g)
+mixValue d g (suc (suc zero)) = g
+mixValue d g (suc (suc (suc w))) = onePlus d
 
 -- a struct's four numbers by number
-unfoldable pub valueOf : Gaps → ℕ → ℤ
+unfoldable pub valueOf : Mixes → ℕ → ℤ
 valueOf r zero = r .first
 valueOf r (suc zero) = r .second
-valueOf r (suc (suc zero)) = r .both
-valueOf r (suc (suc (suc w))) = r .base
+valueOf r (suc (suc zero)) = r .gap
+valueOf r (suc (suc (suc w))) = r .neither
+
+-- d is so far from 0 that ln(1 + exp(..)) is straight at d and at every distance up to 262,144 from it
+unfoldable pub isFar : ℤ → Bool
+isFar d = ltZ d (negℤ (pos 313472)) || ltZ (pos 313472) d
 
 -- how far a row's one_minus_qual is above its qual
 abbrev pub rowGap : Row → ℤ
@@ -48,10 +51,9 @@ rowGap row = row .call .one-minus-qual -ℤ row .call .qual
 
 -- a row's number w, where lik has the likelihoods that stand, and taking away the own terms of a call of allele x moves their distance by
 -- turns[x] gaps
-unfoldable pub rowGaps : List ℤ → List ℤ → Row → ℕ → ℤ
-rowGaps turns lik row w =
-    let b = getD lik (2 * row .fragment + 1) (pos 0) in
-    gapValue b ((getD lik (2 * row .fragment) (pos 0) -ℤ b) +ℤ (getD turns (row .call .allele) (pos 0) *ℤ rowGap row)) (rowGap row) w
+unfoldable pub rowMixes : List ℤ → List ℤ → Row → ℕ → ℤ
+rowMixes turns lik row w =
+    mixValue ((getD lik (2 * row .fragment) (pos 0) -ℤ getD lik (2 * row .fragment + 1) (pos 0)) +ℤ (getD turns (row .call .allele) (pos 0) *ℤ rowGap row)) (rowGap row) w
 
 -- [x = g1] − [x = g0] at a phased variant that is at (g0, g1); 0 at an unphased one, whose calls are not in the likelihoods that stand
 unfoldable pub turn : Bool → ℕ → ℕ → ℕ → ℤ
@@ -70,26 +72,28 @@ pub record AlleleSums (value : Row → ℕ → ℤ) (rows : List Row) (acc : Lis
   pub sums : (x w : ℕ) → x < 3 → w < 4 → getD acc (4 * x + w) (pos 0) ≡ alleleSum value rows x w
   pub small : Within (2 ^ 50) acc
 
--- the sum of the quals of some rows
-abbrev pub qualSum : List Row → ℤ
-qualSum rows = sumOver rows (λ row. row .call .qual)
+-- the sums of allele x
+abbrev pub sumsAt : List ℤ → ℕ → ℕ → ℤ
+sumsAt acc x w = getD acc (4 * x + w) (pos 0)
 
--- what n calls add to a score if neither haplotype has their alleles, but for the last term of `neitherSum`
-abbrev pub baseSum : List ℤ → ℕ → ℤ
-baseSum acc n = ((getD acc 3 (pos 0) +ℤ getD acc 7 (pos 0)) +ℤ getD acc 11 (pos 0)) -ℤ pos (4096 * n)
+-- how far a score rises, by an allele's four numbers, over the one where neither haplotype has that allele: if the first has it (0), if the
+-- second has it (1), if both have it (2)
+unfoldable pub riseOf : (ℕ → ℤ) → ℕ → ℤ
+riseOf m zero = m 0 -ℤ m 3
+riseOf m (suc zero) = (m 1 -ℤ m 3) +ℤ m 2
+riseOf m (suc (suc w)) = m 2
 
--- what the calls at a..e add to a score if neither haplotype has their alleles
-abbrev pub neitherSum : Bool → ℕ → List ℕ → List ℤ → ℕ → ℕ → ℤ
-neitherSum phased g1 piles acc a e =
-    cond phased (baseSum acc (e - a) -ℤ getD acc (4 * g1 + 2) (pos 0)) (baseSum acc (e - a) +ℤ qualSum (rowsAt piles a e))
+-- the same of the pair (i, j)
+abbrev pub pairRise : List ℤ → ℕ → ℕ → ℤ
+pairRise acc i j = cond (eqb i j) (riseOf (sumsAt acc i) 2) (riseOf (sumsAt acc i) 0 +ℤ riseOf (sumsAt acc j) 1)
 
--- how far the score of (i, j) is above that
-abbrev pub pairGap : List ℤ → ℕ → ℕ → ℤ
-pairGap acc i j = cond (eqb i j) (getD acc (4 * i + 2) (pos 0)) (getD acc (4 * i) (pos 0) +ℤ getD acc (4 * j + 1) (pos 0))
+-- what brings the score of v's first pair to 0
+abbrev pub belowFirst : List ℤ → List ℤ → ℕ → ℤ
+belowFirst pri acc v = pos 0 -ℤ (getD pri (9 * v) (pos 0) +ℤ getD acc 2 (pos 0))
 
--- the scores of the k × k pairs at v, in row-major order
+-- the scores of the k × k pairs at v, in row-major order, with `base` in place of what neither haplotype's allele changes
 abbrev pub scoresOf : List ℤ → List ℤ → ℤ → ℕ → ℕ → List ℤ
-scoresOf pri acc base v k = tabulate (k * k) (λ p. (getD pri (9 * v + p) (pos 0) +ℤ base) +ℤ pairGap acc (p / k) (p % k))
+scoresOf pri acc base v k = tabulate (k * k) (λ p. (getD pri (9 * v + p) (pos 0) +ℤ base) +ℤ pairRise acc (p / k) (p % k))
 
 -- acc with value w added at 4 × x + w, w = 0..3
 unfoldable pub addFour : (ℕ → ℤ) → ℕ → List ℤ → List ℤ
@@ -131,13 +135,13 @@ pub record VisitStart (C : SweepCase) (reads : SweepReads) (state : SweepState) 
   pub standing : Standing C reads state
   pub v-in : v < C .n
 
--- the scores' table as it is recorded at a visit: k × k of them, not normalised
-abbrev pub rawScores : ℕ → (ℕ → ℤ) → List ℤ
-rawScores k s = tabulate (k * k) s
+-- the scores' table as it is recorded at a visit: how far each of the k × k scores is above the first. Normalising takes a common part away
+abbrev pub overFirst : ℕ → (ℕ → ℤ) → List ℤ
+overFirst k s = tabulate (k * k) (λ p. s p -ℤ s 0)
 
 -- the latest scores with those of v's pairs
 abbrev pub scoredAt : SweepCase → ℕ → SweepState → List ℤ
-scoredAt C v state = sets (state .post) (9 * v) (rawScores (C .k v) (score C v (state .hap)))
+scoredAt C v state = sets (state .post) (9 * v) (overFirst (C .k v) (score C v (state .hap)))
 
 -- the scores of v's pairs are written, whatever case stands
 abbrev pub Scored : SweepReads → SweepState → ℕ → List ℤ → Type 0

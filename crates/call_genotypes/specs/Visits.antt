@@ -15,7 +15,7 @@ use Rattle.sweeps.specs.Incremental.{changed}
 use Rattle.sweeps.specs.Posts.{recorded}
 use Rattle.likelihoods.specs.Held.{SweepReads, sweepReads, Held, Liks, Within}
 use Rattle.call_genotypes.specs.declared.score.Pair.{Pair}
-use Rattle.call_genotypes.specs.Scores.{rawScores, SweepState, Standing, VisitStart, scoredAt}
+use Rattle.call_genotypes.specs.Scores.{overFirst, SweepState, Standing, VisitStart, scoredAt}
 
 -- ---- the best pair
 -- the number of v's first pair with the greatest score, k by k scores standing at 9 × v
@@ -81,7 +81,7 @@ pub record SweepStart (C : SweepCase) (reads : SweepReads) (state : SweepState) 
 pub record Swept (C : SweepCase) (order : List ℕ) (before after : SweepState) (flag : Bool) : Type 0 where
   pub haps : after .hap ≡ sweep C order (before .hap)
   pub liks : Liks C (after .hap) (after .lik)
-  pub scores : after .post ≡ recorded rawScores C order (before .hap) (before .post)
+  pub scores : after .post ≡ recorded overFirst C order (before .hap) (before .post)
   pub told : flag ≡ changed C order (before .hap)
 
 abbrev pub SweptFrom : SweepReads → SweepState → List ℕ → SweepState → Bool → Type 0

@@ -1,14 +1,16 @@
 // The scores of one variant's pairs.
 ghost use mathlib.Core.Path.{_≡_};
+ghost use mathlib.Core.Bool.{true};
 ghost use Prim.Native.Nat.{ℕ, _+_, _-_, _*_, _^_, _<_, _≤_};
 ghost use lib.ListN.{length, getD, set, replicate};
 ghost use lib.Seq.{sets};
 ghost use lib.IntN.{pos, natAbs, _+ℤ_, _-ℤ_, _*ℤ_};
 ghost use Rattle.steps.specs.Lines.{lines};
-ghost use Rattle.pileup.specs.Packed.{rowFrom, rowsAt, RowsIn};
+ghost use Rattle.variants_and_fragments.specs.Sums.{DownTo};
+ghost use Rattle.pileup.specs.Packed.{rowFrom, rowsAt};
 ghost use Rattle.genotype_probs.specs.Posteriors.{firstMaximum};
 ghost use Rattle.likelihoods.specs.Held.{Within, sweepReads};
-ghost use Rattle.call_genotypes.specs.Scores.{pairAt, valueOf, gapValue, rowGaps, turn, RowFits, PileFits, AlleleSums, addFour, qualSum, baseSum, neitherSum, pairGap, scoresOf, ScoresRoom, Some, sweepState, VisitStart, Scored};
+ghost use Rattle.call_genotypes.specs.Scores.{pairAt, valueOf, mixValue, isFar, rowMixes, turn, RowFits, PileFits, AlleleSums, addFour, sumsAt, riseOf, pairRise, belowFirst, scoresOf, ScoresRoom, Some, sweepState, VisitStart, Scored};
 use pileup::piles::group_start;
 use pileup::row::Row;
 use pileup::row::unpack;
@@ -20,35 +22,60 @@ pub struct Pair {
     pub second: usize,
 }
 
-// Of a call: how far a score rises over the one where neither haplotype has its allele, if the first has, the second has, both have;
-// and its read's second likelihood that stands plus ln(1 + exp(d)), the first being d above the second when both are without the call.
-pub struct Gaps {
+// Of a call: its gap, and ln(1 + exp(d)) for how far its read's first likelihood is above the second, if the first haplotype alone has the
+// call's allele, if the second alone has it, and if neither or both have it.
+pub struct Mixes {
     pub first: i64,
     pub second: i64,
-    pub both: i64,
-    pub base: i64,
+    pub gap: i64,
+    pub neither: i64,
 }
 
-// The four numbers of a call whose one_minus_qual is g above its qual.
-fn gaps_of(t: &[u32; 6420], b: i64, d: i64, g: i64) -> Gaps
-    requires { ⌜ (now t ≡ lines) × (natAbs b ≤ 2 ^ 32) × (natAbs d ≤ 2 ^ 33 + 2 ^ 20) × (natAbs g ≤ 2 ^ 19) ⌝ }
-    ensures { λ r. ⌜ ((w : ℕ) → valueOf r w ≡ gapValue b d g w) ⌝ }
+// Whether ln(1 + exp(..)) is straight at d and as far around it as a gap goes: 51,328 and 262,144 steps from 0.
+fn is_far(d: i64) -> bool
+    ensures { λ r. ⌜ r ≡ isFar d ⌝ }
 {
-    let m0 = ln_one_plus_exp(t, d);
-    let m1 = ln_one_plus_exp(t, d + g);
-    let m2 = ln_one_plus_exp(t, d - g);
-    Gaps {
-        first: m1 - m0,
-        second: m2 - m0 + g,
-        both: g,
-        base: b + m0,
+    d < -313472 || 313472 < d
+}
+
+// The four numbers of a call with the gap g, for such a d. Both arms are at hand, so no jump is made of the sign, which no machine can guess.
+fn far_mixes(d: i64, g: i64) -> Mixes
+    requires { ⌜ (isFar d ≡ true) × (natAbs d ≤ 2 ^ 33 + 2 ^ 20) × (natAbs g ≤ 262144) ⌝ }
+    ensures { λ r. ⌜ ((w : ℕ) → valueOf r w ≡ mixValue d g w) ⌝ }
+{
+    let m = if d < 0 { 0 } else { d };
+    let y = if d < 0 { 0 } else { g };
+    Mixes {
+        first: m + y,
+        second: m - y,
+        gap: g,
+        neither: m,
+    }
+}
+
+// The same for any d. Of a read with many calls nearly every d is far.
+fn mixes_of(t: &[u32; 6420], d: i64, g: i64) -> Mixes
+    requires { ⌜ (now t ≡ lines) × (natAbs d ≤ 2 ^ 33 + 2 ^ 20) × (natAbs g ≤ 262144) ⌝ }
+    ensures { λ r. ⌜ ((w : ℕ) → valueOf r w ≡ mixValue d g w) ⌝ }
+{
+    if is_far(d) {
+        return far_mixes(d, g);
+    }
+    let first = ln_one_plus_exp(t, d + g);
+    let second = ln_one_plus_exp(t, d - g);
+    let neither = ln_one_plus_exp(t, d);
+    Mixes {
+        first,
+        second,
+        gap: g,
+        neither,
     }
 }
 
 // How far o is above q.
 fn gap(q: i64, o: i64) -> i64
-    requires { ⌜ (natAbs q ≤ 2 ^ 18) × (natAbs o ≤ 2 ^ 18) ⌝ }
-    ensures { λ r. ⌜ r ≡ o -ℤ q ⌝ }
+    requires { ⌜ DownTo 262144 q × DownTo 262144 o ⌝ }
+    ensures { λ r. ⌜ (r ≡ o -ℤ q) × (natAbs r ≤ 262144) ⌝ }
 {
     o - q
 }
@@ -79,17 +106,17 @@ fn distance(l: i64, b: i64, y: i64) -> i64
 }
 
 // The four numbers of a row's call.
-fn call_gaps(t: &[u32; 6420], row: Row, lik: &[i64], turns: &[i64; 4]) -> Gaps
+fn call_mixes(t: &[u32; 6420], row: Row, lik: &[i64], turns: &[i64; 4]) -> Mixes
     requires { ⌜ now t ≡ lines ⌝ }
     requires { ⌜ RowFits (now lik) (rowFrom row) ⌝ }
     requires { ⌜ Within (2 ^ 32) (now lik) × Within 1 (now turns) ⌝ }
-    ensures { λ r. ⌜ ((w : ℕ) → valueOf r w ≡ rowGaps (now (turns .entry)) (now (lik .entry)) (rowFrom row) w) ⌝ }
+    ensures { λ r. ⌜ ((w : ℕ) → valueOf r w ≡ rowMixes (now (turns .entry)) (now (lik .entry)) (rowFrom row) w) ⌝ }
 {
     let f = 2 * row.fragment;
     let g = gap(row.qual, row.one_minus_qual);
     let b = likelihood_at(lik, f + 1);
     let d = distance(likelihood_at(lik, f), b, turned(turns, row.allele, g));
-    gaps_of(t, b, d, g)
+    mixes_of(t, d, g)
 }
 
 // Adds y to a sum.
@@ -101,7 +128,7 @@ fn raise(acc: &mut [i64; 12], i: usize, y: i64)
 }
 
 // Adds the four numbers of a call of allele x to the sums of x.
-fn add_four(r: Gaps, acc: &mut [i64; 12], x: usize)
+fn add_four(r: Mixes, acc: &mut [i64; 12], x: usize)
     requires { ⌜ (x < 3) × ((w : ℕ) → natAbs (valueOf r w) ≤ 2 ^ 35) ⌝ }
     requires { ⌜ Within (2 ^ 49) (now acc) ⌝ }
     ensures { λ _. ⌜ now (acc .exit) ≡ addFour (valueOf r) x (now (acc .entry)) ⌝ }
@@ -109,8 +136,8 @@ fn add_four(r: Gaps, acc: &mut [i64; 12], x: usize)
     let at = 4 * x;
     raise(acc, at, r.first);
     raise(acc, at + 1, r.second);
-    raise(acc, at + 2, r.both);
-    raise(acc, at + 3, r.base);
+    raise(acc, at + 2, r.gap);
+    raise(acc, at + 3, r.neither);
 }
 
 // Sums the four numbers of the calls a..e per allele. At the loop's head the calls before p are in the sums.
@@ -127,12 +154,12 @@ fn score_calls(
     requires { ⌜ PileFits (now lik) (now piles) a e ⌝ }
     requires { ⌜ Within (2 ^ 32) (now lik) × Within 1 (now turns) ⌝ }
     requires { ⌜ now acc ≡ replicate 12 (pos 0) ⌝ }
-    ensures { λ _. ⌜ AlleleSums (rowGaps (now (turns .entry)) (now (lik .entry))) (rowsAt (now (piles .entry)) a e) (now (acc .exit)) ⌝ }
+    ensures { λ _. ⌜ AlleleSums (rowMixes (now (turns .entry)) (now (lik .entry))) (rowsAt (now (piles .entry)) a e) (now (acc .exit)) ⌝ }
 {
     let mut p = a;
     while p < e {
         let row = unpack(piles[p]);
-        let r = call_gaps(t, row, lik, turns);
+        let r = call_mixes(t, row, lik, turns);
         add_four(r, acc, row.allele);
         p += 1;
     }
@@ -149,62 +176,49 @@ fn make_turns(turns: &mut [i64; 4], phased: bool, g0: usize, g1: usize)
     }
 }
 
-// The sum of the quals at a..e. At the loop's head those before p are in it.
-fn sum_quals(piles: &[u64], a: usize, e: usize) -> i64
-    requires { ⌜ RowsIn 1024 4096 (now piles) a e ⌝ }
-    ensures { λ r. ⌜ (r ≡ qualSum (rowsAt (now (piles .entry)) a e)) × (natAbs r ≤ 2 ^ 32) ⌝ }
+// How far a score rises, by the sums of allele x, if the first haplotype has x and the second has not.
+fn first_rise(acc: &[i64; 12], x: usize) -> i64
+    requires { ⌜ (x < 3) × Within (2 ^ 50) (now acc) ⌝ }
+    ensures { λ r. ⌜ (r ≡ riseOf (sumsAt (now (acc .entry)) x) 0) × (natAbs r ≤ 2 ^ 51) ⌝ }
 {
-    let mut n: i64 = 0;
-    let mut p = a;
-    while p < e {
-        let row = unpack(piles[p]);
-        n += row.qual;
-        p += 1;
-    }
-    n
+    acc[4 * x] - acc[4 * x + 3]
 }
 
-// The last numbers of all n calls, less 4,096 each.
-fn base_sum(acc: &[i64; 12], n: usize) -> i64
-    requires { ⌜ Within (2 ^ 50) (now acc) × (n ≤ 16384) ⌝ }
-    ensures { λ r. ⌜ r ≡ baseSum (now (acc .entry)) n ⌝ }
+// The same if the second has it and the first has not.
+fn second_rise(acc: &[i64; 12], x: usize) -> i64
+    requires { ⌜ (x < 3) × Within (2 ^ 50) (now acc) ⌝ }
+    ensures { λ r. ⌜ (r ≡ riseOf (sumsAt (now (acc .entry)) x) 1) × (natAbs r ≤ 2 ^ 52) ⌝ }
 {
-    acc[3] + acc[7] + acc[11] - (4096 * n) as i64
+    acc[4 * x + 1] - acc[4 * x + 3] + acc[4 * x + 2]
 }
 
-// What the calls a..e add to a score if neither haplotype has their alleles; g1 is the allele that stands on the second.
-fn neither_sum(piles: &[u64], acc: &[i64; 12], a: usize, e: usize, phased: bool, g1: usize) -> i64
-    requires { ⌜ RowsIn 1024 4096 (now piles) a e × (a ≤ e) × (g1 < 3) ⌝ }
-    requires { ⌜ Within (2 ^ 50) (now acc) ⌝ }
-    ensures { λ r. ⌜ (r ≡ neitherSum phased g1 (now (piles .entry)) (now (acc .entry)) a e) × (natAbs r ≤ 2 ^ 53) ⌝ }
-{
-    let n = base_sum(acc, e - a);
-    if phased {
-        n - acc[4 * g1 + 2]
-    } else {
-        n + sum_quals(piles, a, e)
-    }
-}
-
-// How far the score of (i, j) is above that.
-fn pair_gap(acc: &[i64; 12], i: usize, j: usize) -> i64
+// How far the score of (i, j) is above the one where neither haplotype has a call's allele.
+fn pair_rise(acc: &[i64; 12], i: usize, j: usize) -> i64
     requires { ⌜ (i < 3) × (j < 3) × Within (2 ^ 50) (now acc) ⌝ }
-    ensures { λ r. ⌜ r ≡ pairGap (now (acc .entry)) i j ⌝ }
+    ensures { λ r. ⌜ r ≡ pairRise (now (acc .entry)) i j ⌝ }
 {
     if i == j {
         acc[4 * i + 2]
     } else {
-        acc[4 * i] + acc[4 * j + 1]
+        first_rise(acc, i) + second_rise(acc, j)
     }
+}
+
+// What brings the score of v's first pair to 0.
+fn below_first(pri: &[i64], acc: &[i64; 12], v: usize) -> i64
+    requires { ⌜ (v < 1024) × (9 * v < length (now pri)) × (natAbs (getD (now pri) (9 * v) (pos 0)) ≤ 2 ^ 21) × Within (2 ^ 50) (now acc) ⌝ }
+    ensures { λ r. ⌜ (r ≡ belowFirst (now (pri .entry)) (now (acc .entry)) v) × (natAbs r ≤ 2 ^ 53) ⌝ }
+{
+    0 - (pri[9 * v] + acc[2])
 }
 
 // The score of (i, j), whose prior stands at `at`.
 fn pair_score(pri: &[i64], acc: &[i64; 12], base: i64, at: usize, i: usize, j: usize) -> i64
     requires { ⌜ (at < length (now pri)) × (natAbs (getD (now pri) at (pos 0)) ≤ 2 ^ 21) × (natAbs base ≤ 2 ^ 53) × (i < 3) × (j < 3) ⌝ }
     requires { ⌜ Within (2 ^ 50) (now acc) ⌝ }
-    ensures { λ r. ⌜ r ≡ (getD (now (pri .entry)) at (pos 0) +ℤ base) +ℤ pairGap (now (acc .entry)) i j ⌝ }
+    ensures { λ r. ⌜ r ≡ (getD (now (pri .entry)) at (pos 0) +ℤ base) +ℤ pairRise (now (acc .entry)) i j ⌝ }
 {
-    pri[at] + base + pair_gap(acc, i, j)
+    pri[at] + base + pair_rise(acc, i, j)
 }
 
 // Writes the k by k scores at 9 * v, row after row. At the loop's head p of them are written, and (i, j) is the next pair.
@@ -260,7 +274,7 @@ pub fn pair_at(hap: &[u8], v: usize) -> Pair
     }
 }
 
-// Writes the scores of v's pairs, not normalised, at 9 * v.
+// Writes at 9 * v how far the scores of v's pairs are above that of the first: normalising takes a common part away.
 pub fn scores(
     t: &[u32; 6420],
     ks: &[u8],
@@ -286,6 +300,6 @@ pub fn scores(
     make_turns(&mut turns, phased, old.first, old.second);
     let mut acc = [0i64; 12];
     score_calls(t, piles, lik, &turns, &mut acc, a, e);
-    let base = neither_sum(piles, &acc, a, e, phased, old.second);
+    let base = below_first(pri, &acc, v);
     write_scores(pri, post, &acc, base, v, k);
 }

@@ -1,14 +1,15 @@
 -- The parts of a total: what a variant and a fragment add, how far from 0 each is, and that they make up the total of the case that the
 -- slices hold. Assumes nothing.
-use mathlib.Core.Path.{_≡_, sym, ap, _∙_}
+use mathlib.Core.Path.{_≡_, refl, sym, ap, _∙_}
 use mathlib.Core.List.{List}
 use Prim.Native.Nat.{ℕ, _+_, _≤_}
 use native.Mathlib.Omega.{arith}
 use borrow.Author.Tests.{eq-eqb, ne-eqb}
 use lib.IntN.{ℤ, pos, natAbs, _+ℤ_, _-ℤ_}
 use lib.ListN.{getD}
-use Rattle.steps.proofs.Signed.{minus-abs}
-use Rattle.steps.proofs.AddExp.{add-size}
+use Rattle.steps.specs.Logs.{addExp}
+use Rattle.steps.proofs.Signed.{minus-abs, zlin, parts-add, parts-minus}
+use Rattle.steps.proofs.AddExp.{add-size, add-exp-from}
 use Rattle.variants_and_fragments.specs.Sums.{sumOver, sumTo}
 use Rattle.variants_and_fragments.specs.Decode.{tabulate}
 use Rattle.sweeps.specs.Sweeps.{SweepCase, allele0, allele1, readShare, totalOf, mixOf}
@@ -29,6 +30,16 @@ unfolding mixOf
 mix-small a b n h k =
     let s = add-size (a -ℤ pos 4096) (b -ℤ pos 4096) (n + 4096) (omega (arith, minus-abs a (pos 4096))) (omega (arith, minus-abs b (pos 4096))) in
     omega arith
+
+-- they are the second one, z, and ln(1 + exp(d)) for how far d the first is above it
+pub mixed-from : (x y z d : ℤ) → x -ℤ pos 4096 ≡ z +ℤ d → y -ℤ pos 4096 ≡ z → mixOf x y ≡ z +ℤ addExp d (pos 0)
+unfolding mixOf
+mixed-from x y z d e f = ap (λ (u : ℤ). addExp u (y -ℤ pos 4096)) e ∙ ap (λ (u : ℤ). addExp (z +ℤ d) u) f ∙ add-exp-from d z
+
+pub mixed-over : (x y : ℤ) → mixOf x y ≡ (y -ℤ pos 4096) +ℤ addExp (x -ℤ y) (pos 0)
+mixed-over x y =
+    let z = y -ℤ pos 4096 in
+    mixed-from x y z (x -ℤ y) (omega (zlin, parts-minus x (pos 4096), parts-minus y (pos 4096), parts-minus x y, parts-add z (x -ℤ y))) refl
 
 -- ---- a variant
 module _ (ks : List ℕ) (pri : List ℤ) (hap mask : List ℕ) (v : ℕ) where

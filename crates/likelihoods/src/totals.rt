@@ -3,7 +3,7 @@ ghost use mathlib.Core.Path.{_≡_};
 ghost use Prim.Native.Nat.{_+_, _*_, _^_, _≤_};
 ghost use lib.IntN.{natAbs};
 ghost use lib.ListN.{length};
-ghost use Rattle.steps.specs.Table.{knots};
+ghost use Rattle.steps.specs.Lines.{lines};
 ghost use Rattle.pileup.specs.Packed.{groupStart};
 ghost use Rattle.variants_and_fragments.specs.Sums.{sumTo};
 ghost use Rattle.sweeps.specs.Sweeps.{totalOf, mixOf};
@@ -11,7 +11,7 @@ ghost use Rattle.likelihoods.specs.Likelihoods.{CallsIn, EndsIn, flagged
 ghost use Rattle.likelihoods.specs.Held.{Within};
 ghost use Rattle.likelihoods.specs.Totals.{PriorsIn, heldCase, priorShare, fragmentShare, standingShare, standingTotal};
 use crate::likelihoods::read_likelihoods;
-use steps::logs;
+use steps::one_plus::ln_one_plus_exp;
 use variants_and_fragments::Sizes;
 
 // What variant v adds: the prior of its pair where its flag is 1.
@@ -42,25 +42,26 @@ fn priors_total(ks: &[u8], pri: &[i64], hap: &[u8], mask: &[u8], n: usize) -> i6
     sum
 }
 
-// ln_add_exp of a read's two likelihoods less 4,096 each.
-fn mixed(t: &[u16; 1665], a: i64, b: i64) -> i64
-    requires { ⌜ (now t ≡ knots) × (natAbs a ≤ 2 ^ 40) × (natAbs b ≤ 2 ^ 40) ⌝ }
+// ln_add_exp of a read's two likelihoods less 4,096 each: the second, and what the first adds to it.
+fn mixed(t: &[u32; 6420], a: i64, b: i64) -> i64
+    requires { ⌜ (now t ≡ lines) × (natAbs a ≤ 2 ^ 34) × (natAbs b ≤ 2 ^ 34) ⌝ }
     ensures { λ r. ⌜ r ≡ mixOf a b ⌝ }
 {
-    logs::add_exp(t, a - 4096, b - 4096)
+    let rise = ln_one_plus_exp(t, a - b);
+    b - 4096 + rise
 }
 
 // The mixed likelihoods of n fragments, whose rows end where `ends` says. At the loop's head those of the first f are added, and the rows of
 // fragment f start at a.
 fn fragments_total(
-    t: &[u16; 1665],
+    t: &[u32; 6420],
     rows: &[u64],
     ends: &[usize],
     hap: &[u8],
     mask: &[u8],
     n: usize,
 ) -> i64
-    requires { ⌜ (now t ≡ knots) × CallsIn (now rows) (groupStart (now ends) n) (now hap) (now mask) × EndsIn (now ends) n × (n ≤ 4096) ⌝ }
+    requires { ⌜ (now t ≡ lines) × CallsIn (now rows) (groupStart (now ends) n) (now hap) (now mask) × EndsIn (now ends) n × (n ≤ 4096) ⌝ }
     ensures { λ r. ⌜ (r ≡ sumTo n (fragmentShare (now (rows .entry)) (now (ends .entry)) (now (hap .entry)) (now (mask .entry)))) × (natAbs r ≤ 2 ^ 39) ⌝ }
 {
     let mut sum: i64 = 0;
@@ -79,7 +80,7 @@ fn fragments_total(
 // The total of the haplotypes over the flagged variants: their priors plus, per fragment, its mixed likelihoods.
 pub fn total(
     s: Sizes,
-    t: &[u16; 1665],
+    t: &[u32; 6420],
     ks: &[u8],
     pri: &[i64],
     rows: &[u64],
@@ -87,7 +88,7 @@ pub fn total(
     hap: &[u8],
     mask: &[u8],
 ) -> i64
-    requires { ⌜ (now t ≡ knots) × (s .f ≤ 4096) ⌝ }
+    requires { ⌜ (now t ≡ lines) × (s .f ≤ 4096) ⌝ }
     requires { ⌜ PriorsIn (s .n) (now ks) (now pri) (now hap) (now mask) ⌝ }
     requires { ⌜ CallsIn (now rows) (groupStart (now ends) (s .f)) (now hap) (now mask) × EndsIn (now ends) (s .f) ⌝ }
     ensures { λ r. ⌜ (r ≡ totalOf (heldCase (s .n) (s .f) (now (ks .entry)) (now (pri .entry)) (now (rows .entry)) (now (ends .entry)) (now (mask .entry))) (flagged (now (mask .entry))) (now (hap .entry))) × (natAbs r ≤ 2 ^ 40) ⌝ }
@@ -98,8 +99,8 @@ pub fn total(
 }
 
 // The mixed likelihoods of n fragments, as they stand in lik. At the loop's head those of the first f are added.
-fn mixes_total(t: &[u16; 1665], lik: &[i64], n: usize) -> i64
-    requires { ⌜ (now t ≡ knots) × (n ≤ 4096) × (2 * n ≤ length (now lik)) × Within (2 ^ 32) (now lik) ⌝ }
+fn mixes_total(t: &[u32; 6420], lik: &[i64], n: usize) -> i64
+    requires { ⌜ (now t ≡ lines) × (n ≤ 4096) × (2 * n ≤ length (now lik)) × Within (2 ^ 32) (now lik) ⌝ }
     ensures { λ r. ⌜ (r ≡ sumTo n (standingShare (now (lik .entry)))) × (natAbs r ≤ 2 ^ 45) ⌝ }
 {
     let mut sum: i64 = 0;
@@ -114,14 +115,14 @@ fn mixes_total(t: &[u16; 1665], lik: &[i64], n: usize) -> i64
 // The total over the flagged variants, of the likelihoods that stand: their priors plus, per fragment, its mixed likelihoods.
 pub fn standing_total(
     s: Sizes,
-    t: &[u16; 1665],
+    t: &[u32; 6420],
     ks: &[u8],
     pri: &[i64],
     lik: &[i64],
     hap: &[u8],
     mask: &[u8],
 ) -> i64
-    requires { ⌜ (now t ≡ knots) × PriorsIn (s .n) (now ks) (now pri) (now hap) (now mask) ⌝ }
+    requires { ⌜ (now t ≡ lines) × PriorsIn (s .n) (now ks) (now pri) (now hap) (now mask) ⌝ }
     requires { ⌜ (s .f ≤ 4096) × (2 * (s .f) ≤ length (now lik)) × Within (2 ^ 32) (now lik) ⌝ }
     ensures { λ r. ⌜ r ≡ standingTotal (s .n) (s .f) (now (ks .entry)) (now (pri .entry)) (now (lik .entry)) (now (hap .entry)) (now (mask .entry)) ⌝ }
 {

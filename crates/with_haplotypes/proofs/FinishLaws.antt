@@ -8,11 +8,11 @@ use Prim.Native.Nat.{ℕ, zero, suc, _+_, _-_, _*_, _/_, _%_, _^_, _<_, _≤_}
 use native.Mathlib.Omega.{arith}
 use native.Mathlib.Decide.{decLt}
 use lib.Ieee.{Float}
-use lib.IntN.{ℤ, pos, natAbs}
+use lib.IntN.{ℤ, pos, natAbs, negℤ, _-ℤ_}
 use lib.ListN.{length, getD, drop, take, length-append, length-drop, List·getD-append}
 use lib.Seq.{length-take-le, ext-getD, getD-drop, getD-append-add, take-at}
-use Rattle.steps.specs.Logs.{Log, steps}
-use Rattle.variants_and_fragments.specs.declared.Sizes.{Sizes}
+use Rattle.steps.proofs.Signed.{minus-abs}
+use Rattle.steps.specs.Logs.{steps}
 use Rattle.variants_and_fragments.specs.Case.{Call, alleleCount, variantOf}
 use Rattle.variants_and_fragments.specs.Decode.{tabulateFrom, tabulate, decode}
 use Rattle.variants_and_fragments.specs.Layout.{alleleCountAt}
@@ -21,7 +21,7 @@ use Rattle.variants_and_fragments.specs.Written.{written}
 use Rattle.variants_and_fragments.proofs.Decoded.{tabulate-at, fragments-are}
 use Rattle.variants_and_fragments.proofs.GoodCases.{good-case}
 use Rattle.variants_and_fragments.proofs.Written.{written-length, written-at, written-past, written-same}
-use Rattle.genotype_probs.specs.Posteriors.{normalized, TableAt, mirror, isOther, others, otherSum}
+use Rattle.genotype_probs.specs.Posteriors.{normalized, mirror, isOther, others, otherSum}
 use Rattle.genotype_probs.proofs.AlleleLaws.{nine}
 use Rattle.genotype_probs.proofs.Maxima.{genotype-maximum}
 use Rattle.genotype_probs.specs.declared.Rates.{Rates}
@@ -33,7 +33,7 @@ use Rattle.sweeps.proofs.Posts.{length-posts}
 use Rattle.with_haplotypes.specs.Finals.{finalOf, finalAt, TablesIn, FinalsWritten}
 use Rattle.likelihoods.specs.Likelihoods.{alleleOn}
 use Rattle.call_genotypes.specs.Runs.{resultOf}
-use Rattle.call_genotypes.specs.Scores.{rawScores, SweepState}
+use Rattle.call_genotypes.specs.Scores.{overFirst, SweepState}
 use Rattle.with_haplotypes.specs.NormalizedPosteriors.{normalizedAt, TablesAt}
 use Rattle.genotype_probs.proofs.SameTables.{genotype-same}
 use Rattle.likelihoods.proofs.HeldCases.{alleles-are}
@@ -117,6 +117,10 @@ module _ {w : List ℤ} {b : List ℕ} {rates : Rates} (z : RoundSizes) (G : Cas
   unfolding sweepCase
   score-small = number-small rates phased w b (z .s) (G .accepted) (G .good-rates)
 
+  latest-small : (v p : ℕ) → natAbs (latestScore input v p) ≤ 2 ^ 36
+  unfolding latestScore
+  latest-small v p = score-small v _ p
+
   module _ {before after : SweepState} {r : RoundAnswer} (R : RunMade input before after r) (room : 9 * z .s .n ≤ length (before .post)) where
     abbrev post : List ℤ
     post = before .post
@@ -125,25 +129,24 @@ module _ {w : List ℤ} {b : List ℕ} {rates : Rates} (z : RoundSizes) (G : Cas
     raw = after .post
 
     raw-long : length raw ≡ length post
-    raw-long = ap length (R .scores) ∙ length-posts rawScores C (orderOfSweep input) from post (r .sweeps)
+    raw-long = ap length (R .scores) ∙ length-posts overFirst C (orderOfSweep input) from post (r .sweeps)
 
-    raw-at : (v p : ℕ) → v < z .s .n → p < C .k v * C .k v → getD raw (9 * v + p) (pos 0) ≡ latestScore input v p
+    raw-at : (v p : ℕ) → v < z .s .n → p < C .k v * C .k v → getD raw (9 * v + p) (pos 0) ≡ latestScore input v p -ℤ latestScore input v 0
     unfolding latestScore
     raw-at v p h l =
         let last = R .demand3 .ends .last in
         let e = R .demand3 .ends .counted in
         let n = variants-counted z G phased from orders (z .limit) in
         let q : result input .sweeps - 1 ≡ last = omega (arith, ap (λ x. x .sweeps) (R .result-is)) in
-        ap (λ (x : List ℤ). getD x (9 * v + p) (pos 0)) (R .scores ∙ ap (posts rawScores C (orderOfSweep input) from post) e)
+        ap (λ (x : List ℤ). getD x (9 * v + p) (pos 0)) (R .scores ∙ ap (posts overFirst C (orderOfSweep input) from post) e)
         ∙ posts-latest C good (orderOfSweep input) (orders-good z G phased from orders (z .limit) o) from post (omega arith) last v p (omega arith) l
         ∙ rw q
 
     raw-past : (e : ℕ) → 9 * z .s .n ≤ e → getD raw e (pos 0) ≡ getD post e (pos 0)
     raw-past e h = ap (λ (x : List ℤ). getD x e (pos 0)) (R .scores) ∙ posts-past C good (orderOfSweep input) (orders-good z G phased from orders (z .limit) o) from post (r .sweeps) e (pos 0) (omega (arith, variants-counted z G phased from orders (z .limit)))
 
-    raw-small : (v p : ℕ) → v < z .s .n → p < C .k v * C .k v → natAbs (getD raw (9 * v + p) (pos 0)) ≤ 2 ^ 36
-    unfolding latestScore
-    raw-small v p h l = rw (raw-at v p h l) (score-small v _ p)
+    raw-small : (v p : ℕ) → v < z .s .n → p < C .k v * C .k v → natAbs (getD raw (9 * v + p) (pos 0)) ≤ 2 ^ 37
+    raw-small v p h l = rw (raw-at v p h l) (omega (arith, minus-abs (latestScore input v p) (latestScore input v 0), latest-small v p, latest-small v 0))
 
     pub tables-at : TablesAt ks raw (z .s .n)
     tables-at = record {
@@ -167,8 +170,8 @@ module _ {w : List ℤ} {b : List ℕ} {rates : Rates} (z : RoundSizes) (G : Cas
         let e : getD ks v 0 ≡ k = k-held v h ∙ k-here v in
         let scores = tabulate (k * k) (latestScore input v) in
         ap (λ (x : ℕ). normalized (drop (9 * v) raw) x p) e
-        ∙ normalized-same (drop (9 * v) raw) scores k
-        (λ q j. getD-drop (9 * v) raw q (pos 0) ∙ raw-at v q h (rw (k-here v) j) ∙ sym (tabulate-at (k * k) (latestScore input v) q (pos 0) j)) p
+        ∙ normalized-same (negℤ (latestScore input v 0)) (drop (9 * v) raw) scores k (rw (k-here v) at (good .some-allele v (omega (arith, variants-counted z G phased from orders (z .limit)))))
+        (λ q j. getD-drop (9 * v) raw q (pos 0) ∙ raw-at v q h (rw (k-here v) j) ∙ ap (λ (x : ℤ). x -ℤ latestScore input v 0) (sym (tabulate-at (k * k) (latestScore input v) q (pos 0) j))) p
         ∙ sym (tabulate-at 9 (normalized scores k) p (pos 0) l)
 
     module _ {post' : List ℤ} (done : post' ≡ written (normalizedAt ks raw) (9 * z .s .n) raw) where
@@ -196,9 +199,9 @@ module _ {w : List ℤ} {b : List ℕ} {rates : Rates} (z : RoundSizes) (G : Cas
       after-small : (v p : ℕ) → v < z .s .n → p < 9 → natAbs (getD post' (9 * v + p) (pos 0)) ≤ 2 ^ 40
       after-small v p h l =
           let n = variants-counted z G phased from orders (z .limit) in
-          let small : (q : ℕ) → q < getD ks v 0 * getD ks v 0 → natAbs (getD (drop (9 * v) raw) q (pos 0)) ≤ 2 ^ 36 = λ q j. rw (getD-drop (9 * v) raw q (pos 0)) (raw-small v q h (rw (← k-held v h) j)) in
+          let small : (q : ℕ) → q < getD ks v 0 * getD ks v 0 → natAbs (getD (drop (9 * v) raw) q (pos 0)) ≤ 2 ^ 37 = λ q j. rw (getD-drop (9 * v) raw q (pos 0)) (raw-small v q h (rw (← k-held v h) j)) in
           let top : getD ks v 0 ≤ 3 = omega (arith, k-held v h, good .three-alleles v (omega arith)) in
-          omega (arith, ap natAbs (ap (λ (x : List ℤ). getD x (9 * v + p) (pos 0)) done ∙ normalized-here ks raw (z .s .n) v p (omega (arith, raw-long)) h l), normal-size (2 ^ 36) (drop (9 * v) raw) (getD ks v 0) top small p)
+          omega (arith, ap natAbs (ap (λ (x : List ℤ). getD x (9 * v + p) (pos 0)) done ∙ normalized-here ks raw (z .s .n) v p (omega (arith, raw-long)) h l), normal-size (2 ^ 37) (drop (9 * v) raw) (getD ks v 0) top small p)
 
       pub tables-in : TablesIn w post' (z .s .n)
       tables-in v h =

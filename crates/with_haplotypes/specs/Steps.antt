@@ -21,7 +21,7 @@ use Rattle.sweeps.specs.Sweeps.{GoodHaps, phasedTotal, sourceTotal}
 use Rattle.sweeps.specs.Demand3.{Demand3}
 use Rattle.sweeps.specs.Posts.{posts}
 use Rattle.likelihoods.specs.Held.{Liks}
-use Rattle.call_genotypes.specs.Scores.{rawScores, SweepState}
+use Rattle.call_genotypes.specs.Scores.{overFirst, SweepState}
 use Rattle.call_genotypes.specs.Runs.{resultOf}
 use Rattle.with_haplotypes.specs.declared.RoundAnswer.{RoundAnswer}
 use Rattle.with_haplotypes.specs.declared.RoundSizes.{RoundSizes}
@@ -116,7 +116,7 @@ pub record RunMade (input : RunInput) (before after : SweepState) (r : RoundAnsw
   pub end-is : r .end ≡ phasedTotal (sweepCase input) (after .hap)
   pub source-is : r .source ≡ sourceTotal (sweepCase input) (after .hap)
   pub liks : Liks (sweepCase input) (after .hap) (after .lik)
-  pub scores : after .post ≡ posts rawScores (sweepCase input) (orderOfSweep input) (input .start) (before .post) (r .sweeps)
+  pub scores : after .post ≡ posts overFirst (sweepCase input) (orderOfSweep input) (input .start) (before .post) (r .sweeps)
 
 -- what a run promises of the phased variants, whichever the flags say
 abbrev pub RunPromise : List ℤ → List ℕ → Rates → RoundSizes → List ℕ → List ℕ → List ℕ → SweepState → SweepState → RoundAnswer → Type 0

@@ -42,10 +42,9 @@ pub fn run_prepared(
     ensures { λ r. ⌜ PreparedPromise z (now (ks .entry)) (now (ph .entry)) (scratch (now (rows .entry)) (now («row_ends» .entry)) (now (piles .entry)) (now («pile_ends» .entry)) (now (pri .entry))) (now (orders .entry)) (sweepState (now (hap .entry)) (now (lik .entry)) (now (post .entry))) (sweepState (now (hap .exit)) (now (lik .exit)) (now (post .exit))) r ⌝ }
 {
     let s = z.s;
-    let t = steps::table();
     let l = one_plus::lines();
     write_likelihoods(rows, row_ends, hap, ph, lik, s.f);
-    let start = standing_total(s, &t, ks, pri, lik, hap, ph);
+    let start = standing_total(s, &l, ks, pri, lik, hap, ph);
     let plan = Plan {
         n: s.n,
         m: z.m,
@@ -65,8 +64,8 @@ pub fn run_prepared(
         plan,
     );
     let all = ones();
-    let end = standing_total(s, &t, ks, pri, lik, hap, ph);
-    let source = total(s, &t, ks, pri, rows, row_ends, hap, &all);
+    let end = standing_total(s, &l, ks, pri, lik, hap, ph);
+    let source = total(s, &l, ks, pri, rows, row_ends, hap, &all);
     RoundAnswer {
         sweeps: r.sweeps,
         settled: r.settled,

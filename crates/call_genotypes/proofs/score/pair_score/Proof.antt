@@ -18,26 +18,26 @@ prior-of s = getD (s .args .pri .now) (s .args .at) (pos 0)
 two-small : (s : tie.Start) → natAbs (prior-of s) + natAbs (s .args .base) ≤ 2 ^ 54
 two-small s = omega (arith, s .pre .0 .1, s .pre .0 .2)
 
-gap-small : (c : tie.After-pair-gap) → natAbs (c .pair-gap .result) ≤ 2 ^ 51
-gap-small c = let s = c .before .before in rw (c .pair-gap .ensures) (pair-size (s .args .acc .now) (s .args .i) (s .args .j) (s .pre .1))
+rise-small : (c : tie.After-pair-rise) → natAbs (c .pair-rise .result) ≤ 2 ^ 53
+rise-small c = let s = c .before .before in rw (c .pair-rise .ensures) (pair-size (s .args .acc .now) (s .pre .1) (s .args .i) (s .args .j))
 
 first-read : (s : tie.Start) → toZ w64 (ofZ w64 (toZ w64 (ofZ w64 (prior-of s)) +ℤ toZ w64 (ofZ w64 (s .args .base)))) ≡ prior-of s +ℤ s .args .base
 first-read s = plus-read w64 (prior-of s) (s .args .base) (omega (arith, two-small s))
 
-small : (c : tie.After-pair-gap) → let s = c .before .before in natAbs ((prior-of s +ℤ s .args .base) +ℤ c .pair-gap .result) < 2 ^ 63
+small : (c : tie.After-pair-rise) → let s = c .before .before in natAbs ((prior-of s +ℤ s .args .base) +ℤ c .pair-rise .result) < 2 ^ 63
 small c = let s = c .before .before in
-    omega (arith, add-abs (prior-of s +ℤ s .args .base) (c .pair-gap .result), add-abs (prior-of s) (s .args .base), two-small s, gap-small c)
+    omega (arith, add-abs (prior-of s +ℤ s .args .base) (c .pair-rise .result), add-abs (prior-of s) (s .args .base), two-small s, rise-small c)
 
 add-result : tie.Need-add-result
 add-result c = let s = c .before in plus-fits w64 (prior-of s) (s .args .base) (omega (arith, two-small s))
 
 add-result-2 : tie.Need-add-result-2
 add-result-2 c = let s = c .before .before in
-    rw (first-read s, read-small w64 (c .pair-gap .result) (omega (arith, gap-small c))) (sfits w64 ((prior-of s +ℤ s .args .base) +ℤ c .pair-gap .result) (small c))
+    rw (first-read s, read-small w64 (c .pair-rise .result) (omega (arith, rise-small c))) (sfits w64 ((prior-of s +ℤ s .args .base) +ℤ c .pair-rise .result) (small c))
 
 returns : tie.Need-returns
 returns c = let s = c .before .before in
-    rw (first-read s, read-small w64 (c .pair-gap .result) (omega (arith, gap-small c))) (read-small w64 ((prior-of s +ℤ s .args .base) +ℤ c .pair-gap .result) (small c) ∙ cc)
+    rw (first-read s, read-small w64 (c .pair-rise .result) (omega (arith, rise-small c))) (read-small w64 ((prior-of s +ℤ s .args .base) +ℤ c .pair-rise .result) (small c) ∙ cc)
 
 pub pair-score-spec : {M : Type 1} → statement M
 pair-score-spec =

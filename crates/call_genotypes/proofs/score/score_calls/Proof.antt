@@ -6,14 +6,14 @@ use borrow.Author.Needs.{needs}
 use lib.IntN.{natAbs}
 use Rattle.variants_and_fragments.specs.Pileup.{Row}
 use Rattle.pileup.specs.Packed.{rowFrom, rowAt}
-use Rattle.call_genotypes.specs.Scores.{rowGaps, valueOf, RowFits}
+use Rattle.call_genotypes.specs.Scores.{rowMixes, valueOf, RowFits}
 use Rattle.call_genotypes.proofs.Sizes.{row-size}
 use Rattle.call_genotypes.proofs.Fours.{Summing, summing-start, summing-step, summing-end}
 use Rattle.call_genotypes.proofs.score.score_calls.Statement.{statement}
 use Rattle.call_genotypes.proofs.score.score_calls.Tie as tie
 
 abbrev Inv-loop : tie.InvT-loop
-Inv-loop t piles lik turns acc₀ a e p₀ acc p = Summing (rowGaps turns lik) (rowAt piles) a e p acc
+Inv-loop t piles lik turns acc₀ a e p₀ acc p = Summing (rowMixes turns lik) (rowAt piles) a e p acc
 
 abbrev μ-loop : tie.MeasureT-loop
 μ-loop t piles lik turns acc₀ a e p₀ acc p = e - p
@@ -22,7 +22,7 @@ abbrev st : tie.In-loop Inv-loop μ-loop → tie.Start Inv-loop μ-loop
 st c = c .before .before .before
 
 -- the turn of the loop
-abbrev turn : tie.After-call-gaps Inv-loop μ-loop → tie.In-loop Inv-loop μ-loop
+abbrev turn : tie.After-call-mixes Inv-loop μ-loop → tie.In-loop Inv-loop μ-loop
 turn c = c .before .before .before
 
 row-in : (c : tie.In-loop Inv-loop μ-loop) → RowFits (st c .args .lik .now) (rowAt (st c .args .piles .now) (c .before .loop .p))
@@ -32,9 +32,9 @@ row-in c = st c .pre .1 .0 .rows-in (c .before .loop .p) (c .before .loop .inv .
 row-is : (c : tie.After-unpack Inv-loop μ-loop) → rowFrom (c .unpack .result) ≡ rowAt (st (c .before .before) .args .piles .now) (c .before .before .before .loop .p)
 row-is c = ap rowFrom (c .unpack .ensures)
 
-value-small : (c : tie.After-call-gaps Inv-loop μ-loop) (w : ℕ) → natAbs (valueOf (c .call-gaps .result) w) ≤ 2 ^ 35
+value-small : (c : tie.After-call-mixes Inv-loop μ-loop) (w : ℕ) → natAbs (valueOf (c .call-mixes .result) w) ≤ 2 ^ 35
 value-small c w = let s = st (turn c) in
-    rw (c .call-gaps .ensures w, row-is (c .before)) (row-size (row-in (turn c)) (s .args .turns .now) (s .args .lik .now) (s .pre .1 .1 .0 .0) (s .pre .1 .1 .0 .1) w)
+    rw (c .call-mixes .ensures w, row-is (c .before)) (row-size (row-in (turn c)) (s .args .turns .now) (s .args .lik .now) (s .pre .1 .1 .0 .0) (s .pre .1 .1 .0 .1) w)
 
 allele-is : (c : tie.After-unpack Inv-loop μ-loop) → c .unpack .result .allele ≡ rowAt (st (c .before .before) .args .piles .now) (c .before .before .before .loop .p) .call .allele
 allele-is c = ap (λ (row : Row). row .call .allele) (row-is c)
@@ -45,8 +45,8 @@ allele-low c = rw (allele-is c) (row-in (c .before .before) .allele-in)
 loop-holds : tie.Need-loop-holds Inv-loop μ-loop
 loop-holds c = summing-start _ _ _ _ _ (c .before .pre .1 .1 .1)
 
-call-gaps-requires : tie.Need-call-gaps-requires Inv-loop μ-loop
-call-gaps-requires c κs = let i = c .before .before in (st i .pre .0, (rw (row-is c) (row-in i), st i .pre .1 .1 .0))
+call-mixes-requires : tie.Need-call-mixes-requires Inv-loop μ-loop
+call-mixes-requires c κs = let i = c .before .before in (st i .pre .0, (rw (row-is c) (row-in i), st i .pre .1 .1 .0))
 
 add-four-requires : tie.Need-add-four-requires Inv-loop μ-loop
 add-four-requires c κs = let l = turn (c .before) .before .loop in
@@ -56,8 +56,8 @@ loop-again : tie.Need-loop-again Inv-loop μ-loop
 loop-again c =
     let g = c .before .before in
     let i = turn g in
-    summing-step _ _ _ _ _ _ _ (valueOf (g .call-gaps .result)) (g .before .unpack .result .allele) (i .before .loop .inv) (i .loop-test .taken) (omega (arith, st i .pre .1 .0 .few))
-    (allele-is (g .before)) (allele-low (g .before)) (λ w. g .call-gaps .ensures w ∙ ap (λ (row : Row). rowGaps (st i .args .turns .now) (st i .args .lik .now) row w) (row-is (g .before))) (value-small g) (c .add-four .ensures)
+    summing-step _ _ _ _ _ _ _ (valueOf (g .call-mixes .result)) (g .before .unpack .result .allele) (i .before .loop .inv) (i .loop-test .taken) (omega (arith, st i .pre .1 .0 .few))
+    (allele-is (g .before)) (allele-low (g .before)) (λ w. g .call-mixes .ensures w ∙ ap (λ (row : Row). rowMixes (st i .args .turns .now) (st i .args .lik .now) row w) (row-is (g .before))) (value-small g) (c .add-four .ensures)
 
 returns : tie.Need-returns Inv-loop μ-loop
 returns c = summing-end _ _ _ _ _ _ (c .before .loop .inv) (c .loop-test .left)
@@ -72,7 +72,7 @@ score-calls-spec =
     (λ c. search needs)
     (λ c. search needs)
     (λ c κs. search needs)
-    call-gaps-requires
+    call-mixes-requires
     add-four-requires
     (λ c. search needs)
     (λ c. search needs)

@@ -6,7 +6,7 @@ use mir.Syntax.{w64}
 use mir.Val.{toZ, ofZ}
 use Rattle.steps.proofs.Signed.{read-back}
 use Rattle.call_genotypes.proofs.Turns.{turn-small}
-use Rattle.call_genotypes.proofs.Linked.{lik-within, pile-in, pile-fits, scores-room, pair-three, scored}
+use Rattle.call_genotypes.proofs.Linked.{lik-within, pile-fits, scores-room, first-small, pair-three, scored}
 use Rattle.call_genotypes.proofs.score.scores.Statement.{statement}
 use Rattle.call_genotypes.proofs.score.scores.Tie as tie
 
@@ -33,13 +33,13 @@ score-calls-requires c κs =
     let S = s .pre .1 .holds in
     (s .pre .0, (rw (f .group-start .ensures) (pile-fits (S .standing .held) (s .args .v) (S .v-in) (S .standing .liks)), ((lik-within (S .standing .held) _ _ (S .standing .liks), λ i. rw (c .before .before .make-turns .ensures i) (turn-small _ _ _ i)), refl)))
 
-neither-sum-requires : tie.Need-neither-sum-requires
-neither-sum-requires c κs =
-    let p = pair (c .before) in
-    let f = start p in
-    let s = st f in
+below-first-requires : tie.Need-below-first-requires
+below-first-requires c κs =
+    let k = c .before in
+    let s = st (start (pair k)) in
     let S = s .pre .1 .holds in
-    ((rw (f .group-start .ensures) (pile-in (S .standing .held) (s .args .v) (S .v-in)), rw (f .group-start .ensures) (S .standing .held .piles-are .rises (s .args .v) (S .v-in)), pair-three S (p .pair-at .result) (p .pair-at .ensures) .1), c .before .score-calls .ensures .small)
+    let room = scores-room (S .standing .held) (s .args .v) (S .v-in) (s .args .post .now) (S .standing .room) in
+    (room .v-top, omega (arith, room .pri-long), first-small room, k .score-calls .ensures .small)
 
 write-scores-requires : tie.Need-write-scores-requires
 write-scores-requires c κs =
@@ -47,7 +47,7 @@ write-scores-requires c κs =
     let k = n .before .before in
     let s = st (start (pair k)) in
     let S = s .pre .1 .holds in
-    ((scores-room (S .standing .held) (s .args .v) (S .v-in) _ (S .standing .room), rw (read-back w64 _ (n .neither-sum .ok)) (n .neither-sum .ensures .1)), k .score-calls .ensures .small)
+    ((scores-room (S .standing .held) (s .args .v) (S .v-in) _ (S .standing .room), rw (read-back w64 _ (n .below-first .ok)) (n .below-first .ensures .1)), k .score-calls .ensures .small)
 
 returns : tie.Need-returns
 returns c C S =
@@ -55,8 +55,8 @@ returns c C S =
     let k = n .before .before in
     let p = pair k in
     let t = k .before .before .before in
-    scored S (start p .group-start .result) (p .pair-at .result) (t .make-turns .last .0) (k .score-calls .last .1 .1 .1 .1 .0) _ (toZ w64 (ofZ w64 (n .neither-sum .result))) (start p .group-start .ensures)
-    (p .pair-at .ensures) (t .make-turns .ensures) (k .score-calls .ensures) (read-back w64 _ (n .neither-sum .ok) ∙ n .neither-sum .ensures .0) (c .before .write-scores .ensures)
+    scored S (start p .group-start .result) (p .pair-at .result) (t .make-turns .last .0) (k .score-calls .last .1 .1 .1 .1 .0) _ (toZ w64 (ofZ w64 (n .below-first .result))) (start p .group-start .ensures)
+    (p .pair-at .ensures) (t .make-turns .ensures) (k .score-calls .ensures) (read-back w64 _ (n .below-first .ok) ∙ n .below-first .ensures .0) (c .before .write-scores .ensures)
 
 pub scores-spec : {M : Type 1} → statement M
 scores-spec =
@@ -71,7 +71,7 @@ scores-spec =
     (λ c κs. search needs)
     make-turns-requires
     score-calls-requires
-    neither-sum-requires
+    below-first-requires
     write-scores-requires
     (λ c. search needs)
     returns)

@@ -12,14 +12,14 @@ use mir.Facts.{toZ-ofZ}
 use Rattle.steps.proofs.Signed.{read-back}
 use Rattle.genotype_probs.proofs.AlleleLaws.{nine}
 use Rattle.genotype_probs.proofs.Pairs.{pair-div, pair-mod, first-in}
-use Rattle.call_genotypes.specs.Scores.{pairGap, scoresOf}
+use Rattle.call_genotypes.specs.Scores.{pairRise, scoresOf, riseOf}
 use Rattle.call_genotypes.proofs.Written.{Writing, writing-start, writing-row, writing-place, writing-end}
 use Rattle.call_genotypes.proofs.score.write_scores.Statement.{statement}
 use Rattle.call_genotypes.proofs.score.write_scores.Tie as tie
 
 abbrev Inv-loop : tie.InvT-loop
 Inv-loop pri post₀ acc base v k kk p₀ i₀ j₀ post p i j =
-    Writing (λ p. (getD pri (9 * v + p) (pos 0) +ℤ toZ w64 base) +ℤ pairGap acc (p / k) (p % k)) (9 * v) k post₀ post p i j
+    Writing (λ p. (getD pri (9 * v + p) (pos 0) +ℤ toZ w64 base) +ℤ pairRise acc (p / k) (p % k)) (9 * v) k post₀ post p i j
 
 abbrev μ-loop : tie.MeasureT-loop
 μ-loop pri post₀ acc base v k kk p₀ i₀ j₀ post p i j = kk - p
@@ -32,7 +32,8 @@ few c = omega (arith, c .loop-test .taken, nine (st c .args .k) (st c .pre .0 .0
 
 -- the score that is written
 written : (c : tie.After-pair-score Inv-loop μ-loop) → let s = st (c .before) in let p = c .before .before .loop .p in
-    toZ w64 (ofZ w64 (c .pair-score .result)) ≡ (getD (s .args .pri .now) (9 * s .args .v + p) (pos 0) +ℤ toZ w64 (ofZ w64 (s .args .base))) +ℤ pairGap (s .args .acc .now) (p / s .args .k) (p % s .args .k)
+    toZ w64 (ofZ w64 (c .pair-score .result)) ≡ (getD (s .args .pri .now) (9 * s .args .v + p) (pos 0) +ℤ toZ w64 (ofZ w64 (s .args .base))) +ℤ pairRise (s .args .acc .now) (p / s .args .k) (p % s .args .k)
+unfolding riseOf
 written c =
     let s = st (c .before) in
     let l = c .before .before .loop in

@@ -1,43 +1,50 @@
--- `likelihoods::totals::mixed` meets its contract: neither difference wraps.
+-- `likelihoods::totals::mixed` meets its contract: neither difference wraps, nor their sum.
 -- Assumes nothing.
-use mathlib.Core.Path.{_≡_, _∙_}
-use Prim.Native.Nat.{_≤_, _^_}
+use mathlib.Core.Path.{_≡_, sym, _∙_}
+use Prim.Native.Nat.{_+_, _≤_, _<_, _^_}
 use native.Mathlib.Omega.{arith}
-use lib.IntN.{ℤ, pos, natAbs, _-ℤ_}
+use lib.IntN.{ℤ, pos, natAbs, _+ℤ_, _-ℤ_}
 use mir.Syntax.{w64}
-use mir.Val.{SFits, toZ, ofZ}
-use Rattle.steps.proofs.Signed.{minus-abs, sfits, read-small, read-back}
-use Rattle.sweeps.specs.Sweeps.{mixOf}
+use mir.Val.{toZ, ofZ}
+use Rattle.steps.proofs.Signed.{minus-abs, minus-fits, minus-read, sfits, read-small, read-back}
+use Rattle.steps.specs.Logs.{addExp}
+use Rattle.likelihoods.proofs.TotalParts.{mix-small, mixed-over}
 use Rattle.likelihoods.proofs.totals.mixed.Statement.{statement}
 use Rattle.likelihoods.proofs.totals.mixed.Tie as tie
 
--- a likelihood less 4,096
-module _ (a : ℤ) (h : natAbs a ≤ 2 ^ 40) where
-  less-fits : SFits w64 (toZ w64 (ofZ w64 a) -ℤ pos 4096)
-  less-fits = rw (read-small w64 a (omega arith)) (sfits w64 (a -ℤ pos 4096) (omega (arith, minus-abs a (pos 4096))))
+small : (s : tie.Start) → natAbs (s .args .a) + natAbs (s .args .b) < 2 ^ 63
+small s = omega (arith, s .pre .1, s .pre .2)
 
-  less-read : toZ w64 (ofZ w64 (toZ w64 (ofZ w64 a) -ℤ pos 4096)) ≡ a -ℤ pos 4096
-  less-read = rw (read-small w64 a (omega arith)) (read-small w64 (a -ℤ pos 4096) (omega (arith, minus-abs a (pos 4096))))
+-- the second less 4,096, as it is read back
+second : (s : tie.Start) → toZ w64 (ofZ w64 (toZ w64 (ofZ w64 (s .args .b)) -ℤ pos 4096)) ≡ s .args .b -ℤ pos 4096
+second s = rw (read-small w64 (s .args .b) (omega (arith, s .pre .2))) (read-small w64 (s .args .b -ℤ pos 4096) (omega (arith, minus-abs (s .args .b) (pos 4096), s .pre .2)))
 
-sub-add-exp : tie.Need-sub-add-exp
-sub-add-exp c = less-fits (c .args .a) (c .pre .1)
+-- what the first adds to it
+rise : (c : tie.After-ln-one-plus-exp) → let s = c .before in toZ w64 (ofZ w64 (c .ln-one-plus-exp .result)) ≡ addExp (s .args .a -ℤ s .args .b) (pos 0)
+rise c = let s = c .before in
+    read-back w64 _ (c .ln-one-plus-exp .ok) ∙ rw (minus-read w64 (s .args .a) (s .args .b) (small s)) at (c .ln-one-plus-exp .ensures)
 
-sub-add-exp-2 : tie.Need-sub-add-exp-2
-sub-add-exp-2 c = less-fits (c .args .b) (c .pre .2)
+mix-fits : (s : tie.Start) → natAbs ((s .args .b -ℤ pos 4096) +ℤ addExp (s .args .a -ℤ s .args .b) (pos 0)) ≤ 2 ^ 34 + 8192
+mix-fits s = rw (← mixed-over (s .args .a) (s .args .b)) (mix-small (s .args .a) (s .args .b) (2 ^ 34) (s .pre .1) (s .pre .2))
 
-add-exp-requires : tie.Need-add-exp-requires
-add-exp-requires c κs = (
-  c .pre .0,
-  rw (less-read (c .args .a) (c .pre .1)) (omega (arith, minus-abs (c .args .a) (pos 4096), c .pre .1)),
-  rw (less-read (c .args .b) (c .pre .2)) (omega (arith, minus-abs (c .args .b) (pos 4096), c .pre .2)),
-)
+sub-ln-one-plus-exp : tie.Need-sub-ln-one-plus-exp
+sub-ln-one-plus-exp c = minus-fits w64 (c .args .a) (c .args .b) (small c)
+
+ln-one-plus-exp-requires : tie.Need-ln-one-plus-exp-requires
+ln-one-plus-exp-requires c κs = (c .pre .0, rw (minus-read w64 (c .args .a) (c .args .b) (small c)) (omega (arith, minus-abs (c .args .a) (c .args .b), c .pre .1, c .pre .2)))
+
+sub-result : tie.Need-sub-result
+sub-result c = let s = c .before in
+    rw (read-small w64 (s .args .b) (omega (arith, s .pre .2))) (sfits w64 (s .args .b -ℤ pos 4096) (omega (arith, minus-abs (s .args .b) (pos 4096), s .pre .2)))
+
+add-result : tie.Need-add-result
+add-result c = let s = c .before in
+    rw (second s, rise c) (sfits w64 ((s .args .b -ℤ pos 4096) +ℤ addExp (s .args .a -ℤ s .args .b) (pos 0)) (omega (arith, mix-fits s)))
 
 returns : tie.Need-returns
-unfolding mixOf
-returns c =
-    let s = c .before in
-    read-back w64 (c .add-exp .result) (c .add-exp .ok)
-    ∙ rw (less-read (s .args .a) (s .pre .1), less-read (s .args .b) (s .pre .2)) at (c .add-exp .ensures)
+returns c = let s = c .before in
+    rw (second s, rise c) (read-small w64 ((s .args .b -ℤ pos 4096) +ℤ addExp (s .args .a -ℤ s .args .b) (pos 0)) (omega (arith, mix-fits s)) ∙ sym (mixed-over (s .args .a) (s .args .b)))
 
 pub mixed-spec : {M : Type 1} → statement M
-mixed-spec = tie.close (tie.spec sub-add-exp sub-add-exp-2 add-exp-requires returns)
+mixed-spec =
+    tie.close (tie.spec sub-ln-one-plus-exp ln-one-plus-exp-requires sub-result add-result returns)

@@ -2,7 +2,7 @@
 -- and the source's total of the rows.
 -- Assumes nothing.
 use borrow.Author.Needs.{needs}
-use mathlib.Core.Path.{_≡_, refl, _∙_}
+use mathlib.Core.Path.{refl, _∙_}
 use native.Mathlib.Omega.{arith}
 use mir.Syntax.{w64}
 use Rattle.steps.proofs.Signed.{read-back}
@@ -12,7 +12,7 @@ use Rattle.with_haplotypes.proofs.run.run_prepared.Tie as tie
 
 -- the start, the likelihoods written, the total before the run, and the run
 abbrev st : tie.After-write-likelihoods-arg2 → tie.Start
-st c = c .before .before .before .before .before .before .before .before .before .before .before .before .before
+st c = c .before .before .before .before .before .before .before .before .before .before .before .before
 
 abbrev wl : tie.After-standing-total → tie.After-write-likelihoods
 wl c = c .before .before .before .before .before
@@ -22,9 +22,6 @@ first c = c .before .before .before .before .before
 
 abbrev ran : tie.After-ones → tie.After-run-sweeps
 ran c = c .before .before .before .before .before
-
-table-requires : tie.Need-table-requires
-table-requires c κs = search needs
 
 lines-requires : tie.Need-lines-requires
 lines-requires c κs = search needs
@@ -40,7 +37,7 @@ standing-total-requires c κs =
     let w = c .before .before .before .before in
     let p = st (w .before) .pre in
     let a = standing-asks (p .given) (p .prepared) (p .given .good-start) (liks-here (p .given) (p .prepared) (w .write-likelihoods .ensures)) in
-    ((w .before .before .before .before .table .ensures, a .0), a .1)
+    ((w .before .before .before .lines .ensures, a .0), a .1)
 
 run-sweeps-requires : tie.Need-run-sweeps-requires
 run-sweeps-requires c κs =
@@ -58,7 +55,7 @@ standing-total-requires-2 c κs =
     let p = st (w .before) .pre in
     let r = ran o .run-sweeps .ensures _ (begins (p .given) (p .prepared) (w .write-likelihoods .ensures)) in
     let a = standing-asks (p .given) (p .prepared) (left-good (p .given) (p .prepared) r) (r .liks) in
-    ((w .before .before .before .before .table .ensures, a .0), a .1)
+    ((w .before .before .before .lines .ensures, a .0), a .1)
 
 slice-aggregate-total : tie.Need-slice-aggregate-total
 slice-aggregate-total c = search needs
@@ -70,7 +67,7 @@ total-requires c κs =
     let p = st (w .before) .pre in
     let r = ran o .run-sweeps .ensures _ (begins (p .given) (p .prepared) (w .write-likelihoods .ensures)) in
     let k = known (p .given .given) in
-    ((w .before .before .before .before .table .ensures, k .sized .f-top), total-asks (p .given) (p .prepared) _ (left-good (p .given) (p .prepared) r) (omega (arith, k .sized .n-top, o .ones .ensures .0)))
+    ((w .before .before .before .lines .ensures, k .sized .f-top), total-asks (p .given) (p .prepared) _ (left-good (p .given) (p .prepared) r) (omega (arith, k .sized .n-top, o .ones .ensures .0)))
 
 same-length : tie.Need-same-length
 same-length c = search needs
@@ -102,7 +99,6 @@ pub run-prepared-spec : {M : Type 1} → statement M
 run-prepared-spec =
     tie.close
     (tie.spec
-    table-requires
     lines-requires
     write-likelihoods-requires
     standing-total-requires

@@ -1,4 +1,4 @@
--- `call_genotypes::score::call_gaps` meets its contract: the distance is that of the likelihoods that stand, and its allele's turn more. Assumes nothing.
+-- `call_genotypes::score::call_mixes` meets its contract: the distance is that of the likelihoods that stand, and its allele's turn more. Assumes nothing.
 use mathlib.Core.Path.{_≡_, _∙_}
 use Prim.Native.Nat.{_+_, _*_, _≤_, _^_}
 use native.Mathlib.Omega.{arith}
@@ -11,10 +11,10 @@ use mir.Facts.{toZ-ofZ}
 use Rattle.steps.proofs.Signed.{read-back}
 use Rattle.variants_and_fragments.specs.Pileup.{Row}
 use Rattle.pileup.specs.Packed.{rowFrom}
-use Rattle.call_genotypes.specs.Scores.{rowGap, rowGaps}
-use Rattle.call_genotypes.proofs.Sizes.{qual-size, other-size, row-gap-size, distance-size}
-use Rattle.call_genotypes.proofs.score.call_gaps.Statement.{statement}
-use Rattle.call_genotypes.proofs.score.call_gaps.Tie as tie
+use Rattle.call_genotypes.specs.Scores.{rowGap, rowMixes}
+use Rattle.call_genotypes.proofs.Sizes.{distance-size}
+use Rattle.call_genotypes.proofs.score.call_mixes.Statement.{statement}
+use Rattle.call_genotypes.proofs.score.call_mixes.Tie as tie
 
 abbrev st : tie.After-struct-told2 → tie.Start
 st c = c .before .before .before
@@ -31,10 +31,10 @@ other c = let f : SFits w64 (st c .args .row .«one_minus_qual») = search needs
 
 -- their gap
 gap-is : (c : tie.After-gap) → toZ w64 (ofZ w64 (c .gap .result)) ≡ rowGap (row (st (c .before)))
-gap-is c = cc (read-back w64 _ (c .gap .ok), qual (c .before), other (c .before))
+gap-is c = cc (read-back w64 _ (c .gap .ok), c .gap .ensures .0, qual (c .before), other (c .before))
 
-gap-small : (c : tie.After-gap) → natAbs (toZ w64 (ofZ w64 (c .gap .result))) ≤ 2 ^ 19
-gap-small c = rw (gap-is c) (row-gap-size (st (c .before) .pre .1 .0))
+gap-small : (c : tie.After-gap) → natAbs (toZ w64 (ofZ w64 (c .gap .result))) ≤ 262144
+gap-small c = rw (read-back w64 _ (c .gap .ok)) (c .gap .ensures .1)
 
 abbrev at : tie.After-gap → tie.Start
 at c = st (c .before)
@@ -61,33 +61,32 @@ distance-is : (c : tie.After-distance) → let l = c .before .before in
 distance-is c = read-back w64 _ (c .distance .ok) ∙ c .distance .ensures
 
 gap-requires : tie.Need-gap-requires
-gap-requires c κs = (rw (qual c) (qual-size (st c .pre .1 .0)), rw (other c) (other-size (st c .pre .1 .0)))
+gap-requires c κs = (rw (qual c) (st c .pre .1 .0 .qual-in), rw (other c) (st c .pre .1 .0 .one-minus-qual-in))
 
 turned-requires : tie.Need-turned-requires
-turned-requires c κs = let g = c .before .before in (omega (arith, at g .pre .1 .0 .allele-in), at g .pre .1 .1 .1 _, gap-small g)
+turned-requires c κs = let g = c .before .before in (omega (arith, at g .pre .1 .0 .allele-in), at g .pre .1 .1 .1 _, omega (arith, gap-small g))
 
 distance-requires : tie.Need-distance-requires
 distance-requires c κs = (first-small (c .before), second-small (c .before .before), turned-small c)
 
-gaps-of-requires : tie.Need-gaps-of-requires
-gaps-of-requires c κs =
+mixes-of-requires : tie.Need-mixes-of-requires
+mixes-of-requires c κs =
     let l = c .before .before in
     let b = l .before in (
       at (b .before) .pre .0,
-      second-small b,
       rw (distance-is c) (distance-size (toZ w64 (ofZ w64 (l .likelihood-at2 .result))) (toZ w64 (ofZ w64 (b .likelihood-at .result))) (toZ w64 (ofZ w64 (c .before .turned .result))) (first-small l) (second-small b) (turned-small (c .before))),
       gap-small (b .before),
     )
 
 returns : tie.Need-returns
-unfolding rowGaps
+unfolding rowMixes
 returns c w =
     let t = c .before .before in
     let b = t .before .before in
-    c .gaps-of .ensures w ∙ cc (second-is b, gap-is (b .before), distance-is (c .before), first-is (t .before), read-back w64 _ (t .turned .ok), t .turned .ensures .0)
+    c .mixes-of .ensures w ∙ cc (second-is b, gap-is (b .before), distance-is (c .before), first-is (t .before), read-back w64 _ (t .turned .ok), t .turned .ensures .0)
 
-pub call-gaps-spec : {M : Type 1} → statement M
-call-gaps-spec =
+pub call-mixes-spec : {M : Type 1} → statement M
+call-mixes-spec =
     tie.close
     (tie.spec
     (λ c. search needs)
@@ -97,5 +96,5 @@ call-gaps-spec =
     (λ c κs. search needs)
     turned-requires
     distance-requires
-    gaps-of-requires
+    mixes-of-requires
     returns)
