@@ -86,17 +86,22 @@ module _ (C : SweepCase) (g : GoodSweepCase C) (o : ℕ → List ℕ) (ok : (s :
       pub within : r .sweeps ≤ s + f
       pub used-up : T (not (r .settled)) → r .sweeps ≡ s + f
 
-    stop-here : (f s : ℕ) → T (sameHaps (after C o h s) (after C o h (suc s))) → Goes (suc f) s (record { sweeps = suc s; settled = true; haps = after C o h (suc s) })
-    stop-here f s t = record {
+    -- the run ends with the sweep after s: settled where it changed nothing, and else at the limit only
+    stop-here : (f s : ℕ) (settled : Bool) → settled ≡ sameHaps (after C o h s) (after C o h (suc s)) → (T (not settled) → f ≡ 0)
+        → Goes (suc f) s (record { sweeps = suc s; settled = settled; haps = after C o h (suc s) })
+    stop-here f s settled e z = record {
       last = s;
       from = omega arith;
       counted = refl;
       reached = refl;
-      quiet = sym (is-true _ t);
+      quiet = e;
       earlier = λ q a b. absurd (omega arith);
       within = omega arith;
-      used-up = λ u. absurd u;
+      used-up = λ u. omega (arith, z u);
     }
+
+    settle-here : (f s : ℕ) → T (sameHaps (after C o h s) (after C o h (suc s))) → Goes (suc f) s (record { sweeps = suc s; settled = true; haps = after C o h (suc s) })
+    settle-here f s t = stop-here f s true (sym (is-true _ t)) (λ u. absurd u)
 
     go-on : (f s : ℕ) (r : RunResult) → T (not (sameHaps (after C o h s) (after C o h (suc s)))) → Goes f (suc s) r → Goes (suc f) s r
     go-on f s r t b = record {
@@ -116,18 +121,8 @@ module _ (C : SweepCase) (g : GoodSweepCase C) (o : ℕ → List ℕ) (ok : (s :
 
     goes : (f s : ℕ) → Goes (suc f) s (run C o (suc f) s (after C o h s))
     unfolding run after
-    goes zero s = cond-ind (Goes 1 s) (sameHaps (after C o h s) (after C o h (suc s))) _ _ (stop-here 0 s)
-        (λ t. record {
-          last = s;
-          from = omega arith;
-          counted = refl;
-          reached = refl;
-          quiet = sym (is-false _ t);
-          earlier = λ q a b. absurd (omega arith);
-          within = omega arith;
-          used-up = λ u. omega arith;
-        })
-    goes (suc f) s = cond-ind (Goes (suc (suc f)) s) (sameHaps (after C o h s) (after C o h (suc s))) _ _ (stop-here (suc f) s)
+    goes zero s = cond-ind (Goes 1 s) (sameHaps (after C o h s) (after C o h (suc s))) _ _ (settle-here 0 s) (λ t. stop-here 0 s false (sym (is-false _ t)) (λ u. refl))
+    goes (suc f) s = cond-ind (Goes (suc (suc f)) s) (sameHaps (after C o h s) (after C o h (suc s))) _ _ (settle-here (suc f) s)
         (λ t. go-on (suc f) s _ t (goes f (suc s)))
 
     pub ends : (limit : ℕ) → 1 ≤ limit → Ends C o limit h (run C o limit 0 h)

@@ -12,7 +12,7 @@ use lib.ListN.{length}
 use lib.IntN.{ℤ, pos, _+ℤ_}
 use lib.Signed.{_≤ℤ_, _<ℤ_}
 use Rattle.variants_and_fragments.specs.Case.{Call, risingFrom, rising}
-use Rattle.variants_and_fragments.specs.Accepted.{allb as allOf}
+use Rattle.variants_and_fragments.specs.Accepted.{allb}
 use Rattle.variants_and_fragments.specs.Sums.{sumOver, sumTo, countTo}
 use Rattle.variants_and_fragments.proofs.Bools.{T-not, which, cond-yes}
 use Rattle.sweeps.specs.Sweeps.{SweepCase, allele0, allele1, putPair, hasCall, readShare, perCall, totalOf, withOwn, scoreWith, score, bestPair, visit, phasedTotal, pairNumber, phasedCount, GoodSweepCase, GoodHaps}
@@ -71,7 +71,7 @@ module _ (C : SweepCase) where
   pub rest : List ℕ → ℕ → ℤ
   rest h v = sumTo (C .n) (less v (prior-at h)) +ℤ sumOver (C .frags) (λ cs. cond (hasCall v cs) (pos 0) (readShare C (C .phased) h cs))
 
-  module _ (h : List ℕ) (v i j : ℕ) (l : 2 * v + 1 < length h) (p : T (C .phased v)) (rise : T (allOf rising (C .frags))) where
+  module _ (h : List ℕ) (v i j : ℕ) (l : 2 * v + 1 < length h) (p : T (C .phased v)) (rise : T (allb rising (C .frags))) where
     priors-rest : sumTo (C .n) (less v (prior-at (putPair h v i j))) ≡ sumTo (C .n) (less v (prior-at h))
     unfolding prior-at
     priors-rest = sumTo-cong (C .n) _ _ (λ w k. go w (which (eqb w v)))
