@@ -1,23 +1,23 @@
 -- The model's small parts: tests, pairs of haplotypes, sums and likelihoods. Assumes nothing.
-use mathlib.Core.Path.{_≡_, refl, sym, ap, _∙_, subst}
+use mathlib.Core.Path.{_≡_, refl, ap, _∙_, subst}
 use mathlib.Core.Logic.{_≢_, _⊎_, inl, inr}
 use mathlib.Core.Bool.{Bool, true, false, not, cond, _&&_, _||_}
 use mathlib.Core.List.{List, [], _∷_}
-use Prim.Native.Nat.{ℕ, zero, suc, _+_, _*_, _/_, _%_, _<_, _≤_}
+use Prim.Native.Nat.{ℕ, zero, suc, _+_, _*_, _<_, _≤_}
 use native.Mathlib.Omega.{arith}
 use lib.Dec.{T, eqb, ltb, leb, leb→le, eqb→eq, eqb-refl, ltb→lt, nltb→le}
-use lib.ListN.{length, getD, set, length-set}
+use lib.ListN.{length, set, length-set}
 use lib.Seq.{getD-set-same, getD-set-other, set-getD}
 use lib.IntN.{ℤ, pos, _+ℤ_, +ℤ-idl, +ℤ-idr}
 use borrow.Author.Tests.{ne-eqb}
-use Rattle.variants_and_fragments.specs.Case.{Call, risingFrom, rising}
+use Rattle.variants_and_fragments.specs.Case.{Call, risingFrom}
 use Rattle.variants_and_fragments.specs.Accepted.{allb}
 use Rattle.variants_and_fragments.specs.Sums.{sumOver, sumTo, countTo}
 use Rattle.variants_and_fragments.proofs.Sums.{sumTo-cong, countTo-cong}
 pub use Rattle.variants_and_fragments.proofs.Sums.{sumOver-cong}
 use Rattle.variants_and_fragments.proofs.Bools.{T-not, is-true, which, cond-yes, cond-no}
 use Rattle.sweeps.specs.Sweeps.{SweepCase, allele0, allele1, putPair, sameHaps, callTerm, likelihood, hasCall, readShare, perCall}
-use Rattle.steps.proofs.Signed.{up, dn, parts-add, up-pos, dn-pos, up-add, dn-add, zlin}
+use Rattle.steps.proofs.Signed.{parts-add, zlin}
 
 -- ---- tests
 pub cond-under : {A : Type 0} (b : Bool) {x x' : A} (y : A) → (T b → x ≡ x') → cond b x y ≡ cond b x' y

@@ -1,22 +1,21 @@
 -- Demand 3 of every accepted run: 9 × the phased total less the sum of the phased pairs' row-major numbers rises at each change of a
 -- phased pair, and a sweep that changes unphased pairs alone is followed by one that changes nothing. Assumes nothing.
-use mathlib.Core.Path.{_≡_, refl, sym, ap, _∙_, subst}
+use mathlib.Core.Path.{_≡_, refl, sym, ap}
 use mathlib.Core.Logic.{_⊎_, inl, inr}
-use mathlib.Core.Bool.{Bool, true, false, not, cond, _||_}
-use mathlib.Core.List.{List, [], _∷_}
-use Prim.Native.Nat.{ℕ, zero, suc, _+_, _*_, _%_, _<_, _≤_}
+use mathlib.Core.Bool.{Bool, true, false, not, cond}
+use mathlib.Core.List.{List}
+use Prim.Native.Nat.{ℕ, zero, suc, _+_, _*_, _<_, _≤_}
 use native.Mathlib.Omega.{arith}
-use native.Mathlib.Nat.{mod-lt, eq-or-lt-of-le, div-add-mod'}
+use native.Mathlib.Nat.{eq-or-lt-of-le, div-add-mod'}
 use lib.Arith.{digits-lt, digits-div, digits-mod}
-use lib.Dec.{T, eqb}
-use lib.ListN.{length, getD}
+use lib.Dec.{T}
 use lib.IntN.{ℤ, pos, negℤ, _+ℤ_, _-ℤ_, _*ℤ_}
-use lib.Signed.{_≤ℤ_, _<ℤ_, ≤ℤ-refl}
+use lib.Signed.{_≤ℤ_, ≤ℤ-refl}
 use Rattle.variants_and_fragments.proofs.Bools.{T-not, is-true, is-false}
-use Rattle.shuffle.specs.Permutation.{Permutation, member, times}
+use Rattle.shuffle.specs.Permutation.{Permutation, member}
 use Rattle.shuffle.proofs.Times.{times-member}
 use Rattle.genotype_probs.specs.Posteriors.{FirstMaximum}
-use Rattle.sweeps.specs.Sweeps.{SweepCase, RunResult, allele0, allele1, sameHaps, scoreWith, score, bestPair, visit, sweep, run, phasedTotal, pairNumber, phasedCount, GoodSweepCase, GoodHaps}
+use Rattle.sweeps.specs.Sweeps.{SweepCase, RunResult, allele0, allele1, sameHaps, scoreWith, score, bestPair, sweep, run, phasedTotal, pairNumber, phasedCount, GoodSweepCase, GoodHaps}
 use Rattle.sweeps.specs.Demand3.{after, Stands, Ends, Demand3}
 use Rattle.sweeps.proofs.Basics.{cond-ind, same-eq, same-refl, countTo-le}
 use Rattle.steps.proofs.Signed.{up, dn, up-pos, dn-pos, parts-add, neg-up, neg-dn, parts-times, zlin}
