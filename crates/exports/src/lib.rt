@@ -2,13 +2,13 @@
 // nothing of its caller but what no contract can say: true lengths, and no overlap (capi/condorbed.h).
 // One file an operation. A new one joins with its file here, its promise in specs/Promises.antt, its law in
 // proofs/Promised.antt, and its lines in each file of capi/.
-pub mod answers;
-pub mod check;
-pub mod filter;
-pub mod flist;
-pub mod inputs;
-pub mod nohap;
-pub mod orders;
-pub mod phase;
-pub mod priors;
-pub mod round;
+mod answers;
+mod check;
+mod filter;
+mod flist;
+mod inputs;
+mod nohap;
+mod orders;
+mod phase;
+mod priors;
+mod round;

@@ -9,7 +9,7 @@ use Rattle.variants_and_fragments.specs.declared.Sizes.{Sizes}
 use Rattle.variants_and_fragments.specs.Accepted.{CaseIn, BasesIn}
 use Rattle.variants_and_fragments.proofs.Decoded.{tabulate-length, tabulate-at}
 use Rattle.genotype_probs.specs.declared.Rates.{Rates}
-use Rattle.genotype_probs.specs.Places.{AllelesIn, TableIn}
+use Rattle.genotype_probs.specs.PriorInputs.{AllelesIn, TableIn}
 use Rattle.genotype_probs.specs.Priors.{tableEntry, priorTable}
 use Rattle.genotype_probs.specs.Rates.{ratesFault}
 use Rattle.genotype_probs.proofs.PriorBounds.{entry-down}

@@ -15,7 +15,7 @@ use Rattle.variants_and_fragments.proofs.AlleleBytes.{off-on, off-le}
 use Rattle.variants_and_fragments.specs.Decode.{alleleStart, alleleAt, variantFrom, decode}
 use Rattle.variants_and_fragments.proofs.Decoded.{tabulate-length, tabulate-at, variant-is}
 use Rattle.genotype_probs.specs.Priors.{lookup, getPrior, allPriors, priorAt}
-use Rattle.genotype_probs.specs.Places.{AllelesIn}
+use Rattle.genotype_probs.specs.PriorInputs.{AllelesIn}
 
 -- ---- where they start
 pub start-first : (w : List ℤ) (v : ℕ) → alleleStart w v 0 ≡ allelesStart w v

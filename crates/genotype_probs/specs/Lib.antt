@@ -1,7 +1,7 @@
 pub mod Rates
 pub mod Letters
 pub mod Priors
-pub mod Places
+pub mod PriorInputs
 pub mod Answers
 pub mod Posteriors
 pub mod Normalized

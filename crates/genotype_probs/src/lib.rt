@@ -12,9 +12,9 @@ use variants_and_fragments::Sizes;
 use variants_and_fragments::check_case;
 
 pub mod case_priors;
-pub mod letters;
+mod letters;
 pub mod posteriors;
-pub mod priors;
+mod priors;
 pub mod table;
 
 // The rates from which the priors are made.

@@ -10,7 +10,7 @@ ghost use Rattle.variants_and_fragments.specs.Alleles.{VariantsIn, allelesStart
 ghost use Rattle.variants_and_fragments.specs.Decode.{alleleStart, alleleAt, variantFrom, decode};
 ghost use Rattle.variants_and_fragments.specs.Written.{writtenFrom, written};
 ghost use Rattle.genotype_probs.specs.Priors.{lnHalf, tableValue, lookup, getPrior, allPriors, priorAt};
-ghost use Rattle.genotype_probs.specs.Places.{TableIn, AllelesIn};
+ghost use Rattle.genotype_probs.specs.PriorInputs.{TableIn, AllelesIn};
 use crate::letters::compare;
 use crate::letters::letter_of;
 use crate::table::ln_half;

@@ -5,8 +5,8 @@ use mathlib.Core.Bool.{true}
 use mathlib.Core.List.{List}
 use Prim.Native.Nat.{ℕ, _*_, _≤_, _<_}
 use native.Mathlib.Omega.{arith}
-use native.Mathlib.Decide.{decLt, decLe, ℕ-discrete}
-use borrow.Author.Tests.{lt-ltb, le-ltb, eq-eqb, ne-eqb, lt-leb}
+use native.Mathlib.Decide.{decLt, ℕ-discrete}
+use borrow.Author.Tests.{lt-ltb, le-ltb, eq-eqb, ne-eqb}
 use lib.IntN.{ℤ}
 use lib.ListN.{length}
 use Rattle.variants_and_fragments.specs.declared.Sizes.{Sizes}

@@ -14,6 +14,7 @@ use Rattle.variants_and_fragments.specs.declared.Sizes.{Sizes}
 use Rattle.variants_and_fragments.specs.Words.{none, natOf}
 use Rattle.variants_and_fragments.specs.Layout.{genotypeAt}
 use Rattle.variants_and_fragments.specs.Accepted.{CaseIn}
+use Rattle.variants_and_fragments.proofs.Bools.{or-right}
 use Rattle.haplotype_assembly.specs.GivenPhase.{setOk, phaseFaultAt}
 
 -- a genotype's alleles are below 3
@@ -26,10 +27,6 @@ genotype-top k v (suc (suc i)) h l = absurd (omega arith)
 pub nat-top : (z : ℤ) → SFits w32 z → natOf z < none → natOf z < 2 ^ 31
 nat-top (pos n) f h = f .sfits
 nat-top (negsuc n) f h = absurd (omega arith)
-
-or-right : (a b : Bool) → b ≡ true → (a || b) ≡ true
-or-right true b e = refl
-or-right false b e = e
 
 or-left : (a b : Bool) → b ≡ false → (a || b) ≡ a
 or-left true b e = refl

@@ -17,11 +17,11 @@ use variants_and_fragments::check_case;
 use variants_and_fragments::earlier;
 use variants_and_fragments::short_of;
 
-pub mod fields;
-pub mod lines;
-pub mod numbers;
+mod fields;
+mod lines;
+mod numbers;
 pub mod phase;
-pub mod tally;
+mod tally;
 
 // What `given_phase` answers.
 pub enum Phased {

@@ -30,7 +30,7 @@ use Rattle.genotype_probs.specs.declared.posteriors.Genotype.{Genotype}
 use Rattle.genotype_probs.specs.declared.posteriors.GenotypePost.{GenotypePost}
 use Rattle.genotype_probs.specs.Posteriors.{entryAt, postOf, postAt, maxGenotype, atMostOne, maxGenotypePost, TableAt}
 use Rattle.genotype_probs.proofs.AlleleLaws.{nine}
-use Rattle.genotype_probs.proofs.ListLaws.{table-length}
+use Rattle.variants_and_fragments.proofs.Tabulated.{table-length}
 use Rattle.genotype_probs.proofs.Maxima.{genotype-maximum}
 use Rattle.genotype_probs.proofs.TableSums.{tabulate-cong, place-in, pair-in}
 use Rattle.genotype_probs.proofs.SameTables.{post-same, genotype-same}

@@ -1,7 +1,7 @@
 -- The counts of a variant: those of both strands are those of the allele, those of the alleles and the ambiguous ones are all its calls.
 -- Assumes nothing.
-use mathlib.Core.Path.{_≡_, refl, ap}
-use mathlib.Core.Bool.{Bool, true, false, not, _&&_, and-false}
+use mathlib.Core.Path.{_≡_, refl, ap, _∙_}
+use mathlib.Core.Bool.{Bool, not, _&&_, and-false}
 use mathlib.Core.List.{List, [], _∷_, _++_, map}
 use Prim.Native.Nat.{ℕ, suc, _+_, _≤_, _<_}
 use native.Mathlib.Decide.{ℕ-discrete}
@@ -9,7 +9,7 @@ use native.Mathlib.Omega.{arith}
 use borrow.Author.Tests.{eq-eqb, ne-eqb}
 use lib.Dec.{eqb}
 use lib.IntN.{ℤ}
-use lib.ListN.{length, List·getD-eq-default}
+use lib.ListN.{length, length-append, List·getD-eq-default}
 use Rattle.steps.proofs.Signed.{by-test, cases}
 use Rattle.variants_and_fragments.specs.declared.Sizes.{Sizes}
 use Rattle.variants_and_fragments.specs.Accepted.{CaseIn}
@@ -17,31 +17,15 @@ use Rattle.variants_and_fragments.specs.Case.{Case, Call, Fragment, usable, fra
 use Rattle.variants_and_fragments.specs.Decode.{decode}
 use Rattle.variants_and_fragments.specs.Pileup.{Row, rowOf, only, usableCalls, rowsFrom, rowsOf, atVariant, pileOf, ambiguousIn, ambiguousFrom, ambiguousCount}
 use Rattle.variants_and_fragments.specs.Sums.{countOver}
-use Rattle.variants_and_fragments.proofs.Alls.{all-imp, all-map}
+use Rattle.variants_and_fragments.proofs.Alls.{all-imp, all-map, all-append}
 use Rattle.variants_and_fragments.proofs.Decoded.{fragments-are, strand-is}
 use Rattle.variants_and_fragments.proofs.GoodCases.{fragment-in}
-use Rattle.variants_and_fragments.proofs.Only.{only-all}
+use Rattle.variants_and_fragments.proofs.Only.{only-in, only-out, only-none, only-append, only-all}
 use Rattle.no_haplotypes.specs.NoHaplotypes.{rowStrand, alleleCalls, strandCalls, callsAt}
 
 -- ---- lists
-pub only-in : {X : Type 0} (p : X → Bool) (x : X) (xs : List X) → p x ≡ true → only p (x ∷ xs) ≡ x ∷ only p xs
-unfolding only
-only-in p x xs e = rw e
-
-pub only-out : {X : Type 0} (p : X → Bool) (x : X) (xs : List X) → p x ≡ false → only p (x ∷ xs) ≡ only p xs
-unfolding only
-only-out p x xs e = rw e
-
-pub only-none : {X : Type 0} (p : X → Bool) → only p [] ≡ []
-unfolding only
-only-none p = refl
-
-pub only-append : {X : Type 0} (p : X → Bool) (xs ys : List X) → length (only p (xs ++ ys)) ≡ length (only p xs) + length (only p ys)
-only-append p [] ys = rw (only-none p) (omega arith)
-only-append p (x ∷ xs) ys =
-    by-test (p x)
-    (λ t. rw (only-in p x (xs ++ ys) t, only-in p x xs t) (omega (arith, only-append p xs ys)))
-    (λ t. rw (only-out p x (xs ++ ys) t, only-out p x xs t) (only-append p xs ys))
+pub only-count : {X : Type 0} (p : X → Bool) (xs ys : List X) → length (only p (xs ++ ys)) ≡ length (only p xs) + length (only p ys)
+only-count p xs ys = ap length (only-append p xs ys) ∙ length-append (only p xs) (only p ys)
 
 only-map : {X Y : Type 0} (g : X → Y) (p : Y → Bool) (xs : List X) → length (only p (map g xs)) ≡ length (only (λ x. p (g x)) xs)
 only-map g p [] = rw (only-none p, only-none (λ x. p (g x)))
@@ -79,7 +63,7 @@ from-calls : (cutoff : ℤ) (f v : ℕ) (xs : List Fragment) → length (only (a
 unfolding rowsFrom ambiguousFrom countOver
 from-calls cutoff f v [] = rw (only-none (atVariant v)) (omega arith)
 from-calls cutoff f v (x ∷ xs) =
-    omega (arith, only-append (atVariant v) (map (rowOf f) (usableCalls cutoff x)) (rowsFrom cutoff (suc f) xs), own-calls cutoff f v x, from-calls cutoff (suc f) v xs)
+    omega (arith, only-count (atVariant v) (map (rowOf f) (usableCalls cutoff x)) (rowsFrom cutoff (suc f) xs), own-calls cutoff f v x, from-calls cutoff (suc f) v xs)
 
 -- the pile and the ambiguous calls are all calls
 pub all-calls : (case : Case) (v : ℕ) → length (pileOf case v) + ambiguousCount case v ≡ callsAt case v
@@ -137,10 +121,6 @@ module _ {case : Case} (good : GoodCase case) where
 
   call-three : (call : Call) → GoodCall (case .variants) call → call .allele < 3
   call-three call g = omega (arith, g .allele-in, good .variants-in (call .variant) (g .variant-in) .three-alleles)
-
-  all-append : {X : Type 0} {P : X → Type 0} {xs ys : List X} → All P xs → All P ys → All P (xs ++ ys)
-  all-append end q = q
-  all-append (also p ps) q = also p (all-append ps q)
 
   from-three : (f : ℕ) (xs : List Fragment) → All (GoodFragment (case .variants)) xs → All (λ (row : Row). row .call .allele < 3) (rowsFrom (case .cutoff) f xs)
   unfolding rowsFrom usableCalls

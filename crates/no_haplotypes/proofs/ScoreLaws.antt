@@ -1,7 +1,7 @@
 -- The score of a pair from the sums of one pass over the pile.
 -- Assumes nothing.
 use mathlib.Core.Path.{_≡_, refl, sym, ap, _∙_}
-use mathlib.Core.List.{List, [], _∷_}
+use mathlib.Core.List.{List}
 use Prim.Native.Nat.{ℕ, _<_}
 use native.Mathlib.Decide.{ℕ-discrete}
 use native.Mathlib.Omega.{arith}
@@ -12,16 +12,12 @@ use Rattle.steps.proofs.Signed.{by-test, zlin, parts-add, parts-minus}
 use Rattle.variants_and_fragments.specs.declared.Sizes.{Sizes}
 use Rattle.variants_and_fragments.specs.Pileup.{Row}
 use Rattle.variants_and_fragments.specs.Sums.{sumOver}
+use Rattle.variants_and_fragments.proofs.Sums.{sumOver-cong}
 use Rattle.genotype_probs.proofs.ListLaws.{sum-plus}
 use Rattle.no_haplotypes.specs.NoHaplotypes.{mixed, callScore}
 use Rattle.no_haplotypes.specs.Tally.{rowQual, bothGain, oneGain, gainAt, Tallied, pairGain}
 
 -- ---- sums
-sum-each : {X : Type 0} (xs : List X) (f g : X → ℤ) → ((x : X) → f x ≡ g x) → sumOver xs f ≡ sumOver xs g
-unfolding sumOver
-sum-each [] f g h = refl
-sum-each (x ∷ xs) f g h = rw (h x, sum-each xs f g h)
-
 plus-minus : (a b : ℤ) → a +ℤ (b -ℤ a) ≡ b
 plus-minus a b = omega (zlin, parts-add a (b -ℤ a), parts-minus b a)
 
@@ -49,9 +45,9 @@ module _ {w : List ℤ} {s : Sizes} {rows : List Row} {total : ℤ} {gains : Lis
   pub pair-is : (i j : ℕ) → i < 3 → j < 3 → pairGain total gains i j ≡ sumOver rows (λ row. callScore i j (row .call))
   unfolding pairGain
   pair-is i j h l = elim (ℕ-discrete i j) [
-    | yes e ↦ rw (← e, eq-eqb i i refl, t .total-is, t .both-are i h) (sym (sum-each rows (λ row. callScore i i (row .call)) (λ row. rowQual row +ℤ gainAt bothGain i row) (λ row. both-match row i) ∙ sum-plus rows rowQual (gainAt bothGain i)))
+    | yes e ↦ rw (← e, eq-eqb i i refl, t .total-is, t .both-are i h) (sym (sumOver-cong rows (λ row. callScore i i (row .call)) (λ row. rowQual row +ℤ gainAt bothGain i row) (λ row. both-match row i) ∙ sum-plus rows rowQual (gainAt bothGain i)))
     | no n ↦ rw (ne-eqb i j n, t .total-is, t .one-are i h, t .one-are j l)
-        (sym (sum-each rows (λ row. callScore i j (row .call)) (λ row. rowQual row +ℤ gainAt oneGain i row +ℤ gainAt oneGain j row) (λ row. one-match row i j n)
+        (sym (sumOver-cong rows (λ row. callScore i j (row .call)) (λ row. rowQual row +ℤ gainAt oneGain i row +ℤ gainAt oneGain j row) (λ row. one-match row i j n)
         ∙ sum-plus rows (λ row. rowQual row +ℤ gainAt oneGain i row) (gainAt oneGain j)
         ∙ ap (λ (z : ℤ). z +ℤ sumOver rows (gainAt oneGain j)) (sum-plus rows rowQual (gainAt oneGain i))))
   ]

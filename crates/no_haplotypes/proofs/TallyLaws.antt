@@ -20,15 +20,17 @@ use Rattle.variants_and_fragments.specs.Decode.{tabulateFrom}
 use Rattle.variants_and_fragments.specs.Layout.{strandAt}
 use Rattle.variants_and_fragments.specs.Pileup.{Row, only}
 use Rattle.variants_and_fragments.specs.Sums.{sumOver}
-use Rattle.variants_and_fragments.proofs.Only.{only-length}
+use Rattle.variants_and_fragments.proofs.Bounds.{down-abs}
+use Rattle.variants_and_fragments.proofs.Only.{only-none, only-in, only-out, only-length}
+use Rattle.variants_and_fragments.proofs.Tabulated.{table-length}
 use Rattle.pileup.specs.Packed.{rowAt, rowsAt, RowIn, RowsIn}
 use Rattle.genotype_probs.specs.Priors.{lnHalf}
-use Rattle.genotype_probs.proofs.ListLaws.{sum-last, table-length, table-last, down-abs}
+use Rattle.genotype_probs.proofs.ListLaws.{sum-last, table-last}
 use Rattle.genotype_probs.proofs.TableSizes.{by-cond}
 use Rattle.no_haplotypes.specs.declared.tally.Pile.{Pile}
 use Rattle.no_haplotypes.specs.NoHaplotypes.{mixed}
 use Rattle.no_haplotypes.specs.Tally.{pileRows, PileIn, rowQual, bothGain, oneGain, gainAt, shownOn, countPlace, CountsIn, added, CallAdded, Untouched, Tallied, SumsIn}
-use Rattle.no_haplotypes.proofs.CountLaws.{only-none, only-in, only-out, only-append}
+use Rattle.no_haplotypes.proofs.CountLaws.{only-count}
 
 -- ---- the rows, one more at a time
 pub rows-none : (words : List ℕ) (a : ℕ) → rowsAt words a a ≡ []
@@ -110,8 +112,8 @@ module _ {w : List ℤ} {s : Sizes} {rows : List Row} {total : ℤ} {gains : Lis
             let f : strandAt w s (row .fragment) ≡ strand = omega arith in
             let g : row .call .allele ≡ y = omega arith in
             let m = t .counts-long in
-            rw (e, getD-set-same counts (3 * strand + y) (getD counts (3 * strand + y) 0 + 1) 0 (omega arith), only-append p rows (row ∷ []), only-in p row [] (rw (eq-eqb (strandAt w s (row .fragment)) strand f, eq-eqb (row .call .allele) y g)), only-none p) (omega arith)
-        | no n ↦ rw (getD-set-other counts place (3 * strand + y) (getD counts place 0 + 1) 0 (λ e. n (sym e)), only-append p rows (row ∷ []), only-out p row [] (not-shown strand y (λ e f. n (omega arith))), only-none p) (omega arith)
+            rw (e, getD-set-same counts (3 * strand + y) (getD counts (3 * strand + y) 0 + 1) 0 (omega arith), only-count p rows (row ∷ []), only-in p row [] (rw (eq-eqb (strandAt w s (row .fragment)) strand f, eq-eqb (row .call .allele) y g)), only-none p) (omega arith)
+        | no n ↦ rw (getD-set-other counts place (3 * strand + y) (getD counts place 0 + 1) 0 (λ e. n (sym e)), only-count p rows (row ∷ []), only-out p row [] (not-shown strand y (λ e f. n (omega arith))), only-none p) (omega arith)
       ]
 
   pub tallied-on : {r : ℤ} {gains' : List ℤ} {counts' : List ℕ} → CallAdded w s row gains counts r gains' counts' → Tallied w s (rows ++ (row ∷ [])) (total +ℤ r) gains' counts'

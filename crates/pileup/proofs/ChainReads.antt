@@ -1,22 +1,17 @@
 -- Reading a fragment's chain from its first call on, one call at a time, gives the fragment's calls.
 -- Assumes nothing.
 use mathlib.Core.Path.{_≡_, refl}
-use mathlib.Core.List.{List, _∷_, map}
-use Prim.Native.Nat.{ℕ, zero, suc, _+_, _-_, _≤_}
+use mathlib.Core.List.{List, map}
+use Prim.Native.Nat.{ℕ, zero, suc, _+_, _-_}
 use native.Mathlib.Omega.{arith}
-use borrow.Author.Tests.{le-leb}
 use lib.IntN.{ℤ}
 use Rattle.variants_and_fragments.specs.declared.Sizes.{Sizes}
 use Rattle.variants_and_fragments.specs.Chain.{firstCallAt, nextCallAt, chainFrom, chainOf}
 use Rattle.variants_and_fragments.specs.Accepted.{FragmentIn}
 use Rattle.variants_and_fragments.specs.Decode.{callFrom, fragmentFrom}
 use Rattle.pileup.specs.Reader.{heldCall, readAt, nextAt, gather, callsRead}
-use Rattle.variants_and_fragments.proofs.Walks.{chain-end, chain-none}
+use Rattle.variants_and_fragments.proofs.Walks.{chain-end, chain-none, chain-on}
 use Rattle.pileup.proofs.Folds.{Onward, onward-start, onward-next}
-
-chain-on : (w : List ℤ) (s : Sizes) (j r : ℕ) → 1 ≤ r → r ≤ s .c → chainFrom w s (suc j) r ≡ r ∷ chainFrom w s j (nextCallAt w s r)
-unfolding chainFrom
-chain-on w s j r lo hi = simp (le-leb 1 r lo, le-leb r (s .c) hi)
 
 -- the same of what is left after k records
 reads-left : (w : List ℤ) (s : Sizes) (j k r : ℕ) → j ≡ s .c - k → Onward w s r k → callsRead w s j r ≡ map heldCall (map (callFrom w s) (chainFrom w s j r))

@@ -2,7 +2,7 @@
 -- Assumes nothing.
 use mathlib.Core.Path.{_≡_}
 use mathlib.Core.Bool.{true}
-use mathlib.Core.List.{List, [], _∷_, _++_, map}
+use mathlib.Core.List.{List, [], _∷_, map}
 use Prim.Native.Nat.{ℕ, zero, suc, _+_, _≤_, _<_}
 use native.Mathlib.Omega.{arith}
 use lib.Dec.{lit<}
@@ -14,16 +14,12 @@ use Rattle.variants_and_fragments.specs.Chain.{chainOf}
 use Rattle.variants_and_fragments.specs.Accepted.{allb, CallIn, CaseIn}
 use Rattle.variants_and_fragments.specs.Decode.{tabulateFrom, callFrom, fragmentFrom}
 use Rattle.variants_and_fragments.specs.Pileup.{rowOf, usableCalls, rowsFrom}
-use Rattle.variants_and_fragments.proofs.Alls.{all-map}
+use Rattle.variants_and_fragments.proofs.Alls.{all-map, all-append}
 use Rattle.variants_and_fragments.proofs.Bools.{both}
 use Rattle.variants_and_fragments.proofs.Decoded.{debt-down}
 use Rattle.variants_and_fragments.proofs.Only.{only-all}
 use Rattle.variants_and_fragments.proofs.Records.{call-facts}
 use Rattle.pileup.specs.Packed.{RowIn}
-
-all-append : {X : Type 0} {P : X → Type 0} {xs ys : List X} → All P xs → All P ys → All P (xs ++ ys)
-all-append end q = q
-all-append (also p ps) q = also p (all-append ps q)
 
 module _ {w : List ℤ} {s : Sizes} (k : CaseIn w s) where
   pub row-in : (f r : ℕ) → f < s .f → CallIn w s r → RowIn (s .n) (s .f) (rowOf f (callFrom w s r))

@@ -1,9 +1,9 @@
 // The text of the request stream: tokens read from standard input, numbers and lines written to standard output.
-pub mod float;
+mod float;
 pub mod input;
 pub mod number;
 pub mod output;
-pub mod print;
+mod print;
 
 // The bytes of a buffer, as `io::large_buffer` makes it.
 pub const BUFFER_BYTES: usize = 65536;

@@ -11,7 +11,7 @@ ghost use Rattle.steps.specs.Logs.{mark, steps, lnAddExp, lnSumExp, logO
 ghost use Rattle.steps.specs.OneMinus.{lnOneMinusExp};
 ghost use Rattle.steps.specs.Probs.{half, quarter, Known, lnOf};
 
-pub mod addend;
+mod addend;
 mod knots;
 mod lines;
 pub mod logs;

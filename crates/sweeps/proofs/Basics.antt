@@ -1,22 +1,23 @@
 -- The model's small parts: tests, pairs of haplotypes, sums and likelihoods. Assumes nothing.
-use mathlib.Core.Path.{_≡_, refl, sym, ap, _∙_, subst}
+use mathlib.Core.Path.{_≡_, refl, ap, _∙_, subst}
 use mathlib.Core.Logic.{_≢_, _⊎_, inl, inr}
 use mathlib.Core.Bool.{Bool, true, false, not, cond, _&&_, _||_}
 use mathlib.Core.List.{List, [], _∷_}
-use Prim.Native.Nat.{ℕ, zero, suc, _+_, _*_, _/_, _%_, _<_, _≤_}
+use Prim.Native.Nat.{ℕ, zero, suc, _+_, _*_, _<_, _≤_}
 use native.Mathlib.Omega.{arith}
 use lib.Dec.{T, eqb, ltb, leb, leb→le, eqb→eq, eqb-refl, ltb→lt, nltb→le}
-use lib.ListN.{length, getD, set, length-set}
+use lib.ListN.{length, set, length-set}
 use lib.Seq.{getD-set-same, getD-set-other, set-getD}
 use lib.IntN.{ℤ, pos, _+ℤ_, +ℤ-idl, +ℤ-idr}
 use borrow.Author.Tests.{ne-eqb}
-use Rattle.variants_and_fragments.specs.Case.{Call, risingFrom, rising}
-use Rattle.variants_and_fragments.specs.Accepted.{allb as allOf}
+use Rattle.variants_and_fragments.specs.Case.{Call, risingFrom}
+use Rattle.variants_and_fragments.specs.Accepted.{allb}
 use Rattle.variants_and_fragments.specs.Sums.{sumOver, sumTo, countTo}
 use Rattle.variants_and_fragments.proofs.Sums.{sumTo-cong, countTo-cong}
+pub use Rattle.variants_and_fragments.proofs.Sums.{sumOver-cong}
 use Rattle.variants_and_fragments.proofs.Bools.{T-not, is-true, which, cond-yes, cond-no}
 use Rattle.sweeps.specs.Sweeps.{SweepCase, allele0, allele1, putPair, sameHaps, callTerm, likelihood, hasCall, readShare, perCall}
-use Rattle.steps.proofs.Signed.{up, dn, parts-add, up-pos, dn-pos, up-add, dn-add, zlin}
+use Rattle.steps.proofs.Signed.{parts-add, zlin}
 
 -- ---- tests
 pub cond-under : {A : Type 0} (b : Bool) {x x' : A} (y : A) → (T b → x ≡ x') → cond b x y ≡ cond b x' y
@@ -100,15 +101,10 @@ unfolding putPair
 put-self h v = rw (set-getD h (2 * v) 0, set-getD h (2 * v + 1) 0)
 
 -- ---- sums
-pub sumOver-cong : {A : Type 0} (fs : List A) (f g : A → ℤ) → ((x : A) → f x ≡ g x) → sumOver fs f ≡ sumOver fs g
-unfolding sumOver
-sumOver-cong [] f g e = refl
-sumOver-cong (x ∷ xs) f g e = cc (sumOver-cong xs f g e, e x)
-
-pub sumOver-cong-of : {A : Type 0} (b : A → Bool) (fs : List A) (f g : A → ℤ) → T (allOf b fs) → ((x : A) → T (b x) → f x ≡ g x) → sumOver fs f ≡ sumOver fs g
-unfolding sumOver allOf
+pub sumOver-cong-of : {A : Type 0} (b : A → Bool) (fs : List A) (f g : A → ℤ) → T (allb b fs) → ((x : A) → T (b x) → f x ≡ g x) → sumOver fs f ≡ sumOver fs g
+unfolding sumOver allb
 sumOver-cong-of b [] f g t e = refl
-sumOver-cong-of b (x ∷ xs) f g t e = cc (sumOver-cong-of b xs f g (and-r (b x) (allOf b xs) t) e, e x (and-l (b x) (allOf b xs) t))
+sumOver-cong-of b (x ∷ xs) f g t e = cc (sumOver-cong-of b xs f g (and-r (b x) (allb b xs) t) e, e x (and-l (b x) (allb b xs) t))
 
 -- a rising fragment has one call at v at most
 no-call : (v b : ℕ) (cs : List Call) (x : ℤ) → v < b → T (risingFrom b cs) → (hasCall v cs ≡ false) × (perCall v cs x ≡ pos 0)
@@ -216,14 +212,3 @@ pub mixed-cong : (C : SweepCase) (m m' : ℕ → Bool) (h h' : List ℕ) (cs : L
     → ((w : ℕ) → T (hasCall w cs) → T (m w) → allele1 h w ≡ allele1 h' w) → readShare C m h cs ≡ readShare C m' h' cs
 unfolding readShare
 mixed-cong C m m' h h' cs e f g = cc (lik-cong m m' (allele0 h) (allele0 h') cs e f, lik-cong m m' (allele1 h) (allele1 h') cs e g)
-
--- ---- bounds, for what has to fit an i64
-pub sumTo-up : (m B : ℕ) (f : ℕ → ℤ) → ((w : ℕ) → w < m → up (f w) ≤ B) → up (sumTo m f) ≤ m * B
-unfolding sumTo
-sumTo-up zero B f e = omega (arith, up-pos 0)
-sumTo-up (suc m) B f e = omega (arith, sumTo-up m B f (λ w l. e w (omega arith)), e m (omega arith), up-add (sumTo m f) (f m))
-
-pub sumTo-dn : (m B : ℕ) (f : ℕ → ℤ) → ((w : ℕ) → w < m → dn (f w) ≤ B) → dn (sumTo m f) ≤ m * B
-unfolding sumTo
-sumTo-dn zero B f e = omega (arith, dn-pos 0)
-sumTo-dn (suc m) B f e = omega (arith, sumTo-dn m B f (λ w l. e w (omega arith)), e m (omega arith), dn-add (sumTo m f) (f m))

@@ -1,14 +1,14 @@
 -- A pair's score from the four values of each call summed per allele: one pass over the pile, whatever k.
 -- Assumes nothing.
-use mathlib.Core.Path.{_≡_, refl, sym, ap, _∙_}
+use mathlib.Core.Path.{_≡_, refl}
 use mathlib.Core.Bool.{Bool, true, false, cond}
 use mathlib.Core.List.{List, [], _∷_}
 use Prim.Native.Nat.{ℕ, zero, suc, _+_, _<_}
 use native.Mathlib.Omega.{arith}
 use lib.Dec.{eqb}
 use lib.IntN.{ℤ, pos, _+ℤ_, +ℤ-idl, +ℤ-idr}
-use Rattle.steps.proofs.Signed.{up, dn, up-pos, dn-pos, parts-add, zlin}
-use Rattle.variants_and_fragments.specs.Case.{Call, All, end, also}
+use Rattle.steps.proofs.Signed.{parts-add, zlin}
+use Rattle.variants_and_fragments.specs.Case.{All, end, also}
 use Rattle.variants_and_fragments.specs.Pileup.{Row}
 use Rattle.variants_and_fragments.specs.Sums.{sumOver}
 use Rattle.sweeps.specs.Sweeps.{SweepCase, callTerm, allele0, allele1}

@@ -1,21 +1,20 @@
 -- From the model to the code: likelihoods by one call's change, sums by an index, the change flag. Assumes nothing.
-use mathlib.Core.Path.{_≡_, refl, sym, ap, _∙_, subst}
+use mathlib.Core.Path.{_≡_, refl, sym, ap, _∙_}
 use mathlib.Core.Logic.{_≢_, _⊎_, inl, inr}
-use mathlib.Core.Bool.{Bool, true, false, not, cond, _||_, _&&_}
+use mathlib.Core.Bool.{Bool, true, false, not, cond, _||_}
 use mathlib.Core.List.{List, [], _∷_}
-use Prim.Native.Nat.{ℕ, zero, suc, _+_, _*_, _<_, _≤_}
-use native.Mathlib.Omega.{arith}
+use Prim.Native.Nat.{ℕ, zero, suc, _+_, _<_}
 use lib.Dec.{T, eqb, eqb→eq, eqb-refl}
 use lib.ListN.{length, getD}
-use lib.IntN.{ℤ, pos, _+ℤ_, +ℤ-idl, +ℤ-idr, +ℤ-comm}
+use lib.IntN.{ℤ, pos, _+ℤ_, +ℤ-idl, +ℤ-comm}
 use Rattle.variants_and_fragments.specs.Case.{Call}
 use Rattle.variants_and_fragments.specs.Sums.{sumOver, sumTo}
 use Rattle.variants_and_fragments.proofs.Bools.{T-not, not-T, is-true, is-false, which}
 use Rattle.shuffle.specs.Permutation.{member}
-use Rattle.sweeps.specs.Sweeps.{SweepCase, allele0, allele1, putPair, sameHaps, callTerm, likelihood, hasCall, bestPair, visit, sweep, GoodSweepCase, GoodHaps}
+use Rattle.sweeps.specs.Sweeps.{SweepCase, allele0, allele1, sameHaps, callTerm, likelihood, visit, sweep, GoodSweepCase, GoodHaps}
 use Rattle.sweeps.specs.Incremental.{termAt, changed, distinct}
 use Rattle.sweeps.proofs.Basics.{or-l, or-r, or-cases, and-l, and-r, eqb-no, at0-other, at1-other, same-eq, same-refl}
-use Rattle.steps.proofs.Signed.{up-pos, dn-pos, parts-add, zlin}
+use Rattle.steps.proofs.Signed.{parts-add, zlin}
 use Rattle.sweeps.proofs.Visit.{visit-good, visit-at0, visit-at1, fixed-stays}
 
 -- ---- likelihoods: with v at a' v, from those with v at a v

@@ -6,7 +6,7 @@ use Prim.Native.Nat.{ℕ, suc}
 use lib.Dec.{eqb}
 use lib.IntN.{ℤ}
 use Rattle.variants_and_fragments.specs.Case.{Case, Call, Fragment}
-use Rattle.variants_and_fragments.specs.Pileup.{only, Row, rowOf, usableCalls, rowsFrom, rowsOf, atVariant, pileOf}
+use Rattle.variants_and_fragments.specs.Pileup.{only, rowOf, usableCalls, rowsFrom, rowsOf, atVariant, pileOf}
 use Rattle.variants_and_fragments.proofs.Only.{only-append}
 use Rattle.sweeps.specs.Incremental.{rowsIn, pileupFrom}
 

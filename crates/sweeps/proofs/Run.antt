@@ -1,22 +1,21 @@
 -- Demand 3 of every accepted run: 9 × the phased total less the sum of the phased pairs' row-major numbers rises at each change of a
 -- phased pair, and a sweep that changes unphased pairs alone is followed by one that changes nothing. Assumes nothing.
-use mathlib.Core.Path.{_≡_, refl, sym, ap, _∙_, subst}
+use mathlib.Core.Path.{_≡_, refl, sym, ap}
 use mathlib.Core.Logic.{_⊎_, inl, inr}
-use mathlib.Core.Bool.{Bool, true, false, not, cond, _||_}
-use mathlib.Core.List.{List, [], _∷_}
-use Prim.Native.Nat.{ℕ, zero, suc, _+_, _*_, _%_, _<_, _≤_}
+use mathlib.Core.Bool.{Bool, true, false, not, cond}
+use mathlib.Core.List.{List}
+use Prim.Native.Nat.{ℕ, zero, suc, _+_, _*_, _<_, _≤_}
 use native.Mathlib.Omega.{arith}
-use native.Mathlib.Nat.{mod-lt, eq-or-lt-of-le, div-add-mod'}
+use native.Mathlib.Nat.{eq-or-lt-of-le, div-add-mod'}
 use lib.Arith.{digits-lt, digits-div, digits-mod}
-use lib.Dec.{T, eqb}
-use lib.ListN.{length, getD}
+use lib.Dec.{T}
 use lib.IntN.{ℤ, pos, negℤ, _+ℤ_, _-ℤ_, _*ℤ_}
-use lib.Signed.{_≤ℤ_, _<ℤ_, ≤ℤ-refl}
+use lib.Signed.{_≤ℤ_, ≤ℤ-refl}
 use Rattle.variants_and_fragments.proofs.Bools.{T-not, is-true, is-false}
-use Rattle.shuffle.specs.Permutation.{Permutation, member, times}
+use Rattle.shuffle.specs.Permutation.{Permutation, member}
 use Rattle.shuffle.proofs.Times.{times-member}
 use Rattle.genotype_probs.specs.Posteriors.{FirstMaximum}
-use Rattle.sweeps.specs.Sweeps.{SweepCase, RunResult, allele0, allele1, sameHaps, scoreWith, score, bestPair, visit, sweep, run, phasedTotal, pairNumber, phasedCount, GoodSweepCase, GoodHaps}
+use Rattle.sweeps.specs.Sweeps.{SweepCase, RunResult, allele0, allele1, sameHaps, scoreWith, score, bestPair, sweep, run, phasedTotal, pairNumber, phasedCount, GoodSweepCase, GoodHaps}
 use Rattle.sweeps.specs.Demand3.{after, Stands, Ends, Demand3}
 use Rattle.sweeps.proofs.Basics.{cond-ind, same-eq, same-refl, countTo-le}
 use Rattle.steps.proofs.Signed.{up, dn, up-pos, dn-pos, parts-add, neg-up, neg-dn, parts-times, zlin}
@@ -86,17 +85,22 @@ module _ (C : SweepCase) (g : GoodSweepCase C) (o : ℕ → List ℕ) (ok : (s :
       pub within : r .sweeps ≤ s + f
       pub used-up : T (not (r .settled)) → r .sweeps ≡ s + f
 
-    stop-here : (f s : ℕ) → T (sameHaps (after C o h s) (after C o h (suc s))) → Goes (suc f) s (record { sweeps = suc s; settled = true; haps = after C o h (suc s) })
-    stop-here f s t = record {
+    -- the run ends with the sweep after s: settled where it changed nothing, and else at the limit only
+    stop-here : (f s : ℕ) (settled : Bool) → settled ≡ sameHaps (after C o h s) (after C o h (suc s)) → (T (not settled) → f ≡ 0)
+        → Goes (suc f) s (record { sweeps = suc s; settled = settled; haps = after C o h (suc s) })
+    stop-here f s settled e z = record {
       last = s;
       from = omega arith;
       counted = refl;
       reached = refl;
-      quiet = sym (is-true _ t);
+      quiet = e;
       earlier = λ q a b. absurd (omega arith);
       within = omega arith;
-      used-up = λ u. absurd u;
+      used-up = λ u. omega (arith, z u);
     }
+
+    settle-here : (f s : ℕ) → T (sameHaps (after C o h s) (after C o h (suc s))) → Goes (suc f) s (record { sweeps = suc s; settled = true; haps = after C o h (suc s) })
+    settle-here f s t = stop-here f s true (sym (is-true _ t)) (λ u. absurd u)
 
     go-on : (f s : ℕ) (r : RunResult) → T (not (sameHaps (after C o h s) (after C o h (suc s)))) → Goes f (suc s) r → Goes (suc f) s r
     go-on f s r t b = record {
@@ -116,18 +120,8 @@ module _ (C : SweepCase) (g : GoodSweepCase C) (o : ℕ → List ℕ) (ok : (s :
 
     goes : (f s : ℕ) → Goes (suc f) s (run C o (suc f) s (after C o h s))
     unfolding run after
-    goes zero s = cond-ind (Goes 1 s) (sameHaps (after C o h s) (after C o h (suc s))) _ _ (stop-here 0 s)
-        (λ t. record {
-          last = s;
-          from = omega arith;
-          counted = refl;
-          reached = refl;
-          quiet = sym (is-false _ t);
-          earlier = λ q a b. absurd (omega arith);
-          within = omega arith;
-          used-up = λ u. omega arith;
-        })
-    goes (suc f) s = cond-ind (Goes (suc (suc f)) s) (sameHaps (after C o h s) (after C o h (suc s))) _ _ (stop-here (suc f) s)
+    goes zero s = cond-ind (Goes 1 s) (sameHaps (after C o h s) (after C o h (suc s))) _ _ (settle-here 0 s) (λ t. stop-here 0 s false (sym (is-false _ t)) (λ u. refl))
+    goes (suc f) s = cond-ind (Goes (suc (suc f)) s) (sameHaps (after C o h s) (after C o h (suc s))) _ _ (settle-here (suc f) s)
         (λ t. go-on (suc f) s _ t (goes f (suc s)))
 
     pub ends : (limit : ℕ) → 1 ≤ limit → Ends C o limit h (run C o limit 0 h)

@@ -1,9 +1,9 @@
 -- A score along the pileup, from the likelihoods that stand: what the code of a visit computes. Assumes nothing.
 use mathlib.Core.Path.{_≡_, refl, sym, ap, _∙_}
 use mathlib.Core.Logic.{_≢_, _⊎_, inl, inr}
-use mathlib.Core.Bool.{Bool, true, false, not, cond, _&&_, _||_}
-use mathlib.Core.List.{List, [], _∷_, _++_}
-use Prim.Native.Nat.{ℕ, zero, suc, _+_, _*_, _<_, _≤_}
+use mathlib.Core.Bool.{Bool, true, false, not, cond, _||_}
+use mathlib.Core.List.{List, [], _∷_}
+use Prim.Native.Nat.{ℕ, suc, _+_, _*_, _<_}
 use native.Mathlib.Omega.{arith}
 use native.Mathlib.Nat.{add-zero, zero-add}
 use lib.Dec.{T, eqb, eqb→eq, leb, leb→le}
@@ -12,7 +12,7 @@ use lib.IntN.{ℤ, pos, negℤ, _+ℤ_, _-ℤ_, +ℤ-idl, +ℤ-idr}
 use borrow.Author.Tests.{ne-eqb}
 use Rattle.variants_and_fragments.specs.Case.{Call, risingFrom, rising}
 use Rattle.variants_and_fragments.specs.Pileup.{Row}
-use Rattle.variants_and_fragments.specs.Accepted.{allb as allOf}
+use Rattle.variants_and_fragments.specs.Accepted.{allb}
 use Rattle.variants_and_fragments.specs.Sums.{sumOver}
 use Rattle.sweeps.specs.Sweeps.{SweepCase, allele0, allele1, putPair, callTerm, likelihood, hasCall, readShare, perCall, withOwn, scoreWith}
 use Rattle.sweeps.specs.Incremental.{termAt}
@@ -68,23 +68,23 @@ module _ (v i : ℕ) where
           one d (record { place = rw e (q .place); once = λ x. rw (e, q .once x) (+ℤ-idl x); its-own = λ a. rw (e, q .its-own a) (+ℤ-idl (callTerm d a)) })
 
 -- a sum along the pileup whose summands are known from the fragment
-pub pile-sum : (v i : ℕ) (fs : List (List Call)) (Y : Row → ℤ) (F : List Call → ℤ) → T (allOf rising fs)
+pub pile-sum : (v i : ℕ) (fs : List (List Call)) (Y : Row → ℤ) (F : List Call → ℤ) → T (allb rising fs)
     → ((j : ℕ) (c : Call) → j < length fs → ((a : ℕ) → termAt v (getD fs j []) a ≡ callTerm c a) → Y (record { fragment = i + j; call = c }) ≡ F (getD fs j []))
     → sumOver (pileupFrom v i fs) Y ≡ sumOver fs (λ cs. perCall v cs (F cs))
-unfolding sumOver pileupFrom allOf
+unfolding sumOver pileupFrom allb
 pile-sum v i [] Y F t e = refl
 pile-sum v i (cs ∷ fs) Y F t e =
     sum-append (rowsIn v i cs) (pileupFrom v (suc i) fs) Y
     ∙ cc (
-      first (at-of v i 0 cs (and-l (rising cs) (allOf rising fs) t)),
-      pile-sum v (suc i) fs Y F (and-r (rising cs) (allOf rising fs) t) (λ j c l q. let n : suc i + j ≡ i + suc j = omega arith in rw n (e (suc j) c (omega arith) q)),
+      first (at-of v i 0 cs (and-l (rising cs) (allb rising fs) t)),
+      pile-sum v (suc i) fs Y F (and-r (rising cs) (allb rising fs) t) (λ j c l q. let n : suc i + j ≡ i + suc j = omega arith in rw n (e (suc j) c (omega arith) q)),
     )
   where
     first : At v i cs → sumOver (rowsIn v i cs) Y ≡ perCall v cs (F cs)
     first (none q) = rw (q .no-place, q .no-share (F cs))
     first (one c q) = rw (q .place, q .once (F cs), +ℤ-idr) (rw add-zero at (e 0 c (omega arith) (q .its-own)))
 
-module _ (C : SweepCase) (rise : T (allOf rising (C .frags))) (v : ℕ) (h : List ℕ) (l : 2 * v + 1 < length h) (L0 L1 : ℕ → ℤ)
+module _ (C : SweepCase) (rise : T (allb rising (C .frags))) (v : ℕ) (h : List ℕ) (l : 2 * v + 1 < length h) (L0 L1 : ℕ → ℤ)
     (e0 : (f : ℕ) → f < length (C .frags) → L0 f ≡ likelihood (C .phased) (allele0 h) (getD (C .frags) f []))
     (e1 : (f : ℕ) → f < length (C .frags) → L1 f ≡ likelihood (C .phased) (allele1 h) (getD (C .frags) f [])) where
   moved : (x y o n : ℤ) → x +ℤ o ≡ y +ℤ n → x ≡ (y -ℤ o) +ℤ n

@@ -1,10 +1,9 @@
 -- A sweep: the total does not fall, and either the measure rises or no phased pair changes and every visited variant is fixed.
 -- Assumes nothing.
-use mathlib.Core.Path.{_≡_, refl, sym, ap, _∙_}
+use mathlib.Core.Path.{_≡_, refl, ap, _∙_}
 use mathlib.Core.Logic.{_⊎_, inl, inr}
-use mathlib.Core.Bool.{Bool, true, false, not, _||_}
 use mathlib.Core.List.{List, [], _∷_}
-use Prim.Native.Nat.{ℕ, zero, suc, _+_, _*_, _<_, _≤_}
+use Prim.Native.Nat.{ℕ, _<_, _≤_}
 use lib.Dec.{T, eqb, eqb→eq, eqb-refl}
 use lib.Signed.{_≤ℤ_, ≤ℤ-refl}
 use Rattle.shuffle.specs.Permutation.{member}

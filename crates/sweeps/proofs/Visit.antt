@@ -1,23 +1,23 @@
 -- One visit: the phased total moves by the score, and either the measure rises or no phased pair changes. Assumes nothing.
-use mathlib.Core.Path.{_≡_, refl, sym, ap, _∙_, subst}
+use mathlib.Core.Path.{_≡_, refl, sym, ap, _∙_}
 use mathlib.Core.Logic.{_≢_, _⊎_, inl, inr}
 use mathlib.Core.Bool.{Bool, true, false, not, cond, _||_}
-use mathlib.Core.List.{List, [], _∷_}
-use Prim.Native.Nat.{ℕ, zero, suc, _+_, _*_, _/_, _%_, _<_, _≤_}
+use mathlib.Core.List.{List}
+use Prim.Native.Nat.{ℕ, _+_, _*_, _/_, _%_, _<_, _≤_}
 use native.Mathlib.Omega.{arith}
 use native.Mathlib.Nat.{eq-or-lt-of-le, div-add-mod', mod-lt, div-lt-iff-lt-mul, mul-le-mul}
 use lib.Arith.{digits-lt, digits-div, digits-mod}
-use lib.Dec.{T, eqb, eqb→eq, eqb-refl}
+use lib.Dec.{T, eqb, eqb→eq}
 use lib.ListN.{length}
 use lib.IntN.{ℤ, pos, _+ℤ_}
-use lib.Signed.{_≤ℤ_, _<ℤ_}
-use Rattle.variants_and_fragments.specs.Case.{Call, risingFrom, rising}
-use Rattle.variants_and_fragments.specs.Accepted.{allb as allOf}
+use lib.Signed.{_≤ℤ_}
+use Rattle.variants_and_fragments.specs.Case.{Call, rising}
+use Rattle.variants_and_fragments.specs.Accepted.{allb}
 use Rattle.variants_and_fragments.specs.Sums.{sumOver, sumTo, countTo}
 use Rattle.variants_and_fragments.proofs.Bools.{T-not, which, cond-yes}
-use Rattle.sweeps.specs.Sweeps.{SweepCase, allele0, allele1, putPair, hasCall, readShare, perCall, totalOf, withOwn, scoreWith, score, bestPair, visit, phasedTotal, pairNumber, phasedCount, GoodSweepCase, GoodHaps}
+use Rattle.sweeps.specs.Sweeps.{SweepCase, allele0, allele1, putPair, hasCall, readShare, perCall, totalOf, withOwn, scoreWith, score, bestPair, visit, phasedTotal, pairNumber, GoodSweepCase, GoodHaps}
 use Rattle.variants_and_fragments.proofs.Sums.{sumTo-cong, countTo-cong}
-use Rattle.sweeps.proofs.Basics.{lt-or-ge, cond-under, or-r, or-cases, eqb-no, length-put, at0-same, at1-same, at0-other, at1-other, put-self, sumOver-cong, sumOver-cong-of, one-call, less, lessN, sumTo-split, countTo-split, countTo-le, sumOver-split, mixed-cong}
+use Rattle.sweeps.proofs.Basics.{lt-or-ge, cond-under, eqb-no, length-put, at0-same, at1-same, at0-other, at1-other, put-self, sumOver-cong, sumOver-cong-of, one-call, less, lessN, sumTo-split, countTo-split, sumOver-split, mixed-cong}
 use Rattle.steps.proofs.Signed.{up, dn, parts-add, zlin}
 use Rattle.genotype_probs.specs.Posteriors.{FirstMaximum}
 use Rattle.genotype_probs.proofs.Maxima.{meets, maximum-same}
@@ -71,7 +71,7 @@ module _ (C : SweepCase) where
   pub rest : List ℕ → ℕ → ℤ
   rest h v = sumTo (C .n) (less v (prior-at h)) +ℤ sumOver (C .frags) (λ cs. cond (hasCall v cs) (pos 0) (readShare C (C .phased) h cs))
 
-  module _ (h : List ℕ) (v i j : ℕ) (l : 2 * v + 1 < length h) (p : T (C .phased v)) (rise : T (allOf rising (C .frags))) where
+  module _ (h : List ℕ) (v i j : ℕ) (l : 2 * v + 1 < length h) (p : T (C .phased v)) (rise : T (allb rising (C .frags))) where
     priors-rest : sumTo (C .n) (less v (prior-at (putPair h v i j))) ≡ sumTo (C .n) (less v (prior-at h))
     unfolding prior-at
     priors-rest = sumTo-cong (C .n) _ _ (λ w k. go w (which (eqb w v)))

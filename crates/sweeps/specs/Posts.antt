@@ -1,11 +1,9 @@
 -- Each variant's latest posteriors, nine entries a variant in one list, as the lent slice has them. `norm k s` stands for the
 -- normalised table of the scores s of the k × k pairs, with zeros to nine. Assumes nothing.
-use mathlib.Core.Path.{_≡_}
 use mathlib.Core.List.{List, [], _∷_}
-use Prim.Native.Nat.{ℕ, zero, suc, _+_, _*_, _<_, _≤_}
-use lib.ListN.{length, getD}
+use Prim.Native.Nat.{ℕ, zero, suc, _*_}
 use lib.Seq.{sets}
-use lib.IntN.{ℤ, pos}
+use lib.IntN.{ℤ}
 use Rattle.sweeps.specs.Sweeps.{SweepCase, score, visit}
 use Rattle.sweeps.specs.Demand3.{after}
 

@@ -10,7 +10,7 @@ use lib.ListN.{length, getD, set}
 use lib.IntN.{ℤ, pos, _+ℤ_, _-ℤ_}
 use Rattle.steps.specs.Logs.{addExp}
 use Rattle.variants_and_fragments.specs.Case.{Call, rising}
-use Rattle.variants_and_fragments.specs.Accepted.{allb as allOf}
+use Rattle.variants_and_fragments.specs.Accepted.{allb}
 use Rattle.variants_and_fragments.specs.Sums.{sumOver, sumTo, countTo}
 use Rattle.genotype_probs.specs.Posteriors.{firstMaximum}
 
@@ -134,7 +134,7 @@ module _ (C : SweepCase) where
 pub record GoodSweepCase (C : SweepCase) : Type 0 where
   pub some-allele : (v : ℕ) → v < C .n → 1 ≤ C .k v
   pub three-alleles : (v : ℕ) → v < C .n → C .k v ≤ 3
-  pub rise : T (allOf rising (C .frags))
+  pub rise : T (allb rising (C .frags))
 
 pub record GoodHaps (C : SweepCase) (h : List ℕ) : Type 0 where
   pub len : length h ≡ 2 * C .n

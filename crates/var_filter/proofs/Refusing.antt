@@ -14,7 +14,7 @@ use Rattle.variants_and_fragments.specs.declared.Refusal.{Refusal}
 use Rattle.variants_and_fragments.specs.declared.Refusal.the-variants.{Short, DensityQual}
 use Rattle.variants_and_fragments.specs.declared.Checked.the-variants.{Accepted, Refused as NotAccepted}
 use Rattle.var_filter.specs.declared.Filtered.the-variants.{Done, Refused}
-use Rattle.variants_and_fragments.specs.Refusals.{done, number, place, andThen, unless, afterwards}
+use Rattle.variants_and_fragments.specs.Refusals.{done, andThen, unless, afterwards}
 use Rattle.variants_and_fragments.specs.Check.{outcomeOf, caseOf}
 use Rattle.variants_and_fragments.specs.Accepted.{CaseIn}
 use Rattle.variants_and_fragments.proofs.Accepted.{case-in}

@@ -2,42 +2,38 @@
 -- calls of an accepted case, or over some of them, is −2^32 or more where each term lies in −262144..0.
 -- Assumes nothing.
 use mathlib.Core.Path.{_≡_}
-use mathlib.Core.Bool.{true}
 use mathlib.Core.List.{List, [], _∷_}
 use Prim.Native.Nat.{ℕ, _+_, _*_, _^_, _≤_, _<_}
 use native.Mathlib.Omega.{arith}
-use lib.IntN.{ℤ, pos, negℤ, _+ℤ_}
+use lib.IntN.{ℤ, pos, negℤ, natAbs, _+ℤ_}
 use lib.ListN.{length}
-use lib.Signed.{leZ, _≤ℤ_}
 use Rattle.variants_and_fragments.specs.Case.{Case, Fragment, Call, noFragment, fragmentOf, All, end, also, GoodCase}
 use Rattle.variants_and_fragments.specs.Sums.{sumOver, countOver, DownTo}
-use Rattle.variants_and_fragments.proofs.Bools.{is-true, true-is}
 use Rattle.variants_and_fragments.proofs.Alls.{all-imp}
 use Rattle.variants_and_fragments.proofs.Sums.{count-same, count-times, count-at, count-le}
-use Rattle.steps.proofs.Signed.{up, dn, up-pos, dn-pos, ≤ℤ→, →≤ℤ, parts-add, neg-up, neg-dn}
-
--- ---- tests of ℤ and their order
-pub leZ-true : (a b : ℤ) → leZ a b ≡ true → a ≤ℤ b
-leZ-true a b e = record { le = true-is (leZ a b) e }
-
-pub true-leZ : (a b : ℤ) → a ≤ℤ b → leZ a b ≡ true
-true-leZ a b h = is-true (leZ a b) (h .le)
+use Rattle.steps.proofs.Signed.{up, dn, up-pos, dn-pos, natAbs-parts, by-sign, ≤ℤ→, →≤ℤ, le-true, true-le, parts-add, neg-up, neg-dn}
 
 -- ---- the range −n..0
 neg-low : (n : ℕ) → up (negℤ (pos n)) + n ≡ dn (negℤ (pos n))
 neg-low n = omega (arith, neg-up (pos n), neg-dn (pos n), up-pos n, dn-pos n)
 
 pub down-low : (n : ℕ) (z : ℤ) → DownTo n z → dn z ≤ up z + n
-down-low n z d = omega (arith, ≤ℤ→ _ _ (leZ-true (negℤ (pos n)) z (d .low)), neg-low n)
+down-low n z d = omega (arith, ≤ℤ→ _ _ (true-le (negℤ (pos n)) z (d .low)), neg-low n)
 
 pub down-high : (n : ℕ) (z : ℤ) → DownTo n z → up z ≤ dn z
-down-high n z d = omega (arith, ≤ℤ→ _ _ (leZ-true z (pos 0) (d .high)), up-pos 0, dn-pos 0)
+down-high n z d = omega (arith, ≤ℤ→ _ _ (true-le z (pos 0) (d .high)), up-pos 0, dn-pos 0)
 
 pub down-in : (n : ℕ) (z : ℤ) → dn z ≤ up z + n → up z ≤ dn z → DownTo n z
 down-in n z l h = record {
-  low = true-leZ (negℤ (pos n)) z (→≤ℤ _ _ (omega (arith, neg-low n)));
-  high = true-leZ z (pos 0) (→≤ℤ _ _ (omega (arith, up-pos 0, dn-pos 0)));
+  low = le-true (negℤ (pos n)) z (→≤ℤ _ _ (omega (arith, neg-low n)));
+  high = le-true z (pos 0) (→≤ℤ _ _ (omega (arith, up-pos 0, dn-pos 0)));
 }
+
+pub down-abs : (n : ℕ) (z : ℤ) → DownTo n z → natAbs z ≤ n
+down-abs n z d =
+    let l = down-low n z d in
+    let h = down-high n z d in
+    let e = natAbs-parts z in by-sign z (λ u. omega arith) (λ u. omega arith)
 
 pub down-zero : (n : ℕ) → DownTo n (pos 0)
 down-zero n = down-in n (pos 0) (omega (arith, up-pos 0, dn-pos 0)) (omega (arith, up-pos 0, dn-pos 0))

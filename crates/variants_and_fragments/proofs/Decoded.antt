@@ -19,13 +19,9 @@ use Rattle.variants_and_fragments.specs.Layout.{sizesOf, pos0At, depthAt
 use Rattle.variants_and_fragments.specs.Chain.{strandAt, chainOf}
 use Rattle.variants_and_fragments.specs.Alleles.{allelesLength, allelesStart}
 use Rattle.variants_and_fragments.proofs.AlleleBytes.{off-on, off-le}
+use Rattle.variants_and_fragments.proofs.Tabulated.{table-length}
 use Rattle.variants_and_fragments.specs.Accepted.{CallIn, CaseIn, BasesIn}
 use Rattle.variants_and_fragments.specs.Decode.{tabulateFrom, tabulate, alleleStart, alleleAt, variantFrom, callFrom, fragmentFrom, decode}
-
-from-length : {X : Type 0} (g : ℕ → X) (i n : ℕ) → length (tabulateFrom g i n) ≡ n
-unfolding tabulateFrom
-from-length g i zero = refl
-from-length g i (suc n) = ap suc (from-length g (suc i) n)
 
 from-at : {X : Type 0} (g : ℕ → X) (i n k : ℕ) (d : X) → k < n → getD (tabulateFrom g i n) k d ≡ g (i + k)
 unfolding tabulateFrom
@@ -34,7 +30,7 @@ from-at g i (suc n) zero d h = ap g (sym (add-zero i))
 from-at g i (suc n) (suc k) d h = from-at g (suc i) n k d (omega arith) ∙ ap g (suc-add i k ∙ sym (add-suc i k))
 
 pub tabulate-length : {X : Type 0} (n : ℕ) (g : ℕ → X) → length (tabulate n g) ≡ n
-tabulate-length n g = from-length g 0 n
+tabulate-length n g = table-length g 0 n
 
 pub tabulate-at : {X : Type 0} (n : ℕ) (g : ℕ → X) (k : ℕ) (d : X) → k < n → getD (tabulate n g) k d ≡ g k
 tabulate-at n g k d h = let e : 0 + k ≡ k = omega arith in from-at g 0 n k d h ∙ ap g e

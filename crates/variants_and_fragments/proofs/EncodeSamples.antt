@@ -10,10 +10,10 @@ use Rattle.variants_and_fragments.specs.Words.{within}
 use Rattle.variants_and_fragments.specs.First.{firstFailFrom, firstFail, firstFalse}
 use Rattle.variants_and_fragments.specs.Sums.{countOver}
 use Rattle.variants_and_fragments.specs.Case.{Case, Fragment}
-use Rattle.variants_and_fragments.specs.Layout.{headTests, headFault, variantOk, callOk}
+use Rattle.variants_and_fragments.specs.Layout.{headFault, variantOk, callOk}
 use Rattle.variants_and_fragments.specs.Chain.{linkTest, chainFrom, chainOf, memb, pushAll, reached, goodChain, fragmentTest, isReached, chainFaultAt}
 use Rattle.variants_and_fragments.specs.Alleles.{allelesStart, allelesOk, allelesFaultAt}
-use Rattle.variants_and_fragments.specs.Check.{variantFault, callFault, caseOf}
+use Rattle.variants_and_fragments.specs.Check.{caseOf}
 use Rattle.variants_and_fragments.specs.Decode.{tabulateFrom, alleleStart, alleleAt, variantFrom, callFrom, fragmentFrom, decode}
 use Rattle.variants_and_fragments.specs.Encode.{encodeWords, encodeBases}
 
@@ -30,7 +30,7 @@ unfolding decode tabulateFrom encodeWords encodeBases countOver
 empty-decoded = refl
 
 pub empty-accepted : caseOf (encodeWords empty-case) (encodeBases empty-case) ≡ done (record { n = 0; f = 0; c = 0; cut = 2000 })
-unfolding encodeWords encodeBases countOver caseOf variantFault callFault stop within headTests headFault firstFalse firstFail firstFailFrom chainFaultAt allelesFaultAt allelesStart isReached reached
+unfolding encodeWords encodeBases countOver caseOf stop within headFault firstFalse firstFail firstFailFrom chainFaultAt allelesFaultAt allelesStart isReached reached
 empty-accepted = refl
 
 -- an SNV A/G, then an indel A/AC/G with three alleles; one fragment calls both, one the second only
@@ -58,7 +58,7 @@ unfolding decode tabulateFrom variantFrom alleleAt alleleStart allelesStart frag
 small-decoded = refl
 
 pub small-accepted : caseOf (encodeWords small-case) (encodeBases small-case) ≡ done (record { n = 2; f = 2; c = 3; cut = 2000 })
-unfolding encodeWords encodeBases countOver caseOf variantFault callFault stop within headTests headFault firstFalse firstFail firstFailFrom variantOk callOk linkTest chainFrom chainOf memb pushAll reached goodChain fragmentTest isReached chainFaultAt allelesStart allelesOk allelesFaultAt
+unfolding encodeWords encodeBases countOver caseOf stop within headFault firstFalse firstFail firstFailFrom variantOk callOk linkTest chainFrom chainOf memb pushAll reached goodChain fragmentTest isReached chainFaultAt allelesStart allelesOk allelesFaultAt
 small-accepted = refl
 
 -- as many fragments of one call as 01's sample (j) has: 113 reads each of A and G
@@ -77,5 +77,5 @@ unfolding decode tabulateFrom variantFrom alleleAt alleleStart allelesStart frag
 reads-decoded = refl
 
 pub reads-accepted : caseOf (encodeWords reads-case) (encodeBases reads-case) ≡ done (record { n = 1; f = 226; c = 226; cut = 2000 })
-unfolding encodeWords encodeBases countOver caseOf variantFault callFault stop within headTests headFault firstFalse firstFail firstFailFrom variantOk callOk linkTest chainFrom chainOf memb pushAll reached goodChain fragmentTest isReached chainFaultAt allelesStart allelesOk allelesFaultAt
+unfolding encodeWords encodeBases countOver caseOf stop within headFault firstFalse firstFail firstFailFrom variantOk callOk linkTest chainFrom chainOf memb pushAll reached goodChain fragmentTest isReached chainFaultAt allelesStart allelesOk allelesFaultAt
 reads-accepted = refl

@@ -8,7 +8,7 @@ use Prim.Native.Nat.{ℕ, zero, suc, _+_, _≤_, _<_}
 use native.Mathlib.Nat.{le-refl}
 use native.Mathlib.Omega.{arith}
 use native.Mathlib.Decide.{decLt, ℕ-discrete}
-use borrow.Author.Tests.{le-leb, ltb-true, ne-eqb}
+use borrow.Author.Tests.{ltb-true, ne-eqb}
 use lib.ListN.{length, getD}
 use lib.IntN.{ℤ}
 use lib.Dec.{leb, ltb}
@@ -18,7 +18,7 @@ use Rattle.variants_and_fragments.specs.Chain.{firstCallAt, nextCallAt, 
 use Rattle.variants_and_fragments.specs.Accepted.{allb, CallIn, FragmentIn}
 use Rattle.variants_and_fragments.proofs.Bools.{both}
 use Rattle.variants_and_fragments.proofs.Records.{call-facts}
-use Rattle.variants_and_fragments.proofs.Walks.{link-top}
+use Rattle.variants_and_fragments.proofs.Walks.{link-top, chain-on}
 use Rattle.variants_and_fragments.proofs.Pigeon.{distinct, Within, none, more, pigeon}
 
 -- rs are the records from r on, each a record of the case with a right link, and zero is met after the last
@@ -35,10 +35,6 @@ link-rises c r t v u h l =
 
 pub next-rises : (w : List ℤ) (s : Sizes) (r : ℕ) → linkOk w s r ≡ true → 1 ≤ nextCallAt w s r → callVariantAt w s r < callVariantAt w s (nextCallAt w s r)
 next-rises w s r h l = link-rises (s .c) r (nextCallAt w s r) (callVariantAt w s r) (callVariantAt w s (nextCallAt w s r)) h l
-
-chain-on : (w : List ℤ) (s : Sizes) (k r : ℕ) → 1 ≤ r → r ≤ s .c → chainFrom w s (suc k) r ≡ r ∷ chainFrom w s k (nextCallAt w s r)
-unfolding chainFrom
-chain-on w s k r lo hi = simp (le-leb 1 r lo, le-leb r (s .c) hi)
 
 -- the records passed are distinct ones of the case, at variants below r's
 record Passed (w : List ℤ) (s : Sizes) (r : ℕ) (past : List ℕ) : Type 0 where

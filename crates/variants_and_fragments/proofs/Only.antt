@@ -17,6 +17,10 @@ pub only-out : {X : Type 0} (p : X → Bool) (x : X) (xs : List X) → p x ≡ f
 unfolding only
 only-out p x xs e = simp e
 
+pub only-none : {X : Type 0} (p : X → Bool) → only p [] ≡ []
+unfolding only
+only-none p = refl
+
 pub only-length : {X : Type 0} (p : X → Bool) (xs : List X) → length (only p xs) ≤ length xs
 unfolding only
 only-length p [] = omega arith

@@ -29,6 +29,11 @@ unfolding sumOver
 sum-same end = refl
 sum-same (also e es) = rw (e, sum-same es)
 
+pub sumOver-cong : {X : Type 0} (xs : List X) (f g : X → ℤ) → ((x : X) → f x ≡ g x) → sumOver xs f ≡ sumOver xs g
+unfolding sumOver
+sumOver-cong [] f g e = refl
+sumOver-cong (x ∷ xs) f g e = rw (e x, sumOver-cong xs f g e)
+
 -- terms that lie n x below 0
 pub sum-debts : {X : Type 0} {xs : List X} {g : X → ℤ} (n : X → ℕ) → All (λ x. g x ≡ negℤ (pos (n x))) xs → sumOver xs g ≡ negℤ (pos (countOver xs n))
 unfolding sumOver countOver

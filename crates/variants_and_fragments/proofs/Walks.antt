@@ -29,10 +29,13 @@ unfolding chainFrom
 chain-none w s zero r e = refl
 chain-none w s (suc j) r e = absurd (omega arith)
 
+pub chain-on : (w : List ℤ) (s : Sizes) (j r : ℕ) → 1 ≤ r → r ≤ s .c → chainFrom w s (suc j) r ≡ r ∷ chainFrom w s j (nextCallAt w s r)
+unfolding chainFrom
+chain-on w s j r lo hi = simp (le-leb 1 r lo, le-leb r (s .c) hi)
+
 pub chain-step : (w : List ℤ) (s : Sizes) (k r : ℕ) → k < s .c → 1 ≤ r → r ≤ s .c
     → chainFrom w s (s .c - k) r ≡ r ∷ chainFrom w s (s .c - (k + 1)) (nextCallAt w s r)
-unfolding chainFrom
-chain-step w s k r h lo hi = let e : s .c - k ≡ suc (s .c - (k + 1)) = omega arith in rw e (simp (le-leb 1 r lo, le-leb r (s .c) hi))
+chain-step w s k r h lo hi = let e : s .c - k ≡ suc (s .c - (k + 1)) = omega arith in rw e (chain-on w s (s .c - (k + 1)) r lo hi)
 
 -- ---- goodChain
 pub good-hit : (w : List ℤ) (s : Sizes) (l : List ℕ) (r : ℕ) (rs : List ℕ) → memb r l ≡ true → false ≡ goodChain w s l (r ∷ rs)

@@ -1,16 +1,14 @@
 -- 01, section 2: the case that accepted words and bases stand for.
 -- Assumes nothing.
-use mathlib.Core.Path.{_≡_}
-use mathlib.Core.Bool.{true}
 use mathlib.Core.List.{List, [], _∷_, map}
-use Prim.Native.Nat.{ℕ, zero, suc, _+_, _<_}
+use Prim.Native.Nat.{ℕ, zero, suc, _+_}
 use lib.IntN.{ℤ}
-use lib.ListN.{length, getD, take, drop}
+use lib.ListN.{take, drop}
 use Rattle.variants_and_fragments.specs.declared.Sizes.{Sizes}
 use Rattle.variants_and_fragments.specs.Case.{Case, Variant, Fragment, Call}
 use Rattle.variants_and_fragments.specs.Layout.{sizesOf, pos0At, depthAt, genotypeAt, alleleCountAt, lengthAt, callVariantAt, calledAlleleAt, qualAt, oneMinusQualAt, cutoffAt}
 use Rattle.variants_and_fragments.specs.Chain.{strandAt, chainOf}
-use Rattle.variants_and_fragments.specs.Alleles.{isBase, allelesStart}
+use Rattle.variants_and_fragments.specs.Alleles.{allelesStart}
 
 -- g 0, .., g (n − 1), counted from i on
 unfoldable pub tabulateFrom : {X : Type 0} → (ℕ → X) → ℕ → ℕ → List X

@@ -5,7 +5,7 @@ use mathlib.Core.List.{List, [], _∷_, _++_, map}
 use Prim.Native.Nat.{ℕ, suc, _+_}
 use lib.Dec.{eqb}
 use lib.IntN.{ℤ, pos}
-use lib.ListN.{length, take}
+use lib.ListN.{length}
 use Rattle.variants_and_fragments.specs.Case.{Case, Fragment, Call, usable, fragmentOf}
 
 -- those of a list of which p holds
@@ -41,10 +41,6 @@ rowsOf case = rowsFrom (case .cutoff) 0 (case .fragments)
 -- the usable calls of fragment f
 unfoldable pub fragmentRows : Case → ℕ → List Row
 fragmentRows case f = map (rowOf f) (usableCalls (case .cutoff) (fragmentOf case f))
-
--- how many rows the first f fragments have: where the rows of fragment f start
-unfoldable pub rowsBefore : Case → ℕ → ℕ
-rowsBefore case f = length (rowsFrom (case .cutoff) 0 (take f (case .fragments)))
 
 abbrev pub atVariant : ℕ → Row → Bool
 atVariant v row = eqb (row .call .variant) v

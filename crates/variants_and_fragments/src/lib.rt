@@ -17,7 +17,7 @@ mod calls;
 mod chains;
 mod head;
 pub mod layout;
-pub mod refusals;
+mod refusals;
 mod variants;
 
 // What the head says: N, F, C, and how far the cutoff lies below 0.

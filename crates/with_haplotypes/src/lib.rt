@@ -13,7 +13,7 @@ use variants_and_fragments::check_case;
 
 mod accepted;
 mod checks;
-pub mod finals;
+mod finals;
 mod normalized;
 mod prepare;
 mod run;

@@ -1,7 +1,7 @@
 -- `alleles::all_alleles_length` meets its contract. The loop's invariant: the sum is where variant v's bytes start, and at most 192 for each variant passed.
 -- Assumes nothing.
 use mathlib.Core.Path.{_≡_, refl, _∙_, ap}
-use Prim.Native.Nat.{ℕ, _+_, _*_, _-_, _≤_}
+use Prim.Native.Nat.{_+_, _*_, _-_, _≤_}
 use native.Mathlib.Omega.{arith}
 use denote.Ref.{now}
 use Rattle.variants_and_fragments.specs.Alleles.{allelesLength, allelesStart}
