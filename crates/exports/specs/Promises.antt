@@ -14,7 +14,7 @@ use Rattle.variants_and_fragments.specs.Decode.{decode}
 use Rattle.variants_and_fragments.specs.Written.{written}
 use Rattle.var_filter.specs.Filter.{limitsOf, filterOf}
 use Rattle.var_filter.specs.Filtered.{varFilterOf}
-use Rattle.genotype_probs.specs.Priors.{priorTable, priorAt}
+use Rattle.genotype_probs.specs.Priors.{priorAt}
 use Rattle.genotype_probs.specs.Answers.{prioredOf}
 use Rattle.haplotype_assembly.specs.Phase.{phasedFlags, startAllele, phaseName}
 use Rattle.haplotype_assembly.specs.PhaseRead.{flagOf}
@@ -48,14 +48,14 @@ pub record VarFilter (w : List ℤ) (b : List ℕ) (quals : List Float) (density
 -- `genotype_priors`
 pub record GenotypePriors (w : List ℤ) (b : List ℕ) (rates : Rates) (before : List ℤ) (a : Answer) (priors : List ℤ) : Type 0 where
   pub answer : Numbers readAnswer numbersOf (prioredOf w b (ratesOf rates) (length before)) a
-  pub priors-after : priors ≡ afterwards (readAnswer a) (written (priorAt (priorTable (ratesOf rates)) (decode w b)) (9 * length (decode w b .variants)) before) before
+  pub priors-after : priors ≡ afterwards (readAnswer a) (written (priorAt (ratesOf rates) (decode w b)) (9 * length (decode w b .variants)) before) before
 
 -- `call_genotypes_no_haplotypes`
 pub record CallGenotypesNoHaplotypes (w : List ℤ) (b : List ℕ) (rates : Rates) (variants : List ℤ) (quals gqs : List Float) (a : Answer) (variants2 : List ℤ) (quals2 gqs2 : List Float) : Type 0 where
   pub answer : Numbers readAnswer numbersOf (calledOf w b (ratesOf rates) (length variants) (length quals) (length gqs)) a
-  pub variants-after : variants2 ≡ afterwards (readAnswer a) (written (answerAt (priorTable (ratesOf rates)) (decode w b)) (13 * length (decode w b .variants)) variants) variants
-  pub quals-after : quals2 ≡ afterwards (readAnswer a) (written (qualAt (priorTable (ratesOf rates)) (decode w b)) (length (decode w b .variants)) quals) quals
-  pub gqs-after : gqs2 ≡ afterwards (readAnswer a) (written (gqAt (priorTable (ratesOf rates)) (decode w b)) (length (decode w b .variants)) gqs) gqs
+  pub variants-after : variants2 ≡ afterwards (readAnswer a) (written (answerAt (ratesOf rates) (decode w b)) (13 * length (decode w b .variants)) variants) variants
+  pub quals-after : quals2 ≡ afterwards (readAnswer a) (written (qualAt (ratesOf rates) (decode w b)) (length (decode w b .variants)) quals) quals
+  pub gqs-after : gqs2 ≡ afterwards (readAnswer a) (written (gqAt (ratesOf rates) (decode w b)) (length (decode w b .variants)) gqs) gqs
 
 -- `given_phase`
 pub record GivenPhase (w : List ℤ) (b bytes : List ℕ) (sets : List ℤ) (haplotypes phased names : List ℕ) (a : Answer) (haplotypes2 phased2 names2 : List ℕ) : Type 0 where

@@ -14,7 +14,7 @@ use Rattle.variants_and_fragments.specs.Alleles.{allelesLength, allelesStart}
 use Rattle.variants_and_fragments.proofs.AlleleBytes.{off-on, off-le}
 use Rattle.variants_and_fragments.specs.Decode.{alleleStart, alleleAt, variantFrom, decode}
 use Rattle.variants_and_fragments.proofs.Decoded.{tabulate-length, tabulate-at, variant-is}
-use Rattle.genotype_probs.specs.Priors.{lookup, getPrior, allPriors, priorAt}
+use Rattle.genotype_probs.specs.PriorTable.{lookup, tablePrior, tablePriors, tablePriorAt}
 use Rattle.genotype_probs.specs.PriorInputs.{AllelesIn}
 
 -- ---- where they start
@@ -76,8 +76,8 @@ pub allele-is : (w : List ℤ) (b : List ℕ) (v j : ℕ) → j < alleleCountAt 
 unfolding variantFrom
 allele-is w b v j h = tabulate-at _ _ j [] h
 
-pub prior-is : (table : List ℤ) (w : List ℤ) (b : List ℕ) (v i j : ℕ) → 0 < alleleCountAt w v → i < alleleCountAt w v → j < alleleCountAt w v → lookup table (alleleAt w b v 0) (alleleAt w b v i) (alleleAt w b v j) ≡ getPrior table (variantFrom w b v) i j
-unfolding getPrior
+pub prior-is : (table : List ℤ) (w : List ℤ) (b : List ℕ) (v i j : ℕ) → 0 < alleleCountAt w v → i < alleleCountAt w v → j < alleleCountAt w v → lookup table (alleleAt w b v 0) (alleleAt w b v i) (alleleAt w b v j) ≡ tablePrior table (variantFrom w b v) i j
+unfolding tablePrior
 prior-is table w b v i j h k l = rw (allele-is w b v 0 h, allele-is w b v i k, allele-is w b v j l)
 
 -- at most nine places
@@ -89,16 +89,16 @@ nine (suc (suc (suc zero))) h = omega arith
 nine (suc (suc (suc (suc k)))) h = absurd (omega arith)
 
 -- place p of them, where (i, j) is its genotype
-pub place-is : (table : List ℤ) (w : List ℤ) (b : List ℕ) (v k p i j : ℕ) → k ≡ alleleCountAt w v → p < k * k → p / k ≡ i → p % k ≡ j → getPrior table (variantFrom w b v) i j ≡ allPriors table (variantFrom w b v) p
-unfolding allPriors
+pub place-is : (table : List ℤ) (w : List ℤ) (b : List ℕ) (v k p i j : ℕ) → k ≡ alleleCountAt w v → p < k * k → p / k ≡ i → p % k ≡ j → tablePrior table (variantFrom w b v) i j ≡ tablePriors table (variantFrom w b v) p
+unfolding tablePriors
 place-is table w b v k p i j e h d m = rw (count-is w b v, ← e, lt-ltb p (k * k) h, d, m)
 
-pub past-places : (table : List ℤ) (w : List ℤ) (b : List ℕ) (v k p : ℕ) → k ≡ alleleCountAt w v → k * k ≤ p → pos 0 ≡ allPriors table (variantFrom w b v) p
-unfolding allPriors
+pub past-places : (table : List ℤ) (w : List ℤ) (b : List ℕ) (v k p : ℕ) → k ≡ alleleCountAt w v → k * k ≤ p → pos 0 ≡ tablePriors table (variantFrom w b v) p
+unfolding tablePriors
 past-places table w b v k p e h = rw (count-is w b v, ← e, le-ltb p (k * k) h)
 
 -- element 9 v + p of a case's priors is place p of variant v
-pub element-is : (table : List ℤ) (w : List ℤ) (b : List ℕ) (v p : ℕ) → v < sizesOf w .n → p < 9 → allPriors table (variantFrom w b v) p ≡ priorAt table (decode w b) (9 * v + p)
-unfolding priorAt
+pub element-is : (table : List ℤ) (w : List ℤ) (b : List ℕ) (v p : ℕ) → v < sizesOf w .n → p < 9 → tablePriors table (variantFrom w b v) p ≡ tablePriorAt table (decode w b) (9 * v + p)
+unfolding tablePriorAt
 element-is table w b v p h k =
     let q : (9 * v + p) / 9 ≡ v = omega arith in let r : (9 * v + p) % 9 ≡ p = omega arith in rw (q, r, variant-is w b v h)

@@ -1,6 +1,6 @@
--- Laws of the letters: what a comparison leaves is a base and one of the six letters, and a letter that is a base comes of an allele of the
--- reference's length. Assumes nothing.
-use mathlib.Core.Path.{_≡_}
+-- Laws of the comparisons: a letter that is a base comes of an allele of the reference's length, and what a comparison leaves in numbers.
+-- Assumes nothing.
+use mathlib.Core.Path.{_≡_, sym, _∙_}
 use mathlib.Core.Bool.{Bool, true, false, cond}
 use mathlib.Core.List.{List}
 use Prim.Native.Nat.{ℕ, _<_}
@@ -8,67 +8,48 @@ use native.Mathlib.Omega.{arith}
 use borrow.Author.Tests.{eqb-true, eq-eqb, ne-eqb}
 use lib.Dec.{eqb, ltb}
 use lib.IntN.{ℤ}
-use lib.ListN.{length, getD}
+use lib.ListN.{length}
 use Rattle.steps.proofs.Signed.{by-test}
 use Rattle.genotype_probs.specs.declared.letters.Compared.{Compared}
-use Rattle.genotype_probs.specs.Letters.{letterOf, firstLetter, stopAt, compared}
-use Rattle.genotype_probs.specs.Priors.{tableValue, lookup}
-
-pub letter-base : (byte : ℕ) → letterOf byte < 4
-unfolding letterOf
-letter-base byte = go (eqb byte 65) (eqb byte 67) (eqb byte 71)
-  where
-    go : (a c g : Bool) → cond a 0 (cond c 1 (cond g 2 3)) < 4
-    go true c g = omega arith
-    go false true g = omega arith
-    go false false true = omega arith
-    go false false false = omega arith
+use Rattle.genotype_probs.specs.Letters.{base, D, I, baseNumber, letterNumber, sameLetter}
+use Rattle.genotype_probs.specs.Priors.{baseAt, firstLetter, stopAt, Comparison, compared}
+use Rattle.genotype_probs.specs.PriorTable.{numberedBase, numbered, tableValue, lookup}
+use Rattle.genotype_probs.proofs.Numbers.{base-low, letter-low, base-there, base-back}
 
 -- D and I are no bases
-pub same-length : (reference allele : List ℕ) → firstLetter reference allele < 4 → length allele ≡ length reference
-unfolding firstLetter
+pub same-length : (reference allele : List ℕ) → letterNumber (firstLetter reference allele) < 4 → length allele ≡ length reference
+unfolding firstLetter letterNumber
 same-length reference allele h =
     by-test (eqb (length allele) (length reference)) (λ t. eqb-true _ _ t)
-    (λ t. absurd (go (ltb (length reference) (length allele)) (rw t at h)))
+    (λ t. absurd (no-base (ltb (length reference) (length allele)) (rw t at h)))
   where
-    go : (b : Bool) → cond b 5 4 < 4 → ⊥
-    go true l = omega arith
-    go false l = omega arith
-
-first-six : (reference allele : List ℕ) → firstLetter reference allele < 6
-unfolding firstLetter
-first-six reference allele =
-    go (eqb (length allele) (length reference)) (ltb (length reference) (length allele)) (letterOf (getD allele 0 0)) (letter-base _)
-  where
-    go : (a b : Bool) (x : ℕ) → x < 4 → cond a x (cond b 5 4) < 6
-    go true b x l = omega arith
-    go false true x l = omega arith
-    go false false x l = omega arith
+    no-base : (b : Bool) → letterNumber (cond b I D) < 4 → ⊥
+    no-base true l = omega arith
+    no-base false l = omega arith
 
 pub record Lettered (r : Compared) : Type 0 where
   pub base-in : r .base < 4
   pub letter-in : r .letter < 6
 
-pub lettered : (reference allele : List ℕ) (base : ℕ) → base < 4 → Lettered (compared reference allele base)
-unfolding compared
-lettered reference allele base h =
-    let x = letter-base (getD reference (stopAt reference allele) 0) in
-    let y = letter-base (getD allele (stopAt reference allele) 0) in
-    let z = first-six reference allele in
-    by-test (eqb (firstLetter reference allele) base)
-    (λ t. rw t (record { base-in = x; letter-in = omega arith }))
-    (λ t. rw t (record { base-in = h; letter-in = z }))
+pub lettered : (c : Comparison) → Lettered (numbered c)
+unfolding numbered
+lettered c = record { base-in = base-low (c .ref); letter-in = letter-low (c .letter) }
 
 -- the two cases of a comparison
-pub compared-other : (reference allele : List ℕ) (base : ℕ) → (firstLetter reference allele ≡ base → ⊥) → compared reference allele base ≡ record { base = base; letter = firstLetter reference allele }
-unfolding compared
-compared-other reference allele base h = rw (ne-eqb _ _ h)
+module _ (reference allele : List ℕ) (n : ℕ) (low : n < 4) where
+  pub compared-other : (letterNumber (firstLetter reference allele) ≡ n → ⊥) → numbered (compared reference allele (numberedBase n)) ≡ record { base = n; letter = letterNumber (firstLetter reference allele) }
+  unfolding compared numbered sameLetter letterNumber
+  compared-other h =
+      let e = base-back n low in
+      rw (ne-eqb (letterNumber (firstLetter reference allele)) (baseNumber (numberedBase n)) (λ q. h (q ∙ e)), e)
 
-pub compared-same : (reference allele : List ℕ) (base stop : ℕ) → firstLetter reference allele ≡ base → stop ≡ stopAt reference allele → compared reference allele base ≡ record { base = letterOf (getD reference stop 0); letter = letterOf (getD allele stop 0) }
-unfolding compared
-compared-same reference allele base stop h e = rw (eq-eqb _ _ h, e)
+  pub compared-same : (stop : ℕ) → letterNumber (firstLetter reference allele) ≡ n → stop ≡ stopAt reference allele → numbered (compared reference allele (numberedBase n)) ≡ record { base = baseNumber (baseAt reference stop); letter = baseNumber (baseAt allele stop) }
+  unfolding compared numbered sameLetter letterNumber
+  compared-same stop h e =
+      rw (eq-eqb (letterNumber (firstLetter reference allele)) (baseNumber (numberedBase n)) (h ∙ sym (base-back n low)), e)
 
 -- a lookup, by what the two comparisons left
-pub lookup-is : (table : List ℤ) (reference first second : List ℕ) (one two : Compared) → one ≡ compared reference first (letterOf (getD reference 0 0)) → two ≡ compared reference second (one .base) → tableValue table (two .base) (one .letter) (two .letter) ≡ lookup table reference first second
-unfolding lookup
-lookup-is table reference first second one two p q = rw (q, p)
+pub lookup-is : (table : List ℤ) (reference first second : List ℕ) (one two : Compared) → one ≡ numbered (compared reference first (numberedBase (baseNumber (baseAt reference 0)))) → two ≡ numbered (compared reference second (numberedBase (one .base))) → tableValue table (two .base) (one .letter) (two .letter) ≡ lookup table reference first second
+unfolding lookup numbered
+lookup-is table reference first second one two p q =
+    rw (q, p, base-there (baseAt reference 0), base-there (compared reference first (baseAt reference 0) .ref))

@@ -1,7 +1,10 @@
 pub mod Pairs
+pub mod Numbers
 pub mod Comparisons
 pub mod RateLaws
 pub mod PriorBounds
+pub mod PriorTable
+pub mod Entries
 pub mod AlleleLaws
 pub mod Maxima
 pub mod TableSums

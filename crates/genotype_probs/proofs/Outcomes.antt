@@ -21,7 +21,7 @@ use Rattle.variants_and_fragments.proofs.Decoded.{variant-count}
 use Rattle.genotype_probs.specs.declared.Rates.{Rates}
 use Rattle.genotype_probs.specs.declared.Priored.the-variants.{Done, Refused}
 use Rattle.genotype_probs.specs.Rates.{ratesFault}
-use Rattle.genotype_probs.specs.Priors.{priorTable, priorAt}
+use Rattle.genotype_probs.specs.Priors.{priorAt}
 use Rattle.genotype_probs.specs.Answers.{outcomeOf, prioredOf, GenotypePriors}
 
 module _ (w : List ℤ) (b : List ℕ) (rates : Rates) (before : List ℤ) where
@@ -53,7 +53,7 @@ module _ (w : List ℤ) (b : List ℕ) (rates : Rates) (before : List ℤ) where
         refused-with (Short (9 * (s .n))) (sym (past-case ∙ sym (stop-on 6 (ratesFault rates) 7 _ h) ∙ rw (lt-leb (9 * (s .n)) (length before) k)))
 
     -- done
-    pub all-written : (after : List ℤ) → 7 ≤ ratesFault rates → 9 * (s .n) ≤ length before → after ≡ written (priorAt (priorTable rates) (decode w b)) (9 * (s .n)) before → GenotypePriors w b rates before Done after
+    pub all-written : (after : List ℤ) → 7 ≤ ratesFault rates → 9 * (s .n) ≤ length before → after ≡ written (priorAt rates (decode w b)) (9 * (s .n)) before → GenotypePriors w b rates before Done after
     unfolding unless outcomeOf afterwards
     all-written after h k q =
         let d : prioredOf w b rates (length before) ≡ done tt = past-case ∙ sym (stop-on 6 (ratesFault rates) 7 _ h) ∙ rw (le-leb (9 * (s .n)) (length before) k) in

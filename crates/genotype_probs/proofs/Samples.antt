@@ -12,11 +12,10 @@ use Rattle.steps.specs.Logs.{larger, difference, addExp, sumExp}
 use Rattle.steps.specs.OneMinus.{low, first, lnOneMinusExp}
 use Rattle.variants_and_fragments.specs.Case.{Variant}
 use Rattle.variants_and_fragments.specs.First.{firstFailFrom, firstFail}
-use Rattle.variants_and_fragments.specs.Decode.{tabulateFrom}
 use Rattle.genotype_probs.specs.declared.Rates.{Rates}
 use Rattle.genotype_probs.specs.Rates.{rateOk, rateSum, rateTests, ratesFault}
-use Rattle.genotype_probs.specs.Letters.{letterOf, firstLetter, stopAt, compared}
-use Rattle.genotype_probs.specs.Priors.{finite, oneMinusExp, isIndel, transition, change, letterValue, haploid, homozygous, diploid, tableEntry, priorTable, tableIndex, tableValue, lookup, getPrior}
+use Rattle.genotype_probs.specs.Letters.{A, C, base, baseOf, baseNumber, letterNumber, sameLetter, transitionOf, change}
+use Rattle.genotype_probs.specs.Priors.{finite, oneMinusExp, haploid, homozygous, diploid, lettersPrior, firstLetter, stopAt, compared, allelesPrior, getPrior}
 
 pub logProb : ℤ → LogProb
 logProb z = record { 0 = z }
@@ -55,23 +54,23 @@ bases-CA = 67 ∷ 65 ∷ []
 pub record Samples : Type 0 where
   pub accepted : ratesFault rates ≡ 7
   -- (g): priors 0, −78192, −78192, −74096
-  pub g00 : getPrior (priorTable rates) (variant (bases-A ∷ bases-G ∷ [])) 0 0 ≡ pos 0
-  pub g01 : getPrior (priorTable rates) (variant (bases-A ∷ bases-G ∷ [])) 0 1 ≡ negsuc 78191
-  pub g10 : getPrior (priorTable rates) (variant (bases-A ∷ bases-G ∷ [])) 1 0 ≡ negsuc 78191
-  pub g11 : getPrior (priorTable rates) (variant (bases-A ∷ bases-G ∷ [])) 1 1 ≡ negsuc 74095
+  pub g00 : getPrior rates (variant (bases-A ∷ bases-G ∷ [])) 0 0 ≡ pos 0
+  pub g01 : getPrior rates (variant (bases-A ∷ bases-G ∷ [])) 0 1 ≡ negsuc 78191
+  pub g10 : getPrior rates (variant (bases-A ∷ bases-G ∷ [])) 1 0 ≡ negsuc 78191
+  pub g11 : getPrior rates (variant (bases-A ∷ bases-G ∷ [])) 1 1 ≡ negsuc 74095
   -- AC/AG: the two orders differ
-  pub second-base : getPrior (priorTable rates) (variant (bases-AC ∷ bases-AG ∷ [])) 0 1 ≡ negsuc 82287
-  pub other-order : getPrior (priorTable rates) (variant (bases-AC ∷ bases-AG ∷ [])) 1 0 ≡ negsuc 160479
+  pub second-base : getPrior rates (variant (bases-AC ∷ bases-AG ∷ [])) 0 1 ≡ negsuc 82287
+  pub other-order : getPrior rates (variant (bases-AC ∷ bases-AG ∷ [])) 1 0 ≡ negsuc 160479
   -- AC/CA: one letter, with no −4096
-  pub one-letter : getPrior (priorTable rates) (variant (bases-AC ∷ bases-CA ∷ [])) 0 1 ≡ negsuc 78191
+  pub one-letter : getPrior rates (variant (bases-AC ∷ bases-CA ∷ [])) 0 1 ≡ negsuc 78191
   -- A/A: the letters agree where the allele numbers differ
-  pub same-letters : getPrior (priorTable rates) (variant (bases-A ∷ bases-A ∷ [])) 0 1 ≡ pos 0
+  pub same-letters : getPrior rates (variant (bases-A ∷ bases-A ∷ [])) 0 1 ≡ pos 0
   -- AC alone looks up C with C and A
-  pub alone-first : compared bases-AC bases-AC 0 ≡ record { base = 1; letter = 1 }
-  pub alone-second : compared bases-AC bases-AC 1 ≡ record { base = 1; letter = 0 }
+  pub alone-first : compared bases-AC bases-AC A ≡ record { ref = C; letter = base C }
+  pub alone-second : compared bases-AC bases-AC C ≡ record { ref = C; letter = base A }
 
 pub samples : Samples
-unfolding knots T addend larger difference addExp sumExp low first lnOneMinusExp firstFailFrom firstFail rateOk rateSum rateTests ratesFault letterOf firstLetter stopAt compared finite oneMinusExp isIndel transition change letterValue haploid homozygous diploid tableEntry priorTable tabulateFrom tableIndex tableValue lookup getPrior rates logProb variant bases-A bases-G bases-AC bases-AG bases-CA
+unfolding knots T addend larger difference addExp sumExp low first lnOneMinusExp firstFailFrom firstFail rateOk rateSum rateTests ratesFault baseOf baseNumber letterNumber sameLetter transitionOf change finite oneMinusExp haploid homozygous diploid lettersPrior firstLetter stopAt compared allelesPrior getPrior rates logProb variant bases-A bases-G bases-AC bases-AG bases-CA
 samples =
     record {
       accepted = refl;

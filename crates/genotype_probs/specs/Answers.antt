@@ -14,7 +14,7 @@ use Rattle.genotype_probs.specs.declared.Rates.{Rates}
 use Rattle.genotype_probs.specs.declared.Priored.{Priored}
 use Rattle.genotype_probs.specs.declared.Priored.the-variants.{Done, Refused}
 use Rattle.genotype_probs.specs.Rates.{ratesFault}
-use Rattle.genotype_probs.specs.Priors.{priorTable, priorAt}
+use Rattle.genotype_probs.specs.Priors.{priorAt}
 
 -- the answer of the operation in 01's terms
 unfoldable pub outcomeOf : Priored → Outcome Unit
@@ -30,4 +30,4 @@ prioredOf w b rates places =
 -- what the operation promises: each variant's nine places written where it is done
 pub record GenotypePriors (w : List ℤ) (b : List ℕ) (rates : Rates) (before : List ℤ) (r : Priored) (after : List ℤ) : Type 0 where
   pub answer : outcomeOf r ≡ prioredOf w b rates (length before)
-  pub priors-after : after ≡ afterwards (prioredOf w b rates (length before)) (written (priorAt (priorTable rates) (decode w b)) (9 * length (decode w b .variants)) before) before
+  pub priors-after : after ≡ afterwards (prioredOf w b rates (length before)) (written (priorAt rates (decode w b)) (9 * length (decode w b .variants)) before) before

@@ -1,40 +1,52 @@
--- 01, section 3: the letters of a pair of alleles. The letters A C G T D I are the numbers 0 to 5.
--- Assumes nothing.
-use mathlib.Core.Bool.{cond}
-use mathlib.Core.List.{List}
-use Prim.Native.Nat.{ℕ, _-_}
-use lib.Dec.{eqb, ltb}
-use lib.ListN.{length, getD}
-use Rattle.variants_and_fragments.specs.First.{firstFail}
-use Rattle.genotype_probs.specs.declared.letters.Compared.{Compared}
+-- 01, section 3: the letters, and what one is beside a reference base. Assumes nothing.
+use mathlib.Core.Bool.{Bool, cond}
+use Prim.Native.Nat.{ℕ}
+use lib.Dec.{eqb}
 
-abbrev pub deletion : ℕ
-deletion = 4
+-- 01, section 2: the allele bytes are A, C, G, T
+pub data Base : Type 0 where
+  A C G T : Base
 
-abbrev pub insertion : ℕ
-insertion = 5
+-- 01, section 3: a letter is a base, I (a longer allele) or D (a shorter one)
+pub data Letter : Type 0 where
+  base : Base → Letter
+  D I : Letter
 
--- the letter of a base: A, C, G, and T, the only other byte of a case
-unfoldable pub letterOf : ℕ → ℕ
-letterOf byte = cond (eqb byte 65) 0 (cond (eqb byte 67) 1 (cond (eqb byte 71) 2 3))
+-- the base of an allele byte; T is the only other one of a case
+unfoldable pub baseOf : ℕ → Base
+baseOf byte = cond (eqb byte 65) A (cond (eqb byte 67) C (cond (eqb byte 71) G T))
 
--- an allele of the reference's length gives its first base, a longer one I, a shorter one D
-unfoldable pub firstLetter : List ℕ → List ℕ → ℕ
-firstLetter reference allele =
-    cond (eqb (length allele) (length reference))
-    (letterOf (getD allele 0 0))
-    (cond (ltb (length reference) (length allele)) insertion deletion)
+-- the letters' numbers, in the order A C G T D I
+unfoldable pub baseNumber : Base → ℕ
+baseNumber A = 0
+baseNumber C = 1
+baseNumber G = 2
+baseNumber T = 3
 
--- where the comparison stops: at the first base that differs, or at the last
-unfoldable pub stopAt : List ℕ → List ℕ → ℕ
-stopAt reference allele = firstFail (λ i. eqb (getD reference i 0) (getD allele i 0)) (length allele - 1)
+unfoldable pub letterNumber : Letter → ℕ
+letterNumber (base b) = baseNumber b
+letterNumber D = 4
+letterNumber I = 5
 
--- The reference base and the allele's letter, from the current reference base. Where the allele's letter equals that base, both are taken
--- where the comparison stops
-unfoldable pub compared : List ℕ → List ℕ → ℕ → Compared
-compared reference allele base =
-    let letter = firstLetter reference allele in
-    let stop = stopAt reference allele in
-    cond (eqb letter base)
-    (record { base = letterOf (getD reference stop 0); letter = letterOf (getD allele stop 0) })
-    (record { base = base; letter = letter })
+-- whether two letters are the same: they have one number
+unfoldable pub sameLetter : Letter → Letter → Bool
+sameLetter x y = eqb (letterNumber x) (letterNumber y)
+
+-- the transitions: A/G and C/T
+unfoldable pub transitionOf : Base → Base
+transitionOf A = G
+transitionOf G = A
+transitionOf C = T
+transitionOf T = C
+
+-- what a letter is beside the reference base: that base, the other base of its transition, one of the two transversions, or D or I
+pub data Change : Type 0 where
+  same transition transversion indel : Change
+
+unfoldable pub change : Base → Letter → Change
+change ref (base b) =
+    cond (sameLetter (base b) (base ref))
+    same
+    (cond (sameLetter (base b) (base (transitionOf ref))) transition transversion)
+change ref D = indel
+change ref I = indel

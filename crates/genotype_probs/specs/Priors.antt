@@ -1,20 +1,20 @@
--- 01, section 3: the priors of a variant's genotypes.
+-- 01, section 3: the priors of a variant's genotypes, a definition for each of its sentences, in its order.
 -- Assumes nothing.
-use mathlib.Core.Bool.{Bool, cond}
+use mathlib.Core.Bool.{cond}
 use mathlib.Core.List.{List}
-use Prim.Native.Nat.{ℕ, _+_, _*_, _/_, _%_}
-use lib.Dec.{eqb, leb, ltb}
+use Prim.Native.Nat.{ℕ, _*_, _-_, _/_, _%_}
+use lib.Dec.{eqb, ltb}
 use lib.IntN.{ℤ, pos, negsuc, _+ℤ_}
-use lib.ListN.{getD}
+use lib.ListN.{length, getD}
 use Rattle.steps.specs.Logs.{Log, mark, steps}
 use Rattle.steps.specs.OneMinus.{lnOneMinusExp}
 use Rattle.variants_and_fragments.specs.Case.{Case, Variant, alleleCount, alleleOf, variantOf}
-use Rattle.variants_and_fragments.specs.Decode.{tabulate}
+use Rattle.variants_and_fragments.specs.First.{firstFail}
 use Rattle.genotype_probs.specs.declared.Rates.{Rates}
 use Rattle.genotype_probs.specs.Rates.{homSnv, hetSnv, homIndel, hetIndel, tsRate, tvRate, rateSum}
-use Rattle.genotype_probs.specs.Letters.{deletion, letterOf, compared}
+use Rattle.genotype_probs.specs.Letters.{Base, Letter, base, D, I, baseOf, sameLetter, Change, same, transition, transversion, indel, change}
 
--- section 1: ln(0.5) and ln(0.25)
+-- 01, section 1: ln(0.5) is −4,096, ln(0.25) is −8,192
 abbrev pub lnHalf : ℤ
 lnHalf = negsuc 4095
 
@@ -30,72 +30,78 @@ finite (steps z) = z
 unfoldable pub oneMinusExp : ℤ → ℤ
 oneMinusExp p = finite (lnOneMinusExp (steps p))
 
-unfoldable pub isIndel : ℕ → Bool
-isIndel letter = leb deletion letter
+-- 01, section 3: Haploid (ref, ref) is `ln_one_minus_exp`(het_snv + het_indel), a product of rates (odd). Haploid transition is het_snv + ts,
+-- transversion het_snv + tv, D or I het_indel − 4096 − 8192
+unfoldable pub haploid : Rates → Change → ℤ
+haploid rates same = oneMinusExp (hetSnv rates +ℤ hetIndel rates)
+haploid rates transition = hetSnv rates +ℤ tsRate rates
+haploid rates transversion = hetSnv rates +ℤ tvRate rates
+haploid rates indel = hetIndel rates +ℤ lnHalf +ℤ lnQuarter
 
--- the other base of a transition: A and G, C and T
-unfoldable pub transition : ℕ → ℕ
-transition base = (base + 2) % 4
+-- 01, section 3: Diploid: homozygous reference is `ln_one_minus_exp` of the four-rate sum; other homozygous base hom_snv + ts or tv; DD and
+-- II hom_indel − 12288, that is − 4096 − 8192
+unfoldable pub homozygous : Rates → Change → ℤ
+homozygous rates same = oneMinusExp (rateSum rates)
+homozygous rates transition = homSnv rates +ℤ tsRate rates
+homozygous rates transversion = homSnv rates +ℤ tvRate rates
+homozygous rates indel = homIndel rates +ℤ lnHalf +ℤ lnQuarter
 
--- ts for a transition, tv for a transversion
-unfoldable pub change : Rates → ℕ → ℕ → ℤ
-change rates base letter = cond (eqb letter (transition base)) (tsRate rates) (tvRate rates)
+-- 01, section 3: two letters add their haploid values
+unfoldable pub diploid : Rates → Base → Letter → Letter → ℤ
+diploid rates ref first second =
+    cond (sameLetter first second)
+    (homozygous rates (change ref first))
+    (haploid rates (change ref first) +ℤ haploid rates (change ref second))
 
--- The value of one letter: `same` where it is the reference base, snv + ts for a transition, snv + tv for a transversion,
--- indel − 4096 − 8192 for D and I
-unfoldable pub letterValue : Rates → ℤ → ℤ → ℤ → ℕ → ℕ → ℤ
-letterValue rates same snv indel base letter =
-    cond (isIndel letter)
-    (indel +ℤ lnHalf +ℤ lnQuarter)
-    (cond (eqb letter base) same (snv +ℤ change rates base letter))
+-- 01, section 3: `get_prior` adds −4096 where the letters differ
+unfoldable pub lettersPrior : Rates → Base → Letter → Letter → ℤ
+lettersPrior rates ref first second = diploid rates ref first second +ℤ cond (sameLetter first second) (pos 0) lnHalf
 
--- Haploid: (ref, ref) is `ln_one_minus_exp`(het_snv + het_indel), a product of rates (odd)
-unfoldable pub haploid : Rates → ℕ → ℕ → ℤ
-haploid rates = letterValue rates (oneMinusExp (hetSnv rates +ℤ hetIndel rates)) (hetSnv rates) (hetIndel rates)
+-- base i of an allele
+abbrev pub baseAt : List ℕ → ℕ → Base
+baseAt allele i = baseOf (getD allele i 0)
 
--- Homozygous: the reference is `ln_one_minus_exp` of the four-rate sum
-unfoldable pub homozygous : Rates → ℕ → ℕ → ℤ
-homozygous rates = letterValue rates (oneMinusExp (rateSum rates)) (homSnv rates) (homIndel rates)
+-- 01, section 3: Letters: an allele of the reference's length gives its first base, a longer one I, a shorter one D
+unfoldable pub firstLetter : List ℕ → List ℕ → Letter
+firstLetter reference allele =
+    cond (eqb (length allele) (length reference))
+    (base (baseAt allele 0))
+    (cond (ltb (length reference) (length allele)) I D)
 
--- Diploid: two letters add their haploid values
-unfoldable pub diploid : Rates → ℕ → ℕ → ℕ → ℤ
-diploid rates base first second =
-    cond (eqb first second)
-    (homozygous rates base first)
-    (haploid rates base first +ℤ haploid rates base second)
+-- 01, section 3: where the comparison stops: at the first base that differs, or at the last
+unfoldable pub stopAt : List ℕ → List ℕ → ℕ
+stopAt reference allele = firstFail (λ i. eqb (getD reference i 0) (getD allele i 0)) (length allele - 1)
 
--- the 4 by 36 table: for each reference base the 36 pairs of letters
-unfoldable pub tableEntry : Rates → ℕ → ℤ
-tableEntry rates i = diploid rates (i / 36) (i / 6 % 6) (i % 6)
+-- what a comparison leaves: the reference base, and the allele's letter
+pub record Comparison : Type 0 where
+  pub ref : Base
+  pub letter : Letter
 
-unfoldable pub priorTable : Rates → List ℤ
-priorTable rates = tabulate 144 (tableEntry rates)
+-- 01, section 3: Where that base equals the current reference base, both letters are taken where the comparison stops
+unfoldable pub compared : List ℕ → List ℕ → Base → Comparison
+compared reference allele current =
+    let first = firstLetter reference allele in
+    let stop = stopAt reference allele in
+    cond (sameLetter first (base current))
+    (record { ref = baseAt reference stop; letter = base (baseAt allele stop) })
+    (record { ref = current; letter = first })
 
--- where the table has two letters and a reference base
-unfoldable pub tableIndex : ℕ → ℕ → ℕ → ℕ
-tableIndex base first second = 36 * base + 6 * first + second
+-- 01, section 3: The second allele starts from the reference base the first one left (odd): AC/AG read as (0,1) looks up C with C and A
+unfoldable pub allelesPrior : Rates → List ℕ → List ℕ → List ℕ → ℤ
+allelesPrior rates reference first second =
+    let one = compared reference first (baseAt reference 0) in
+    let two = compared reference second (one .ref) in
+    lettersPrior rates (two .ref) (one .letter) (two .letter)
 
--- `get_prior` adds −4096 where the letters differ
-unfoldable pub tableValue : List ℤ → ℕ → ℕ → ℕ → ℤ
-tableValue table base first second =
-    getD table (tableIndex base first second) (pos 0) +ℤ cond (eqb first second) (pos 0) lnHalf
-
--- The letters of the two alleles are taken one after the other: the second starts from the reference base that the first one left (odd)
-unfoldable pub lookup : List ℤ → List ℕ → List ℕ → List ℕ → ℤ
-lookup table reference first second =
-    let one = compared reference first (letterOf (getD reference 0 0)) in
-    let two = compared reference second (one .base) in
-    tableValue table (two .base) (one .letter) (two .letter)
-
--- `get_prior` of the genotype (i, j)
-unfoldable pub getPrior : List ℤ → Variant → ℕ → ℕ → ℤ
-getPrior table variant i j = lookup table (alleleOf variant 0) (alleleOf variant i) (alleleOf variant j)
+-- `get_prior` of the genotype (i, j), beside the variant's reference, its allele 0
+unfoldable pub getPrior : Rates → Variant → ℕ → ℕ → ℤ
+getPrior rates variant i j = allelesPrior rates (alleleOf variant 0) (alleleOf variant i) (alleleOf variant j)
 
 -- `get_all_priors` in a variant's nine places: k × k row-major, then zeros
-unfoldable pub allPriors : List ℤ → Variant → ℕ → ℤ
-allPriors table variant p =
-    let k = alleleCount variant in cond (ltb p (k * k)) (getPrior table variant (p / k) (p % k)) (pos 0)
+unfoldable pub allPriors : Rates → Variant → ℕ → ℤ
+allPriors rates variant p =
+    let k = alleleCount variant in cond (ltb p (k * k)) (getPrior rates variant (p / k) (p % k)) (pos 0)
 
 -- element e of the priors of a case, nine places per variant
-unfoldable pub priorAt : List ℤ → Case → ℕ → ℤ
-priorAt table case e = allPriors table (variantOf case (e / 9)) (e % 9)
+unfoldable pub priorAt : Rates → Case → ℕ → ℤ
+priorAt rates case e = allPriors rates (variantOf case (e / 9)) (e % 9)

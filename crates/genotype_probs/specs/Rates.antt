@@ -10,7 +10,7 @@ use Rattle.steps.specs.Logs.{sumExp}
 use Rattle.variants_and_fragments.specs.First.{firstFail}
 use Rattle.genotype_probs.specs.declared.Rates.{Rates}
 
--- the six, in steps
+-- 01, section 3: Rates: hom_snv, het_snv, hom_indel, het_indel, ts, tv
 abbrev pub homSnv : Rates → ℤ
 homSnv rates = rates .«hom_snv» .0
 
@@ -29,15 +29,15 @@ tsRate rates = rates .ts .0
 abbrev pub tvRate : Rates → ℤ
 tvRate rates = rates .tv .0
 
--- each −262144..−1
+-- 01, section 3: each −262144..−1
 unfoldable pub rateOk : ℤ → Bool
 rateOk rate = leZ (negsuc 262143) rate && leZ rate (negsuc 0)
 
--- `ln_sum_exp` of the first four
+-- 01, section 3: `ln_sum_exp` of the first four
 unfoldable pub rateSum : Rates → ℤ
 rateSum rates = sumExp (homSnv rates) (hetSnv rates ∷ homIndel rates ∷ hetIndel rates ∷ [])
 
--- the six ranges, then: `ln_sum_exp` of the first four below 0
+-- 01, section 3: the six ranges, and `ln_sum_exp` of the first four below 0
 unfoldable pub rateTests : Rates → List Bool
 rateTests rates =
     rateOk (homSnv rates)
@@ -49,6 +49,6 @@ rateTests rates =
     ∷ ltZ (rateSum rates) (pos 0)
     ∷ []
 
--- the place under 6: rate 0..5, 6 the sum; 7 where the rates are accepted
+-- 01, refusals: the place under 6 is rate 0..5, or 6 for the sum; 7 where the rates are accepted
 unfoldable pub ratesFault : Rates → ℕ
 ratesFault rates = firstFail (λ i. getD (rateTests rates) i true) 7

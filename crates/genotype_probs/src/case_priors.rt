@@ -7,7 +7,7 @@ ghost use Rattle.variants_and_fragments.specs.Accepted.{CaseIn, BasesIn};
 ghost use Rattle.variants_and_fragments.specs.Decode.{decode};
 ghost use Rattle.variants_and_fragments.specs.Written.{written};
 ghost use Rattle.genotype_probs.specs.Rates.{ratesFault};
-ghost use Rattle.genotype_probs.specs.Priors.{priorTable, priorAt};
+ghost use Rattle.genotype_probs.specs.Priors.{priorAt};
 use crate::Rates;
 use crate::priors::write_priors;
 use crate::table::prior_table;
@@ -23,7 +23,7 @@ pub fn make_priors(
     post: &mut [i64],
 )
     requires { ⌜ (now t ≡ knots) × CaseIn (now words) s × BasesIn (now words) s (now bases) × (ratesFault rates ≡ 7) × (9 * (s .n) ≤ length (now post)) ⌝ }
-    ensures { λ _. ⌜ now (post .exit) ≡ written (priorAt (priorTable rates) (decode (now (words .entry)) (now (bases .entry)))) (9 * (s .n)) (now (post .entry)) ⌝ }
+    ensures { λ _. ⌜ now (post .exit) ≡ written (priorAt rates (decode (now (words .entry)) (now (bases .entry)))) (9 * (s .n)) (now (post .entry)) ⌝ }
 {
     let mut table = [0i64; 144];
     prior_table(t, rates, &mut table);

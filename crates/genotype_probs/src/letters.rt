@@ -2,7 +2,9 @@
 ghost use mathlib.Core.Path.{_≡_};
 ghost use Prim.Native.Nat.{_<_};
 ghost use lib.ListN.{length};
-ghost use Rattle.genotype_probs.specs.Letters.{letterOf, firstLetter, stopAt, compared};
+ghost use Rattle.genotype_probs.specs.Letters.{baseOf, baseNumber, letterNumber};
+ghost use Rattle.genotype_probs.specs.Priors.{firstLetter, stopAt, compared};
+ghost use Rattle.genotype_probs.specs.PriorTable.{numberedBase, numbered};
 
 pub const DELETION: usize = 4;
 
@@ -16,7 +18,7 @@ pub struct Compared {
 
 // The letter of a base. Bases come in any order, so no jump is to be made of the tests.
 pub fn letter_of(byte: u8) -> usize
-    ensures { λ r. ⌜ r ≡ letterOf byte ⌝ }
+    ensures { λ r. ⌜ r ≡ baseNumber (baseOf byte) ⌝ }
 {
     let g = if byte == 71 { 2 } else { 3 };
     let c = if byte == 67 { 1 } else { g };
@@ -26,7 +28,7 @@ pub fn letter_of(byte: u8) -> usize
 // The letter that an allele has before any comparison.
 pub fn first_letter(reference: &[u8], allele: &[u8]) -> usize
     requires { ⌜ 0 < length (now allele) ⌝ }
-    ensures { λ r. ⌜ r ≡ firstLetter (now (reference .entry)) (now (allele .entry)) ⌝ }
+    ensures { λ r. ⌜ r ≡ letterNumber (firstLetter (now (reference .entry)) (now (allele .entry))) ⌝ }
 {
     if allele.len() == reference.len() {
         return letter_of(allele[0]);
@@ -59,7 +61,7 @@ pub fn stop_at(reference: &[u8], allele: &[u8]) -> usize
 // The reference base and the allele's letter, from the current reference base.
 pub fn compare(reference: &[u8], allele: &[u8], base: usize) -> Compared
     requires { ⌜ (0 < length (now allele)) × (base < 4) ⌝ }
-    ensures { λ r. ⌜ r ≡ compared (now (reference .entry)) (now (allele .entry)) base ⌝ }
+    ensures { λ r. ⌜ r ≡ numbered (compared (now (reference .entry)) (now (allele .entry)) (numberedBase base)) ⌝ }
 {
     let letter = first_letter(reference, allele);
     if letter != base {

@@ -9,7 +9,8 @@ ghost use Rattle.variants_and_fragments.specs.Layout.{Sized, sizesOf, alleleCou
 ghost use Rattle.variants_and_fragments.specs.Alleles.{VariantsIn, allelesStart};
 ghost use Rattle.variants_and_fragments.specs.Decode.{alleleStart, alleleAt, variantFrom, decode};
 ghost use Rattle.variants_and_fragments.specs.Written.{writtenFrom, written};
-ghost use Rattle.genotype_probs.specs.Priors.{lnHalf, tableValue, lookup, getPrior, allPriors, priorAt};
+ghost use Rattle.genotype_probs.specs.Priors.{lnHalf};
+ghost use Rattle.genotype_probs.specs.PriorTable.{tableValue, lookup, tablePrior, tablePriors, tablePriorAt};
 ghost use Rattle.genotype_probs.specs.PriorInputs.{TableIn, AllelesIn};
 use crate::letters::compare;
 use crate::letters::letter_of;
@@ -90,7 +91,7 @@ fn variant_prior(
 ) -> i64
     requires { ⌜ AllelesIn (now words) (now bases) s × TableIn (now table) ⌝ }
     requires { ⌜ (v < s .n) × (at ≡ allelesStart (now words) v) × (i < alleleCountAt (now words) v) × (j < alleleCountAt (now words) v) ⌝ }
-    ensures { λ r. ⌜ r ≡ getPrior (now (table .entry)) (variantFrom (now (words .entry)) (now (bases .entry)) v) i j ⌝ }
+    ensures { λ r. ⌜ r ≡ tablePrior (now (table .entry)) (variantFrom (now (words .entry)) (now (bases .entry)) v) i j ⌝ }
 {
     let reference = allele(words, s, bases, v, at, 0);
     let first = allele(words, s, bases, v, at, i);
@@ -123,7 +124,7 @@ pub fn get_all_priors(
 )
     requires { ⌜ AllelesIn (now words) (now bases) s × TableIn (now table) ⌝ }
     requires { ⌜ (v < s .n) × (at ≡ allelesStart (now words) v) × (9 * v + 9 ≤ length (now priors)) ⌝ }
-    ensures { λ _. ⌜ now (priors .exit) ≡ writtenFrom (allPriors (now (table .entry)) (variantFrom (now (words .entry)) (now (bases .entry)) v)) (9 * v) 9 (now (priors .entry)) ⌝ }
+    ensures { λ _. ⌜ now (priors .exit) ≡ writtenFrom (tablePriors (now (table .entry)) (variantFrom (now (words .entry)) (now (bases .entry)) v)) (9 * v) 9 (now (priors .entry)) ⌝ }
 {
     let k = layout::allele_count(words, s, v);
     let kk = k * k;
@@ -145,7 +146,7 @@ pub fn get_all_priors(
 // Writes the priors of all variants. At the loop's head those of the first v are written, and `at` is where the bytes of variant v start.
 pub fn write_priors(words: &[i32], s: Sizes, bases: &[u8], table: &[i64], priors: &mut [i64])
     requires { ⌜ AllelesIn (now words) (now bases) s × TableIn (now table) × (s ≡ sizesOf (now words)) × (9 * (s .n) ≤ length (now priors)) ⌝ }
-    ensures { λ _. ⌜ now (priors .exit) ≡ written (priorAt (now (table .entry)) (decode (now (words .entry)) (now (bases .entry)))) (9 * (s .n)) (now (priors .entry)) ⌝ }
+    ensures { λ _. ⌜ now (priors .exit) ≡ written (tablePriorAt (now (table .entry)) (decode (now (words .entry)) (now (bases .entry)))) (9 * (s .n)) (now (priors .entry)) ⌝ }
 {
     let n = s.n;
     let mut at = 0;

@@ -1,14 +1,15 @@
 // The rates, and the 4 by 36 table of priors that is made from them.
 ghost use mathlib.Core.Path.{_≡_};
-ghost use mathlib.Core.Bool.{true};
-ghost use Prim.Native.Nat.{_<_, _≤_, _^_};
+ghost use mathlib.Core.Bool.{true, cond};
+ghost use Prim.Native.Nat.{_+_, _%_, _<_, _≤_, _^_};
+ghost use lib.Dec.{eqb};
 ghost use lib.IntN.{pos, natAbs, _+ℤ_};
 ghost use lib.ListN.{length};
 ghost use lib.Signed.{ltZ};
 ghost use Rattle.steps.specs.Table.{knots};
-ghost use Rattle.genotype_probs.specs.Rates.{homSnv, hetSnv, homIndel, hetIndel, rateOk, rateSum, ratesFault};
-ghost use Rattle.genotype_probs.specs.Priors.{lnHalf, lnQuarter, oneMinusExp, letterValue, tableEntry, priorTable};
-ghost use Rattle.genotype_probs.specs.Priors as spec;
+ghost use Rattle.genotype_probs.specs.Rates.{homSnv, hetSnv, homIndel, hetIndel, tsRate, tvRate, rateOk, rateSum, ratesFault};
+ghost use Rattle.genotype_probs.specs.Priors.{lnHalf, lnQuarter, oneMinusExp};
+ghost use Rattle.genotype_probs.specs.PriorTable.{changeAt, letterValue, tableEntry, priorTable};
 use crate::Rates;
 use crate::letters::DELETION;
 use steps::LogProb;
@@ -73,7 +74,7 @@ fn one_minus_exp(t: &[u16; 1665], p: i64) -> i64
 // The rate of a transition or of a transversion.
 fn change(rates: Rates, base: usize, letter: usize) -> i64
     requires { ⌜ base < 4 ⌝ }
-    ensures { λ r. ⌜ r ≡ spec.change rates base letter ⌝ }
+    ensures { λ r. ⌜ r ≡ cond (eqb letter ((base + 2) % 4)) (tsRate rates) (tvRate rates) ⌝ }
 {
     if letter == (base + 2) % 4 {
         return rates.ts.0;
@@ -106,7 +107,7 @@ fn indel_value(indel: i64) -> i64
 // The value of one letter, where that of the reference base, the rate of another base and the rate of an indel are given.
 fn letter_value(rates: Rates, same: i64, snv: i64, indel: i64, base: usize, letter: usize) -> i64
     requires { ⌜ (ratesFault rates ≡ 7) × (natAbs snv ≤ 262144) × (natAbs indel ≤ 262144) × (base < 4) ⌝ }
-    ensures { λ r. ⌜ r ≡ letterValue rates same snv indel base letter ⌝ }
+    ensures { λ r. ⌜ r ≡ letterValue rates same snv indel (changeAt base letter) ⌝ }
 {
     if DELETION <= letter {
         return indel_value(indel);

@@ -24,7 +24,7 @@ use Rattle.variants_and_fragments.proofs.GoodCases.{good-case}
 use Rattle.variants_and_fragments.proofs.Written.{written-at, written-length}
 use Rattle.genotype_probs.specs.declared.Rates.{Rates}
 use Rattle.genotype_probs.specs.Rates.{ratesFault}
-use Rattle.genotype_probs.specs.Priors.{priorTable, getPrior, allPriors, priorAt}
+use Rattle.genotype_probs.specs.Priors.{getPrior, allPriors, priorAt}
 use Rattle.genotype_probs.proofs.AlleleLaws.{nine}
 use Rattle.genotype_probs.proofs.PriorSizes.{prior-small}
 use Rattle.sweeps.specs.Sweeps.{SweepCase}
@@ -34,10 +34,10 @@ use Rattle.likelihoods.specs.SweepCaseOf.{sweepCaseOf}
 use Rattle.likelihoods.proofs.SweepCases as cases
 
 -- the prior at place p of variant v
-place-is : (table : List ℤ) (case : Case) (v p : ℕ) → p < alleleCount (variantOf case v) * alleleCount (variantOf case v) → p < 9
-    → priorAt table case (9 * v + p) ≡ getPrior table (variantOf case v) (p / alleleCount (variantOf case v)) (p % alleleCount (variantOf case v))
+place-is : (rates : Rates) (case : Case) (v p : ℕ) → p < alleleCount (variantOf case v) * alleleCount (variantOf case v) → p < 9
+    → priorAt rates case (9 * v + p) ≡ getPrior rates (variantOf case v) (p / alleleCount (variantOf case v)) (p % alleleCount (variantOf case v))
 unfolding priorAt allPriors
-place-is table case v p h l =
+place-is rates case v p h l =
     let q : (9 * v + p) / 9 ≡ v = omega arith in
     let r : (9 * v + p) % 9 ≡ p = omega arith in
     rw (q, r, lt-ltb p (alleleCount (variantOf case v) * alleleCount (variantOf case v)) h)
@@ -69,9 +69,9 @@ module _ (rates : Rates) (phased : ℕ → Bool) (w : List ℤ) (b : List ℕ) (
   few-alleles v h = cases.good-sweep-case rates phased case good .three-alleles v (omega (arith, counted))
 
   -- the prior at place p of variant v
-  prior-is : (v p : ℕ) → v < s .n → p < C .k v * C .k v → priorAt (priorTable rates) case (9 * v + p) ≡ C .prior v (p / C .k v) (p % C .k v)
+  prior-is : (v p : ℕ) → v < s .n → p < C .k v * C .k v → priorAt rates case (9 * v + p) ≡ C .prior v (p / C .k v) (p % C .k v)
   unfolding sweepCaseOf
-  prior-is v p h l = place-is (priorTable rates) case v p l (omega (arith, nine (alleleCount (variantOf case v)) (few-alleles v h)))
+  prior-is v p h l = place-is rates case v p l (omega (arith, nine (alleleCount (variantOf case v)) (few-alleles v h)))
 
   prior-in : ratesFault rates ≡ 7 → (v i j : ℕ) → natAbs (C .prior v i j) ≤ 2 ^ 21
   unfolding sweepCaseOf
@@ -102,7 +102,7 @@ module _ (rates : Rates) (phased : ℕ → Bool) (w : List ℤ) (b : List ℕ) (
       (ph-room : s .n ≤ length ph)
       (ph-written : (v : ℕ) → v < s .n → getD ph v 0 ≡ cond (phased v) 1 0)
       (pri-room : 9 * s .n ≤ length pri₀)
-      (pri-written : pri ≡ written (priorAt (priorTable rates) case) (9 * s .n) pri₀)
+      (pri-written : pri ≡ written (priorAt rates case) (9 * s .n) pri₀)
       (made : PilesMade w s ends piles) where
     inside : (v : ℕ) → v < C .n → v < s .n
     inside v h = omega (arith, counted)
@@ -112,7 +112,7 @@ module _ (rates : Rates) (phased : ℕ → Bool) (w : List ℤ) (b : List ℕ) (
         let i = inside v h in
         let t = nine (C .k v) (few-alleles v i) in
         ap (λ (x : List ℤ). getD x (9 * v + p) (pos 0)) pri-written
-        ∙ written-at (priorAt (priorTable rates) case) (9 * s .n) pri₀ (pos 0) pri-room (9 * v + p) (omega arith)
+        ∙ written-at (priorAt rates case) (9 * s .n) pri₀ (pos 0) pri-room (9 * v + p) (omega arith)
         ∙ prior-is v p i l
 
     pub held : Held C (sweepReads ks ph pri ends piles)
@@ -127,7 +127,7 @@ module _ (rates : Rates) (phased : ℕ → Bool) (w : List ℤ) (b : List ℕ) (
           ks-are = λ v h. ap (λ (x : List ℕ). getD x v 0) ks-written ∙ written-at (alleleCountAt w) (s .n) ks₀ 0 ks-room v (inside v h) ∙ sym (alleles-are v (inside v h));
           ph-long = omega arith;
           ph-are = λ v h. rw (cases.phased-is rates phased case v) (ph-written v (inside v h));
-          pri-long = omega (arith, ap length pri-written, written-length (priorAt (priorTable rates) case) (9 * s .n) pri₀);
+          pri-long = omega (arith, ap length pri-written, written-length (priorAt rates case) (9 * s .n) pri₀);
           pri-are = prior-here;
           pri-small = λ v p h l. rw (prior-here v p h l) (prior-in good-rates v (p / C .k v) (p % C .k v));
           piles-are = piles-held made;

@@ -6,7 +6,7 @@ use lib.ListN.{length}
 use Rattle.variants_and_fragments.specs.Case.{Case, alleleCount, variantOf}
 use Rattle.variants_and_fragments.specs.Pileup.{usableCalls}
 use Rattle.genotype_probs.specs.declared.Rates.{Rates}
-use Rattle.genotype_probs.specs.Priors.{priorTable, getPrior}
+use Rattle.genotype_probs.specs.Priors.{getPrior}
 use Rattle.sweeps.specs.Sweeps.{SweepCase, mixOf}
 
 -- its variants with their k and their priors by the rates, the phased variants as given, and each read's usable calls
@@ -15,7 +15,7 @@ sweepCaseOf rates phased case = record {
   n = length (case .variants);
   k = λ v. alleleCount (variantOf case v);
   phased = phased;
-  prior = λ v i j. getPrior (priorTable rates) (variantOf case v) i j;
+  prior = λ v i j. getPrior rates (variantOf case v) i j;
   frags = map (usableCalls (case .cutoff)) (case .fragments);
   mix = mixOf;
 }

@@ -25,7 +25,6 @@ use Rattle.variants_and_fragments.proofs.Decoded.{variants-are, allele-count-is
 use Rattle.variants_and_fragments.proofs.Outcomes.{stop-on}
 use Rattle.genotype_probs.specs.declared.Rates.{Rates}
 use Rattle.genotype_probs.specs.Posteriors.{normalized}
-use Rattle.genotype_probs.specs.Priors.{priorTable}
 use Rattle.genotype_probs.specs.Rates.{ratesFault}
 use Rattle.genotype_probs.proofs.AlleleLaws.{nine}
 use Rattle.no_haplotypes.specs.declared.Called.the-variants.{Done, Refused}
@@ -71,18 +70,18 @@ module _ (w : List ℤ) (b : List ℕ) (rates : Rates) (variants : List ℤ) (qu
     abbrev counted : ℕ → ℕ
     counted v = alleleCount (variantOf (decode w b) v)
 
-    normal : firstNotNormal (posteriors (priorTable rates) (decode w b)) counted (s .n) ≡ s .n
+    normal : firstNotNormal (posteriors rates (decode w b)) counted (s .n) ≡ s .n
     unfolding posteriors
     normal =
-        none-not-normal (posteriors (priorTable rates) (decode w b)) (λ v. tabulate 9 (scoreAt (priorTable rates) (decode w b) v)) counted (s .n)
+        none-not-normal (posteriors rates (decode w b)) (λ v. tabulate 9 (scoreAt rates (decode w b) v)) counted (s .n)
         (λ v h. omega (arith, allele-count-is case-of b v h, case-of .variants .each v h .k-low))
-        (λ v h p l. tabulate-at 9 (normalized (tabulate 9 (scoreAt (priorTable rates) (decode w b) v)) (counted v)) p (pos 0)
+        (λ v h p l. tabulate-at 9 (normalized (tabulate 9 (scoreAt rates (decode w b) v)) (counted v)) p (pos 0)
         (omega (arith, nine (counted v) (omega (arith, allele-count-is case-of b v h, case-of .variants .each v h .k-high)))))
 
     past-case : answers ≡ unless (eqb (ratesFault rates) 7) 6 (ratesFault rates) (unless (leb (s .n) (length quals) && leb (s .n) (length gqs)) 10 (s .n) (unless (leb (13 * (s .n)) (length variants)) 10 (13 * (s .n)) (done tt)))
     unfolding calledOf andThen
     past-case =
-        let z : _≡_ {A = Outcome Unit} (done tt) (stop 12 (firstNotNormal (posteriors (priorTable rates) (decode w b)) counted (s .n)) (s .n) (done tt)) = stop-on 12 (firstNotNormal (posteriors (priorTable rates) (decode w b)) counted (s .n)) (s .n) (done tt) (omega (arith, normal)) in
+        let z : _≡_ {A = Outcome Unit} (done tt) (stop 12 (firstNotNormal (posteriors rates (decode w b)) counted (s .n)) (s .n) (done tt)) = stop-on 12 (firstNotNormal (posteriors rates (decode w b)) counted (s .n)) (s .n) (done tt) (omega (arith, normal)) in
         rw (is-done w b s accepted, ← z)
 
     pub rates-refused : (p : ℕ) → p ≡ ratesFault rates → p < 7 → CalledNoHaplotypes w b rates variants quals gqs (Refused (BadRates p)) variants quals gqs

@@ -27,7 +27,7 @@ use Rattle.variants_and_fragments.proofs.Written.{written-at, written-length, w
 use Rattle.pileup.specs.Packed.{Grouped}
 use Rattle.pileup.proofs.Groups.{group-rows, group-in}
 use Rattle.genotype_probs.specs.declared.Rates.{Rates}
-use Rattle.genotype_probs.specs.Priors.{priorTable, allPriors, priorAt}
+use Rattle.genotype_probs.specs.Priors.{allPriors, priorAt}
 use Rattle.genotype_probs.specs.Rates.{ratesFault}
 use Rattle.genotype_probs.proofs.PriorSizes.{prior-small}
 use Rattle.genotype_probs.proofs.TableSizes.{by-cond}
@@ -70,18 +70,18 @@ module _ {w : List ℤ} {s : Sizes} {ambiguous ends piles : List ℕ} (p : Piled
       }
 
 -- ---- the priors
-all-small : (rates : Rates) → ratesFault rates ≡ 7 → (variant : Variant) (p : ℕ) → natAbs (allPriors (priorTable rates) variant p) ≤ 2 ^ 21
+all-small : (rates : Rates) → ratesFault rates ≡ 7 → (variant : Variant) (p : ℕ) → natAbs (allPriors rates variant p) ≤ 2 ^ 21
 unfolding allPriors
 all-small rates e variant p = let k = alleleCount variant in by-cond (ltb p (k * k)) _ (λ _. prior-small rates e variant (p / k) (p % k))
 
-module _ {w : List ℤ} {s : Sizes} (b : List ℕ) (rates : Rates) (before post : List ℤ) (k : CaseIn w s) (accepted : ratesFault rates ≡ 7) (long : length before ≡ 9216) (e : post ≡ written (priorAt (priorTable rates) (decode w b)) (9 * (s .n)) before) where
-  prior-here : (i : ℕ) → i < 9 * (s .n) → getD post i (pos 0) ≡ priorAt (priorTable rates) (decode w b) i
-  prior-here i h = ap (λ (l : List ℤ). getD l i (pos 0)) e ∙ written-at (priorAt (priorTable rates) (decode w b)) (9 * (s .n)) before (pos 0) (omega (arith, k .sized .n-top)) i h
+module _ {w : List ℤ} {s : Sizes} (b : List ℕ) (rates : Rates) (before post : List ℤ) (k : CaseIn w s) (accepted : ratesFault rates ≡ 7) (long : length before ≡ 9216) (e : post ≡ written (priorAt rates (decode w b)) (9 * (s .n)) before) where
+  prior-here : (i : ℕ) → i < 9 * (s .n) → getD post i (pos 0) ≡ priorAt rates (decode w b) i
+  prior-here i h = ap (λ (l : List ℤ). getD l i (pos 0)) e ∙ written-at (priorAt rates (decode w b)) (9 * (s .n)) before (pos 0) (omega (arith, k .sized .n-top)) i h
 
   pub priors-in : PriorsIn post (s .n)
   unfolding priorAt
   priors-in = record {
-    room = omega (arith, ap length e, written-length (priorAt (priorTable rates) (decode w b)) (9 * (s .n)) before, k .sized .n-top);
+    room = omega (arith, ap length e, written-length (priorAt rates (decode w b)) (9 * (s .n)) before, k .sized .n-top);
     small = λ i h. omega (arith, ap natAbs (prior-here i h), all-small rates accepted (variantOf (decode w b) (i / 9)) (i % 9));
   }
 
@@ -90,14 +90,14 @@ module _ {w : List ℤ} {s : Sizes} (b : List ℕ) (rates : Rates) (before post 
     count-here : alleleCountAt w v ≡ alleleCount (variantOf (decode w b) v)
     count-here = sym (allele-count-is k b v h)
 
-    prior-of : (p : ℕ) → p < 9 → getD (drop (9 * v) post) p (pos 0) ≡ allPriors (priorTable rates) (variantOf (decode w b) v) p
+    prior-of : (p : ℕ) → p < 9 → getD (drop (9 * v) post) p (pos 0) ≡ allPriors rates (variantOf (decode w b) v) p
     unfolding priorAt
     prior-of p l =
         let q : (9 * v + p) / 9 ≡ v = omega arith in
         let r : (9 * v + p) % 9 ≡ p = omega arith in
         getD-drop (9 * v) post p (pos 0) ∙ prior-here (9 * v + p) (omega arith) ∙ rw (q, r)
 
-    score-is : (p : ℕ) → p < 9 → scoredFrom (drop (9 * v) post) (alleleCountAt w v) (pileOf (decode w b) v) p ≡ scoreAt (priorTable rates) (decode w b) v p
+    score-is : (p : ℕ) → p < 9 → scoredFrom (drop (9 * v) post) (alleleCountAt w v) (pileOf (decode w b) v) p ≡ scoreAt rates (decode w b) v p
     unfolding scoredFrom scoreAt pairScore allPriors
     score-is p l =
         let n = alleleCount (variantOf (decode w b) v) in
@@ -105,16 +105,16 @@ module _ {w : List ℤ} {s : Sizes} (b : List ℕ) (rates : Rates) (before post 
         (λ t. let d = rw t at (prior-of p l) in rw (count-here, t, d))
         (λ t. rw (count-here, t))
 
-    pub made-is : madeFrom w post b v ≡ posteriors (priorTable rates) (decode w b) v
+    pub made-is : madeFrom w post b v ≡ posteriors rates (decode w b) v
     unfolding posteriorsFrom posteriors
-    made-is = rw (tabulate-cong 9 (scoredFrom (drop (9 * v) post) (alleleCountAt w v) (pileOf (decode w b) v)) (scoreAt (priorTable rates) (decode w b) v) score-is, count-here)
+    made-is = rw (tabulate-cong 9 (scoredFrom (drop (9 * v) post) (alleleCountAt w v) (pileOf (decode w b) v)) (scoreAt rates (decode w b) v) score-is, count-here)
 
   -- and so the answers
   pub accepted-called : {variants variants' : List ℤ} {quals gqs quals' gqs' : List Float} → VariantsCalled w (s .n) post variants quals gqs variants' quals' gqs' → AcceptedCalled w b rates (s .n) variants quals gqs variants' quals' gqs'
   unfolding answerAt variantAnswer qualAt gqAt
   accepted-called {variants} {variants'} {quals} {gqs} c =
       record {
-        variants-are = c .variants-are b ∙ written-same _ (answerAt (priorTable rates) (decode w b)) (13 * (s .n)) variants (λ i m. let h : i / 13 < s .n = omega arith in rw (made-is (i / 13) h, count-here (i / 13) h));
-        quals-are = c .quals-are b ∙ written-same _ (qualAt (priorTable rates) (decode w b)) (s .n) quals (λ v m. rw (made-is v m));
-        gqs-are = c .gqs-are b ∙ written-same _ (gqAt (priorTable rates) (decode w b)) (s .n) gqs (λ v m. rw (made-is v m, count-here v m));
+        variants-are = c .variants-are b ∙ written-same _ (answerAt rates (decode w b)) (13 * (s .n)) variants (λ i m. let h : i / 13 < s .n = omega arith in rw (made-is (i / 13) h, count-here (i / 13) h));
+        quals-are = c .quals-are b ∙ written-same _ (qualAt rates (decode w b)) (s .n) quals (λ v m. rw (made-is v m));
+        gqs-are = c .gqs-are b ∙ written-same _ (gqAt rates (decode w b)) (s .n) gqs (λ v m. rw (made-is v m, count-here v m));
       }

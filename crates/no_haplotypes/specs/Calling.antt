@@ -19,7 +19,6 @@ use Rattle.pileup.specs.Packed.{RowIn, groupStart}
 use Rattle.pileup.specs.Piles.{PilesMade}
 use Rattle.genotype_probs.specs.declared.posteriors.Genotype.{Genotype}
 use Rattle.genotype_probs.specs.declared.Rates.{Rates}
-use Rattle.genotype_probs.specs.Priors.{priorTable}
 use Rattle.no_haplotypes.specs.declared.tally.Pile.{Pile}
 use Rattle.no_haplotypes.specs.NoHaplotypes.{callsAt, answerFrom, qualFrom, gqFrom, answerAt, qualAt, gqAt}
 use Rattle.no_haplotypes.specs.Tally.{pileRows, PileIn, CountsIn, posteriorsFrom}
@@ -99,6 +98,6 @@ pub record VariantsCalled (w : List ℤ) (n : ℕ) (post variants : List ℤ) (q
 
 -- the n variants of an accepted case called at accepted rates
 pub record AcceptedCalled (w : List ℤ) (b : List ℕ) (rates : Rates) (n : ℕ) (variants : List ℤ) (quals gqs : List Float) (variants' : List ℤ) (quals' gqs' : List Float) : Type 0 where
-  pub variants-are : variants' ≡ written (answerAt (priorTable rates) (decode w b)) (13 * n) variants
-  pub quals-are : quals' ≡ written (qualAt (priorTable rates) (decode w b)) n quals
-  pub gqs-are : gqs' ≡ written (gqAt (priorTable rates) (decode w b)) n gqs
+  pub variants-are : variants' ≡ written (answerAt rates (decode w b)) (13 * n) variants
+  pub quals-are : quals' ≡ written (qualAt rates (decode w b)) n quals
+  pub gqs-are : gqs' ≡ written (gqAt rates (decode w b)) n gqs

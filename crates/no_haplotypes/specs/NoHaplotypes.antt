@@ -21,7 +21,7 @@ use Rattle.variants_and_fragments.specs.Written.{written}
 use Rattle.genotype_probs.specs.declared.Rates.{Rates}
 use Rattle.genotype_probs.specs.declared.posteriors.GenotypePost.{GenotypePost}
 use Rattle.genotype_probs.specs.Rates.{ratesFault}
-use Rattle.genotype_probs.specs.Priors.{lnHalf, priorTable, getPrior}
+use Rattle.genotype_probs.specs.Priors.{lnHalf, getPrior}
 use Rattle.genotype_probs.specs.Posteriors.{normalized, maxGenotypePost}
 use Rattle.genotype_probs.specs.Normalized.{firstNotNormal}
 use Rattle.no_haplotypes.specs.declared.Called.{Called}
@@ -40,10 +40,10 @@ callScore i j call =
     (call .one-minus-qual)
     (cond (eqb (call .allele) i || eqb (call .allele) j) (mixed (call .qual) (call .one-minus-qual)) (call .qual))
 
-module _ (table : List ℤ) (case : Case) (v : ℕ) where
+module _ (rates : Rates) (case : Case) (v : ℕ) where
   -- the score of a pair: its prior plus these over the usable calls at v
   unfoldable pub pairScore : ℕ → ℕ → ℤ
-  pairScore i j = getPrior table (variantOf case v) i j +ℤ sumOver (pileOf case v) (λ row. callScore i j (row .call))
+  pairScore i j = getPrior rates (variantOf case v) i j +ℤ sumOver (pileOf case v) (λ row. callScore i j (row .call))
 
   -- the scores of v: k × k row-major, then zeros to nine
   unfoldable pub scoreAt : ℕ → ℤ
@@ -99,20 +99,20 @@ answerFrom post k case v p =
     ∷ strandCalls case v 1 0 ∷ strandCalls case v 1 1 ∷ strandCalls case v 1 2
     ∷ ambiguousCount case v ∷ depthAfter case v ∷ []) p 0)
 
--- ---- of a case, from the table of priors
-module _ (table : List ℤ) (case : Case) where
+-- ---- of a case, at its rates
+module _ (rates : Rates) (case : Case) where
   unfoldable pub variantAnswer : ℕ → ℕ → ℤ
-  variantAnswer v = answerFrom (posteriors table case v) (alleleCount (variantOf case v)) case v
+  variantAnswer v = answerFrom (posteriors rates case v) (alleleCount (variantOf case v)) case v
 
   -- element e of the answers
   unfoldable pub answerAt : ℕ → ℤ
   answerAt e = variantAnswer (e / 13) (e % 13)
 
   unfoldable pub qualAt : ℕ → Float
-  qualAt v = qualFrom (posteriors table case v)
+  qualAt v = qualFrom (posteriors rates case v)
 
   unfoldable pub gqAt : ℕ → Float
-  gqAt v = gqFrom (posteriors table case v) (alleleCount (variantOf case v))
+  gqAt v = gqFrom (posteriors rates case v) (alleleCount (variantOf case v))
 
 -- ---- the operation
 
@@ -124,7 +124,7 @@ calledOf w b rates variants quals gqs =
     (λ s. unless (eqb (ratesFault rates) 7) 6 (ratesFault rates)
     (unless (leb (s .n) quals && leb (s .n) gqs) 10 (s .n)
     (unless (leb (13 * (s .n)) variants) 10 (13 * (s .n))
-    (stop 12 (firstNotNormal (posteriors (priorTable rates) (decode w b)) (λ v. alleleCount (variantOf (decode w b) v)) (s .n)) (s .n)
+    (stop 12 (firstNotNormal (posteriors rates (decode w b)) (λ v. alleleCount (variantOf (decode w b) v)) (s .n)) (s .n)
     (done tt)))))
 
 -- the answer of the operation in 01's terms
@@ -135,6 +135,6 @@ outcomeOf (Refused x) = refused (number x) (place x)
 -- what the operation promises
 pub record CalledNoHaplotypes (w : List ℤ) (b : List ℕ) (rates : Rates) (variants : List ℤ) (quals gqs : List Float) (r : Called) (variants' : List ℤ) (quals' gqs' : List Float) : Type 0 where
   pub answer : outcomeOf r ≡ calledOf w b rates (length variants) (length quals) (length gqs)
-  pub variants-after : variants' ≡ afterwards (outcomeOf r) (written (answerAt (priorTable rates) (decode w b)) (13 * length (decode w b .variants)) variants) variants
-  pub quals-after : quals' ≡ afterwards (outcomeOf r) (written (qualAt (priorTable rates) (decode w b)) (length (decode w b .variants)) quals) quals
-  pub gqs-after : gqs' ≡ afterwards (outcomeOf r) (written (gqAt (priorTable rates) (decode w b)) (length (decode w b .variants)) gqs) gqs
+  pub variants-after : variants' ≡ afterwards (outcomeOf r) (written (answerAt rates (decode w b)) (13 * length (decode w b .variants)) variants) variants
+  pub quals-after : quals' ≡ afterwards (outcomeOf r) (written (qualAt rates (decode w b)) (length (decode w b .variants)) quals) quals
+  pub gqs-after : gqs' ≡ afterwards (outcomeOf r) (written (gqAt rates (decode w b)) (length (decode w b .variants)) gqs) gqs

@@ -19,8 +19,8 @@ use Rattle.variants_and_fragments.specs.Decode.{tabulateFrom, alleleStart, alle
 use Rattle.variants_and_fragments.specs.Encode.{encodeWords, encodeBases}
 use Rattle.variants_and_fragments.specs.Pileup.{only, usableCalls}
 use Rattle.genotype_probs.specs.Rates.{rateOk, rateSum, rateTests, ratesFault}
-use Rattle.genotype_probs.specs.Letters.{letterOf, firstLetter, stopAt, compared}
-use Rattle.genotype_probs.specs.Priors.{finite, oneMinusExp, isIndel, transition, change, letterValue, haploid, homozygous, diploid, tableEntry, priorTable, tableIndex, tableValue, lookup, getPrior, allPriors}
+use Rattle.genotype_probs.specs.Letters.{baseOf, baseNumber, letterNumber, sameLetter, transitionOf, change}
+use Rattle.genotype_probs.specs.Priors.{finite, oneMinusExp, haploid, homozygous, diploid, lettersPrior, firstLetter, stopAt, compared, allelesPrior, getPrior, allPriors}
 use Rattle.genotype_probs.specs.Posteriors.{firstMaximum}
 use Rattle.haplotype_assembly.specs.Phase.{orderedFirst, orderedSecond, phasedTest, phasedRule, phased, phasedFlags, pairPlace, startAllele, startHaplotypes}
 use Rattle.haplotype_assembly.specs.GivenPhase.{setsOk, phaseFaultAt}
@@ -48,7 +48,7 @@ checks = tt
 
 -- section 3
 unfoldable pub priors : Unit {0}
-unfolding logs firstFailFrom firstFail rateOk rateSum rateTests ratesFault letterOf firstLetter stopAt compared finite oneMinusExp isIndel transition change letterValue haploid homozygous diploid tableEntry priorTable tabulateFrom tableIndex tableValue lookup getPrior allPriors
+unfolding logs firstFailFrom firstFail rateOk rateSum rateTests ratesFault baseOf baseNumber letterNumber sameLetter transitionOf change finite oneMinusExp haploid homozygous diploid lettersPrior firstLetter stopAt compared allelesPrior getPrior allPriors
 priors = tt
 
 -- section 5

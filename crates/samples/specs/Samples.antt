@@ -19,7 +19,7 @@ use Rattle.variants_and_fragments.specs.Decode.{decode}
 use Rattle.variants_and_fragments.specs.Encode.{encodeWords, encodeBases}
 use Rattle.genotype_probs.specs.declared.Rates.{Rates}
 use Rattle.genotype_probs.specs.Rates.{ratesFault}
-use Rattle.genotype_probs.specs.Priors.{priorTable, allPriors}
+use Rattle.genotype_probs.specs.Priors.{allPriors}
 use Rattle.haplotype_assembly.specs.Phase.{phase0, phase1}
 use Rattle.with_haplotypes.specs.declared.RoundAnswer.{RoundAnswer}
 use Rattle.with_haplotypes.specs.Round.{RoundInput, roundInput, runOf, result, returned}
@@ -105,7 +105,7 @@ pub record Samples : Type 0 where
   pub f : lnOneMinusExp (steps (neg 4096)) ≡ steps (neg 4096)
   pub f-greatest : OneMinusExp (steps (neg 4096)) (steps (neg 4096))
   -- (g) priors 0, −78192, −78192, −74096
-  pub g : map (allPriors (priorTable rates) variant) (0 ∷ 1 ∷ 2 ∷ 3 ∷ []) ≡ pos 0 ∷ neg 78192 ∷ neg 78192 ∷ neg 74096 ∷ []
+  pub g : map (allPriors rates variant) (0 ∷ 1 ∷ 2 ∷ 3 ∷ []) ≡ pos 0 ∷ neg 78192 ∷ neg 78192 ∷ neg 74096 ∷ []
   pub g-accepted : ratesFault rates ≡ 7
   -- (h) one variant, genotype (0,1), one read of G, phase '0': two sweeps, totals −81592 to −5796, pair (0,0)
   pub h : SampleRound (reads 0 1) (phase0 ∷ []) (0 ∷ []) (0 ∷ 1 ∷ []) (0 ∷ 0 ∷ []) (settledAfter 2 (neg 81592) (neg 5796))

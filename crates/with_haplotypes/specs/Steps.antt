@@ -15,7 +15,7 @@ use Rattle.pileup.specs.Rows.{RowsMade}
 use Rattle.pileup.specs.Piles.{PilesMade}
 use Rattle.genotype_probs.specs.declared.Rates.{Rates}
 use Rattle.genotype_probs.specs.Rates.{ratesFault}
-use Rattle.genotype_probs.specs.Priors.{priorTable, priorAt}
+use Rattle.genotype_probs.specs.Priors.{priorAt}
 use Rattle.shuffle.specs.Orders.{orderCount, GoodOrders}
 use Rattle.sweeps.specs.Sweeps.{GoodHaps, phasedTotal, sourceTotal}
 use Rattle.sweeps.specs.Demand3.{Demand3}
@@ -82,7 +82,7 @@ pub record Prepared (w : List ℤ) (b : List ℕ) (rates : Rates) (s : Sizes) (x
   pub piles-made : PilesMade w s (x .pile-ends) (x .piles)
   pub pri-was : List ℤ
   pub pri-room : 9 * s .n ≤ length pri-was
-  pub pri-are : x .pri ≡ written (priorAt (priorTable rates) (decode w b)) (9 * s .n) pri-was
+  pub pri-are : x .pri ≡ written (priorAt rates (decode w b)) (9 * s .n) pri-was
 
 -- ---- run
 -- each variant's number of alleles stands in ks

@@ -1,4 +1,4 @@
--- `case_priors::make_priors` meets its contract: the table of accepted rates is small.
+-- `case_priors::make_priors` meets its contract: the table of accepted rates is small, and holds their priors.
 -- Assumes nothing.
 use mathlib.Core.Path.{ap, _∙_}
 use mathlib.Core.List.{List}
@@ -7,8 +7,11 @@ use denote.Ref.{now}
 use lib.IntN.{ℤ}
 use Rattle.variants_and_fragments.specs.Decode.{decode}
 use Rattle.variants_and_fragments.specs.Written.{written}
+use Rattle.variants_and_fragments.proofs.Written.{written-same}
 use Rattle.genotype_probs.specs.Priors.{priorAt}
+use Rattle.genotype_probs.specs.PriorTable.{priorTable, tablePriorAt}
 use Rattle.genotype_probs.proofs.AcceptedPriors.{table-in, alleles-in}
+use Rattle.genotype_probs.proofs.PriorTable.{places-hold}
 use borrow.Author.Needs.{needs}
 use Rattle.genotype_probs.proofs.case_priors.make_priors.Statement.{statement}
 use Rattle.genotype_probs.proofs.case_priors.make_priors.Tie as tie
@@ -42,7 +45,10 @@ returns : tie.Need-returns
 returns c =
     let p = filled (c .before) in
     let s = start p in
-    c .before .write-priors .ensures ∙ ap (λ (table : List ℤ). written (priorAt table (decode (now (s .args .words)) (now (s .args .bases)))) (9 * (s .args .s .n)) (now (s .args .post))) (p .prior-table .ensures)
+    let case = decode (now (s .args .words)) (now (s .args .bases)) in
+    c .before .write-priors .ensures
+    ∙ ap (λ (table : List ℤ). written (tablePriorAt table case) (9 * (s .args .s .n)) (now (s .args .post))) (p .prior-table .ensures)
+    ∙ written-same (tablePriorAt (priorTable (s .args .rates)) case) (priorAt (s .args .rates) case) (9 * (s .args .s .n)) (now (s .args .post)) (λ i h. places-hold (s .args .rates) case i)
 
 pub make-priors-spec : {M : Type 1} → statement M
 make-priors-spec =

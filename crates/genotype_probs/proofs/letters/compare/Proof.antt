@@ -5,7 +5,8 @@ use native.Mathlib.Omega.{arith}
 use borrow.Author.Needs.{needs}
 use denote.Ref.{now}
 use lib.ListN.{length}
-use Rattle.genotype_probs.specs.Letters.{firstLetter}
+use Rattle.genotype_probs.specs.Letters.{letterNumber}
+use Rattle.genotype_probs.specs.Priors.{firstLetter}
 use Rattle.genotype_probs.proofs.Comparisons.{same-length, compared-other, compared-same}
 use Rattle.genotype_probs.proofs.letters.compare.Statement.{statement}
 use Rattle.genotype_probs.proofs.letters.compare.Tie as tie
@@ -19,13 +20,13 @@ returns c =
     let r = now (s .args .reference) in
     let a = now (s .args .allele) in
     let e = c .before .first-letter .ensures in
-    cc (e, compared-other r a (s .args .base) (λ h. c .if1 .taken (e ∙ h)))
+    cc (e, compared-other r a (s .args .base) (s .pre .1) (λ h. c .if1 .taken (e ∙ h)))
 
 -- where the letter equals the base
 abbrev start : tie.Else1 → tie.Start
 start c = c .before .before .before .before
 
-equal : (c : tie.Else1) → firstLetter (now (start c .args .reference)) (now (start c .args .allele)) ≡ start c .args .base
+equal : (c : tie.Else1) → letterNumber (firstLetter (now (start c .args .reference)) (now (start c .args .allele))) ≡ start c .args .base
 equal c = sym (c .before .first-letter .ensures) ∙ c .if1 .left
 
 lengths : (c : tie.Else1) → length (now (start c .args .allele)) ≡ length (now (start c .args .reference))
@@ -53,7 +54,7 @@ returns-2 c =
     let s = start (d .before) in
     let r = now (s .args .reference) in
     let a = now (s .args .allele) in
-    cc (compared-same r a (s .args .base) (d .stop-at .result) (equal (d .before)) (d .stop-at .ensures .1))
+    cc (compared-same r a (s .args .base) (s .pre .1) (d .stop-at .result) (equal (d .before)) (d .stop-at .ensures .1))
 
 pub compare-spec : {M : Type 1} → statement M
 compare-spec =

@@ -11,7 +11,7 @@ use lib.Dec.{eqb}
 use lib.ListN.{length, getD}
 use Rattle.steps.proofs.Signed.{cases}
 use Rattle.variants_and_fragments.proofs.First.{first-at, first-end}
-use Rattle.genotype_probs.specs.Letters.{stopAt}
+use Rattle.genotype_probs.specs.Priors.{stopAt}
 use Rattle.genotype_probs.proofs.letters.stop_at.Statement.{statement}
 use Rattle.genotype_probs.proofs.letters.stop_at.Tie as tie
 

@@ -14,7 +14,7 @@ use Rattle.steps.proofs.Signed.{read-back}
 use Rattle.variants_and_fragments.specs.Decode.{variantFrom}
 use Rattle.variants_and_fragments.specs.Written.{writtenFrom}
 use Rattle.variants_and_fragments.proofs.Written.{from-on, from-length, from-join}
-use Rattle.genotype_probs.specs.Priors.{allPriors}
+use Rattle.genotype_probs.specs.PriorTable.{tablePriors}
 use Rattle.genotype_probs.proofs.AlleleLaws.{nine, place-is, past-places}
 use Rattle.genotype_probs.proofs.Pairs.{NextPair, pair-start, pair-div, pair-mod, first-in, row-on, place-on}
 use Rattle.genotype_probs.proofs.priors.get_all_priors.Statement.{statement}
@@ -22,7 +22,7 @@ use Rattle.genotype_probs.proofs.priors.get_all_priors.Tie as tie
 
 abbrev Inv-loop : tie.InvT-loop
 Inv-loop words s bases table v at priors₀ k kk p₀ i₀ j₀ priors p i j =
-    NextPair k p i j × (priors ≡ writtenFrom (allPriors table (variantFrom words bases v)) (9 * v) p priors₀)
+    NextPair k p i j × (priors ≡ writtenFrom (tablePriors table (variantFrom words bases v)) (9 * v) p priors₀)
 
 abbrev μ-loop : tie.MeasureT-loop
 μ-loop words s bases table v at priors₀ k kk p₀ i₀ j₀ priors p i j = kk - p
@@ -36,7 +36,7 @@ count c = c .allele-count .result
 
 -- the priors of the variant's places
 abbrev places : tie.After-allele-count Inv-loop μ-loop → ℕ → ℤ
-places c = allPriors (now (st c .args .table)) (variantFrom (now (st c .args .words)) (now (st c .args .bases)) (st c .args .v))
+places c = tablePriors (now (st c .args .table)) (variantFrom (now (st c .args .words)) (now (st c .args .bases)) (st c .args .v))
 
 -- 1 ≤ k ≤ 3
 count-low : (c : tie.After-allele-count Inv-loop μ-loop) → 0 < count c

@@ -11,7 +11,8 @@ use lib.IntN.{ℤ, pos, natAbs, _+ℤ_}
 use lib.ListN.{getD}
 use mir.Syntax.{w64}
 use Rattle.steps.proofs.Signed.{plus-fits, plus-read}
-use Rattle.genotype_probs.specs.Priors.{lnHalf, tableIndex, tableValue}
+use Rattle.genotype_probs.specs.Priors.{lnHalf}
+use Rattle.genotype_probs.specs.PriorTable.{tableValue}
 use Rattle.genotype_probs.proofs.priors.table_value.Statement.{statement}
 use Rattle.genotype_probs.proofs.priors.table_value.Tie as tie
 
@@ -56,7 +57,7 @@ add-result : tie.Need-add-result
 add-result c = plus-fits w64 (entry c) (c .letters-share .result) (small c)
 
 returns : tie.Need-returns
-unfolding tableValue tableIndex
+unfolding tableValue
 returns c =
     plus-read w64 (entry c) (c .letters-share .result) (small c) ∙ ap (λ (z : ℤ). entry c +ℤ z) (c .letters-share .ensures)
 

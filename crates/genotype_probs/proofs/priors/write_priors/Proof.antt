@@ -12,14 +12,14 @@ use Rattle.variants_and_fragments.proofs.AlleleBytes.{off-on}
 use Rattle.variants_and_fragments.specs.Decode.{variantFrom, decode}
 use Rattle.variants_and_fragments.specs.Written.{writtenFrom, written}
 use Rattle.variants_and_fragments.proofs.Written.{written-length, from-after}
-use Rattle.genotype_probs.specs.Priors.{allPriors, priorAt}
+use Rattle.genotype_probs.specs.PriorTable.{tablePriors, tablePriorAt}
 use Rattle.genotype_probs.proofs.AlleleLaws.{start-top, element-is}
 use Rattle.genotype_probs.proofs.priors.write_priors.Statement.{statement}
 use Rattle.genotype_probs.proofs.priors.write_priors.Tie as tie
 
 abbrev Inv-loop : tie.InvT-loop
 Inv-loop words s bases table priors₀ n at₀ v₀ priors at v =
-    (v ≤ s .n) × (at ≡ allelesStart words v) × (priors ≡ written (priorAt table (decode words bases)) (9 * v) priors₀)
+    (v ≤ s .n) × (at ≡ allelesStart words v) × (priors ≡ written (tablePriorAt table (decode words bases)) (9 * v) priors₀)
 
 abbrev μ-loop : tie.MeasureT-loop
 μ-loop words s bases table priors₀ n at₀ v₀ priors at v = s .n - v
@@ -32,7 +32,7 @@ loop-holds c = (omega arith, refl, refl)
 as-long : (l : tie.At-loop Inv-loop μ-loop) → length (l .loop .priors) ≡ length (now (l .before .before .args .priors))
 as-long l =
     let s = l .before .before in
-    ap length (l .loop .inv .2) ∙ written-length (priorAt (now (s .args .table)) (decode (now (s .args .words)) (now (s .args .bases)))) (9 * l .loop .v) (now (s .args .priors))
+    ap length (l .loop .inv .2) ∙ written-length (tablePriorAt (now (s .args .table)) (decode (now (s .args .words)) (now (s .args .bases)))) (9 * l .loop .v) (now (s .args .priors))
 
 get-all-priors-requires : tie.Need-get-all-priors-requires Inv-loop μ-loop
 get-all-priors-requires c κs =
@@ -68,15 +68,15 @@ loop-again c =
     let b = now (s .args .bases) in
     let v = l .loop .v in
     let h : v < s .args .s .n = c .before .before .before .before .loop-test .taken in
-    let g = priorAt (now (s .args .table)) (decode w b) in
+    let g = tablePriorAt (now (s .args .table)) (decode w b) in
     let o = now (s .args .priors) in
     let n : v < sizesOf w .n = omega (arith, ap (λ (z : Sizes). z .n) (s .pre .2)) in
     let m : 9 * v + 9 ≡ 9 * (v + 1) = omega arith in (
       omega arith,
       omega (arith, l .loop .inv .1, c .alleles-length .ensures .0, off-on w v),
       c .before .before .get-all-priors .ensures
-          ∙ ap (writtenFrom (allPriors (now (s .args .table)) (variantFrom w b v)) (9 * v) 9) (l .loop .inv .2)
-          ∙ from-after g (allPriors (now (s .args .table)) (variantFrom w b v)) (9 * v) 9 o (λ p k. element-is (now (s .args .table)) w b v p n k)
+          ∙ ap (writtenFrom (tablePriors (now (s .args .table)) (variantFrom w b v)) (9 * v) 9) (l .loop .inv .2)
+          ∙ from-after g (tablePriors (now (s .args .table)) (variantFrom w b v)) (9 * v) 9 o (λ p k. element-is (now (s .args .table)) w b v p n k)
           ∙ ap (λ (k : ℕ). written g k o) m,
     )
 
@@ -88,7 +88,7 @@ returns c =
     let l = c .before in
     let s = l .before .before in
     let e : l .loop .v ≡ s .args .s .n = omega arith in
-    let g = priorAt (now (s .args .table)) (decode (now (s .args .words)) (now (s .args .bases))) in
+    let g = tablePriorAt (now (s .args .table)) (decode (now (s .args .words)) (now (s .args .bases))) in
     l .loop .inv .2 ∙ ap (λ (n : ℕ). written g (9 * n) (now (s .args .priors))) e
 
 pub write-priors-spec : {M : Type 1} → statement M

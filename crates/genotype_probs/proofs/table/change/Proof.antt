@@ -6,7 +6,6 @@ use borrow.Author.Tests.{eq-eqb, ne-eqb}
 use mir.Syntax.{w64}
 use mir.Val.{toZ, ofZ}
 use Rattle.genotype_probs.specs.Rates.{tsRate, tvRate}
-use Rattle.genotype_probs.specs.Priors.{transition, change}
 use Rattle.genotype_probs.proofs.table.change.Statement.{statement}
 use Rattle.genotype_probs.proofs.table.change.Tie as tie
 
@@ -14,14 +13,12 @@ add-if1 : tie.Need-add-if1
 add-if1 c = search needs
 
 returns : tie.Need-returns
-unfolding change transition
 returns c =
     let r = c .before .before .args .rates in
     let e : toZ w64 (ofZ w64 (tsRate r)) ≡ tsRate r = search needs in
     simp (eq-eqb _ _ (c .before .if1 .taken)) e
 
 returns-2 : tie.Need-returns-2
-unfolding change transition
 returns-2 c =
     let r = c .before .before .args .rates in
     let e : toZ w64 (ofZ w64 (tvRate r)) ≡ tvRate r = search needs in

@@ -1,17 +1,17 @@
 -- `genotype_probs::table::letter_value` meets its contract: by the tests that led there; two rates are small, so their sum does not wrap.
 -- Assumes nothing.
 use mathlib.Core.Path.{ap, _∙_}
-use Prim.Native.Nat.{_+_, _<_, _^_}
+use Prim.Native.Nat.{_+_, _%_, _<_, _^_}
 use native.Mathlib.Omega.{arith}
 use borrow.Author.Needs.{needs}
-use borrow.Author.Tests.{le-leb, lt-leb, eq-eqb, ne-eqb}
+use lib.Dec.{eqb}
 use lib.IntN.{ℤ, natAbs, _+ℤ_}
 use mir.Syntax.{w64}
 use mir.Facts.{toZ-ofZ}
 use Rattle.steps.proofs.Signed.{plus-fits, plus-read, read-back}
-use Rattle.genotype_probs.specs.Priors.{isIndel, change, letterValue}
 use Rattle.genotype_probs.proofs.RateLaws.{rates-in}
 use Rattle.genotype_probs.proofs.PriorBounds.{change-down}
+use Rattle.genotype_probs.proofs.Entries.{gap-value, same-value, other-value}
 use Rattle.genotype_probs.proofs.table.letter_value.Statement.{statement}
 use Rattle.genotype_probs.proofs.table.letter_value.Tie as tie
 
@@ -19,16 +19,16 @@ indel-value-requires : tie.Need-indel-value-requires
 indel-value-requires c κs = rw (toZ-ofZ (c .before .fits .indel)) (c .before .pre .2)
 
 returns : tie.Need-returns
-unfolding letterValue isIndel
 returns c =
     let s = c .before .before in
-    rw (le-leb _ _ (c .before .if1 .taken)) (read-back w64 (c .indel-value .result) (c .indel-value .ok) ∙ cc (toZ-ofZ (s .fits .indel)))
+    read-back w64 (c .indel-value .result) (c .indel-value .ok)
+    ∙ cc (toZ-ofZ (s .fits .indel), gap-value (s .args .rates) (s .args .same) (s .args .snv) (s .args .indel) (s .args .base) (s .args .letter) (c .before .if1 .taken))
 
 returns-2 : tie.Need-returns-2
-unfolding letterValue isIndel
 returns-2 c =
     let s = c .before .before in
-    simp (lt-leb _ _ (c .before .if1 .left), eq-eqb _ _ (c .if2 .taken)) (toZ-ofZ (s .fits .same))
+    toZ-ofZ (s .fits .same)
+    ∙ same-value (s .args .rates) (s .args .same) (s .args .snv) (s .args .indel) (s .args .base) (s .args .letter) (s .pre .3) (c .if2 .taken)
 
 change-requires : tie.Need-change-requires
 change-requires c κs = search needs
@@ -36,18 +36,18 @@ change-requires c κs = search needs
 small : (c : tie.After-change) → natAbs (c .before .before .before .args .snv) + natAbs (c .change .result) < 2 ^ 63
 small c =
     let s = c .before .before .before in
-    let d = change-down (s .args .rates) (rates-in (s .args .rates) (s .pre .0)) (s .args .base) (s .args .letter) in
+    let d = change-down (s .args .rates) (rates-in (s .args .rates) (s .pre .0)) (eqb (s .args .letter) ((s .args .base + 2) % 4)) in
     rw (c .change .ensures) (omega (arith, d .most, s .pre .1))
 
 add-result : tie.Need-add-result
 add-result c = plus-fits w64 (c .before .before .before .args .snv) (c .change .result) (small c)
 
 returns-3 : tie.Need-returns-3
-unfolding letterValue isIndel
 returns-3 c =
     let s = c .before .before .before in
-    simp (lt-leb _ _ (c .before .before .if1 .left), ne-eqb _ _ (c .before .if2 .left))
-    (plus-read w64 (s .args .snv) (c .change .result) (small c) ∙ ap (λ (z : ℤ). s .args .snv +ℤ z) (c .change .ensures))
+    plus-read w64 (s .args .snv) (c .change .result) (small c)
+    ∙ ap (λ (z : ℤ). s .args .snv +ℤ z) (c .change .ensures)
+    ∙ other-value (s .args .rates) (s .args .same) (s .args .snv) (s .args .indel) (s .args .base) (s .args .letter) (s .pre .3) (omega (arith, c .before .before .if1 .left)) (c .before .if2 .left)
 
 pub letter-value-spec : {M : Type 1} → statement M
 letter-value-spec =
