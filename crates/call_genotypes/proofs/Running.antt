@@ -79,10 +79,11 @@ module _ {C : SweepCase} {reads : SweepReads} {before : SweepState} {orders : Li
     unfolding run
     run-out l = let e : limit - s ≡ 0 = omega arith in ran (rw e at (r .left)) (r .liks) (r .scores)
 
-    pub running-sweep : SweepStart C reads state (take (s % m * n + n - s % m * n) (drop (s % m * n) orders))
-    running-sweep = rw (part-is s) (record {
+    -- a sweep can start by any order
+    pub running-sweep : (x : ℕ) → SweepStart C reads state (take (x % m * n + n - x % m * n) (drop (x % m * n) orders))
+    running-sweep x = rw (part-is x) (record {
       standing = record { held = R .standing .held; haps = r .good; liks = r .liks; room = omega (arith, r .long, R .standing .room) };
-      order-in = permutation-below (order-good s);
+      order-in = permutation-below (order-good x);
     })
 
     module _ (l : s < limit) {state' : SweepState} {flag : Bool} (w' : Swept C (take (s % m * n + n - s % m * n) (drop (s % m * n) orders)) state state' flag) where

@@ -1,6 +1,6 @@
 -- `call_genotypes::run::run_sweeps` meets its contract. The loop's invariant: the sweeps that are left give the whole run. Assumes nothing.
 use mathlib.Core.Path.{refl}
-use Prim.Native.Nat.{_+_, _-_, _*_, _%_, _≤_}
+use Prim.Native.Nat.{ℕ, _+_, _-_, _*_, _%_, _^_, _<_}
 use native.Mathlib.Omega.{arith}
 use borrow.Author.Needs.{needs}
 use borrow.Author.Tests.{not-true, not-false}
@@ -34,8 +34,13 @@ swept c = c .before .before .before .before
 abbrev turn : tie.After-sweep Inv-loop μ-loop → tie.In-loop Inv-loop μ-loop
 turn c = c .before .before .before .before .before
 
-part-fits : (c : tie.In-loop Inv-loop μ-loop) → let p = st (c .before) .args .plan in c .before .loop .s % p .m * p .n + p .n ≤ length (st (c .before) .args .orders .now)
-part-fits c = end-fits (st (c .before) .pre .1 .holds) (c .before .loop .s)
+-- the part of any order lies in the orders, whose bytes can be counted
+part-small : (c : tie.In-loop Inv-loop μ-loop) (x : ℕ) → let p = st (c .before) .args .plan in (x % p .m * p .n < 2 ^ 64) × (x % p .m * p .n + p .n < 2 ^ 64) × (x % p .m * p .n * 4 < 2 ^ 64)
+part-small c x =
+    let s = st (c .before) in
+    let h = end-fits (s .pre .1 .holds) x in
+    let g = s .good .1 .1 .1 .1 .1 .1 .0 in
+    (omega (arith, h, g .0), omega (arith, h, g .0), omega (arith, h, g .1))
 
 loop-holds : tie.Need-loop-holds Inv-loop μ-loop
 loop-holds c = ((refl, refl, refl), λ C R. running-start R)
@@ -44,37 +49,37 @@ rem-a : tie.Need-rem-a Inv-loop μ-loop
 rem-a c = st (c .before) .pre .1 .holds .some-order
 
 mul-a : tie.Need-mul-a Inv-loop μ-loop
-mul-a c = omega (arith, part-fits c, st (c .before) .good .1 .1 .1 .1 .1 .1 .0 .0)
+mul-a c = record { fits = part-small c _ .0 }
 
 add-e : tie.Need-add-e Inv-loop μ-loop
-add-e c = omega (arith, part-fits c, st (c .before) .good .1 .1 .1 .1 .1 .1 .0 .0)
+add-e c = record { fits = part-small c _ .1 }
 
 mul-part : tie.Need-mul-part Inv-loop μ-loop
-mul-part c = omega (arith, part-fits c, st (c .before) .good .1 .1 .1 .1 .1 .1 .0 .1)
+mul-part c = record { fits = part-small c _ .2 }
 
 part-part-end : tie.Need-part-part-end Inv-loop μ-loop
-part-part-end c = part-fits c
+part-part-end c = end-fits (st (c .before) .pre .1 .holds) _
 
 sweep-requires : tie.Need-sweep-requires Inv-loop μ-loop
 sweep-requires c κs =
     let l = c .before .before .before .before in
     let s = st (l .before) in
     let R = s .pre .1 .holds in
-    (s .pre .0, record { case = s .pre .1 .case; holds = running-sweep R (l .before .loop .inv .1 _ R) })
+    (s .pre .0, record { case = s .pre .1 .case; holds = running-sweep R (l .before .loop .inv .1 _ R) _ })
 
 returns : tie.Need-returns Inv-loop μ-loop
 returns c C R =
     let w = swept (c .before) in
     let l = turn w in
     let i = l .before .loop .inv .1 C R in
-    run-settles R i (l .loop-test .taken) (w .sweep .ensures C (running-sweep R i)) (not-true _ (c .if1 .taken))
+    run-settles R i (l .loop-test .taken) (w .sweep .ensures C (running-sweep R i _)) (not-true _ (c .if1 .taken))
 
 loop-again : tie.Need-loop-again Inv-loop μ-loop
 loop-again c =
     let w = swept (c .before) in
     let l = turn w in (
       search needs,
-      λ C R. let i = l .before .loop .inv .1 C R in running-step R i (l .loop-test .taken) (w .sweep .ensures C (running-sweep R i)) (not-false _ (c .if1 .left)),
+      λ C R. let i = l .before .loop .inv .1 C R in running-step R i (l .loop-test .taken) (w .sweep .ensures C (running-sweep R i _)) (not-false _ (c .if1 .left)),
     )
 
 returns-2 : tie.Need-returns-2 Inv-loop μ-loop
