@@ -1,31 +1,12 @@
--- Where ln(1 + exp(d)) is straight: d itself above, 0 below. A call's gap does not lead away from there where `isFar` says so. Assumes nothing.
+-- Where `isFar` says that ln(1 + exp(..)) is straight: d itself above, 0 below, and a call's gap does not lead away from there. Assumes nothing.
 use mathlib.Core.Path.{_≡_}
 use mathlib.Core.Bool.{true}
 use Prim.Native.Nat.{_≤_}
 use lib.IntN.{ℤ, pos, natAbs, negℤ, _+ℤ_, _-ℤ_}
 use lib.Signed.{ltZ, _≤ℤ_, _<ℤ_}
-use Rattle.steps.specs.Logs.{difference}
-use Rattle.steps.proofs.Addends.{far}
-use Rattle.steps.proofs.AddExp.{first-parts, second-parts, diff-parts, diff-swap}
+use Rattle.steps.proofs.AddExp.{far-above, far-below}
 use Rattle.steps.proofs.Signed.{zlin, by-test, true-lt, up-pos, dn-pos, neg-up, neg-dn, natAbs-parts, parts-add, parts-minus}
 use Rattle.call_genotypes.specs.Scores.{onePlus, isFar}
-
-pub far-above : (d : ℤ) → pos 51328 ≤ℤ d → onePlus d ≡ d
-far-above d h =
-    let k : pos 0 ≤ℤ d = omega (zlin, up-pos 0, dn-pos 0, up-pos 51328, dn-pos 51328) in
-    let q = diff-parts d (pos 0) k in
-    let z = far (difference d (pos 0)) (omega (zlin, q, up-pos 0, dn-pos 0, up-pos 51328, dn-pos 51328)) in
-    omega (zlin, first-parts d (pos 0) k, z)
-
-pub far-below : (d : ℤ) → d ≤ℤ negℤ (pos 51328) → onePlus d ≡ pos 0
-far-below d h =
-    let n = neg-up (pos 51328) in
-    let m = neg-dn (pos 51328) in
-    let k : d ≤ℤ pos 0 = omega (zlin, n, m, up-pos 0, dn-pos 0, up-pos 51328, dn-pos 51328) in
-    let q = diff-parts (pos 0) d k in
-    let e = diff-swap d (pos 0) in
-    let z = far (difference d (pos 0)) (omega (zlin, e, q, n, m, up-pos 0, dn-pos 0, up-pos 51328, dn-pos 51328)) in
-    omega (zlin, second-parts d (pos 0) k, z)
 
 -- ---- what is far, by its sign
 pub far-low : (d : ℤ) → isFar d ≡ true → d <ℤ pos 0 → d <ℤ negℤ (pos 313472)

@@ -3,7 +3,7 @@
 use mathlib.Core.Path.{_≡_, refl, sym, ap, _∙_}
 use mathlib.Core.Bool.{Bool, true, false, not, _&&_}
 use mathlib.Core.List.{List}
-use Prim.Native.Nat.{ℕ, zero, suc, _+_, _*_, _<_, _≤_}
+use Prim.Native.Nat.{ℕ, _+_, _*_, _<_, _≤_}
 use native.Mathlib.Omega.{arith}
 use lib.Dec.{T, eqb, eqb→eq, eqb-refl}
 use lib.ListN.{length, getD}
@@ -11,10 +11,7 @@ use lib.IntN.{ℤ, pos, _-ℤ_}
 use Rattle.variants_and_fragments.proofs.Decoded.{tabulate-length, tabulate-at}
 use Rattle.sweeps.specs.Sweeps.{SweepCase, allele0, allele1, putPair, sameHaps, score, bestPair, visit}
 use Rattle.sweeps.proofs.Basics.{and-in, and-l, and-r, same-eq, same-refl, put-self, at0-same, at1-same}
-use lib.Signed.{ltZ}
-use Rattle.steps.proofs.Signed.{by-test, zlin, parts-minus}
-use Rattle.genotype_probs.specs.Posteriors.{firstMaximum}
-use Rattle.genotype_probs.proofs.Maxima.{maximum-same}
+use Rattle.genotype_probs.proofs.Maxima.{maximum-same, maximum-shifted}
 use Rattle.variants_and_fragments.proofs.Bools.{is-true}
 use Rattle.likelihoods.specs.Held.{SweepReads}
 use Rattle.call_genotypes.specs.declared.score.Pair.{Pair}
@@ -38,18 +35,6 @@ same-put h v i j l = iff _ _
     (λ t. let p = eqb→eq (allele0 h v) i (and-l (eqb (allele0 h v) i) (eqb (allele1 h v) j) t) in
     let q = eqb→eq (allele1 h v) j (and-r (eqb (allele0 h v) i) (eqb (allele1 h v) j) t) in
     rw (← p, ← q, put-self h v) (same-refl h))
-
--- what is taken from all numbers does not matter for the first of the greatest
-less-test : (x y c : ℤ) → ltZ (x -ℤ c) (y -ℤ c) ≡ ltZ x y
-less-test x y c =
-    by-test (ltZ x y)
-    (λ t. let h : ltZ (x -ℤ c) (y -ℤ c) ≡ true = omega (zlin, parts-minus x c, parts-minus y c) in h ∙ sym t)
-    (λ t. let h : ltZ (x -ℤ c) (y -ℤ c) ≡ false = omega (zlin, parts-minus x c, parts-minus y c) in h ∙ sym t)
-
-maximum-shifted : (f : ℕ → ℤ) (c : ℤ) (n : ℕ) → firstMaximum (λ g. f g -ℤ c) n ≡ firstMaximum f n
-unfolding firstMaximum
-maximum-shifted f c zero = refl
-maximum-shifted f c (suc n) = rw (maximum-shifted f c n, less-test (f (firstMaximum f n)) (f n) c)
 
 module _ {C : SweepCase} {reads : SweepReads} {before : SweepState} {v : ℕ} (S : VisitStart C reads before v) where
   abbrev h : List ℕ

@@ -118,6 +118,8 @@ module _ {sets : List ℤ} {before : with-haplotypes.RoundSlices} {r : Round} {a
     quals-after = rw (n .reads) (p .quals-after);
     gqs-after = rw (n .reads) (p .gqs-after);
     demand3 = λ x e. p .demand3 x (sym (n .reads) ∙ e);
+    totals = λ x e. p .totals x (sym (n .reads) ∙ e);
+    final-pairs = λ x e. p .final-pairs x (sym (n .reads) ∙ e);
   }
 
   pub call-genotypes-with-haplotypes : {w : List ℤ} {b : List ℕ} {rates : Rates} {taken : operation-rates.Rates} {phase orders : List ℕ} {limit : ℕ}

@@ -4,7 +4,7 @@
 use mathlib.Core.Path.{_≡_}
 use mathlib.Core.Bool.{Bool}
 use mathlib.Core.List.{List}
-use Prim.Native.Nat.{ℕ, _*_}
+use Prim.Native.Nat.{ℕ, _*_, _<_}
 use lib.IntN.{ℤ}
 use lib.ListN.{length, take}
 use lib.Ieee.{Float}
@@ -26,7 +26,7 @@ use Rattle.no_haplotypes.specs.NoHaplotypes.{calledOf, answerAt, qualAt, gqAt}
 use Rattle.sweeps.specs.Demand3.{Demand3}
 use Rattle.with_haplotypes.specs.declared.RoundAnswer as operation-round
 use Rattle.with_haplotypes.specs.Round.{RoundInput, caseOfRound, runOf, sweepCase, orderOfSweep, haplotypeAt, likelihoodAt, posteriorAt, final}
-use Rattle.with_haplotypes.specs.Promise.{RoundSlices, roundOutcome}
+use Rattle.with_haplotypes.specs.Promise.{RoundSlices, roundOutcome, ToldTotals, pairOn}
 use Rattle.exports.specs.declared.answers.Answer.{Answer}
 use Rattle.exports.specs.declared.answers.CheckAnswer.{CheckAnswer}
 use Rattle.exports.specs.declared.answers.FlistAnswer.{FlistAnswer}
@@ -74,7 +74,8 @@ pub record SweepOrders (w : List ℤ) (b : List ℕ) (seed : ℕ) (before : List
   pub answer : Numbers (readWith orders) numbersOf (sweepOrders w b seed before) a
   pub orders-after : orders ≡ lentAfter (sweepOrders w b seed before) before
 
--- `call_genotypes_with_haplotypes`, with demand 3 of what is returned and written. The slices are lent as `before` and come back as `after`
+-- `call_genotypes_with_haplotypes`, with demand 3 of what is returned and written, and the final answers of the pairs written. The slices are
+-- lent as `before` and come back as `after`
 pub record CallGenotypesWithHaplotypes (input : RoundInput) (sets : List ℤ) (before : RoundSlices) (a : RoundAnswer) (after : RoundSlices) : Type 0 where
   pub answer : Numbers readRound roundNumbers (roundOutcome input sets before) a
   pub haplotypes-after : after .haplotypes ≡ afterwards (readRound a) (written (haplotypeAt (runOf input)) (2 * length (caseOfRound input .variants)) (before .haplotypes)) (before .haplotypes)
@@ -84,3 +85,6 @@ pub record CallGenotypesWithHaplotypes (input : RoundInput) (sets : List ℤ) (b
   pub gqs-after : after .gqs ≡ afterwards (readRound a) (written (λ v. final (runOf input) v .gq) (length (caseOfRound input .variants)) (before .gqs)) (before .gqs)
   pub demand3 : (x : operation-round.RoundAnswer) → readRound a ≡ done x
       → Demand3 (sweepCase (runOf input)) (orderOfSweep (runOf input)) (input .limit) (runOf input .start) (record { sweeps = x .sweeps; settled = x .settled; haps = take (2 * length (caseOfRound input .variants)) (after .haplotypes) })
+  pub totals : (x : operation-round.RoundAnswer) → readRound a ≡ done x → ToldTotals (sweepCase (runOf input)) (runOf input .start) (take (2 * length (caseOfRound input .variants)) (after .haplotypes)) x
+  pub final-pairs : (x : operation-round.RoundAnswer) → readRound a ≡ done x → (v : ℕ) → v < length (caseOfRound input .variants)
+      → final (runOf input) v .genotype ≡ pairOn (take (2 * length (caseOfRound input .variants)) (after .haplotypes)) v

@@ -8,9 +8,9 @@ use native.Mathlib.Nat.{le-antisymm}
 use native.Mathlib.Omega.{arith}
 use native.Mathlib.Numerals.{add-one}
 use native.Mathlib.Decide.{ℕ-discrete}
-use lib.IntN.{ℤ}
+use lib.IntN.{ℤ, _-ℤ_}
 use lib.Signed.{ltZ, _≤ℤ_}
-use Rattle.steps.proofs.Signed.{by-test, cases, zlin, true-lt, false-lt}
+use Rattle.steps.proofs.Signed.{by-test, cases, zlin, true-lt, false-lt, parts-minus}
 use Rattle.genotype_probs.specs.Posteriors.{FirstMaximum, firstMaximum, postAt, maxGenotype}
 use Rattle.genotype_probs.proofs.TableSums.{place-in}
 
@@ -99,6 +99,18 @@ maximum-same f g (suc n) h =
     let b = maximum-in f n in
     let x : f (firstMaximum f n) ≡ g (firstMaximum g n) = h (firstMaximum f n) (omega arith) ∙ ap g e in
     rw (x, h n (omega arith), e)
+
+-- what is taken from all numbers does not matter for the first of the greatest
+less-test : (x y c : ℤ) → ltZ (x -ℤ c) (y -ℤ c) ≡ ltZ x y
+less-test x y c =
+    by-test (ltZ x y)
+    (λ t. let h : ltZ (x -ℤ c) (y -ℤ c) ≡ true = omega (zlin, parts-minus x c, parts-minus y c) in h ∙ sym t)
+    (λ t. let h : ltZ (x -ℤ c) (y -ℤ c) ≡ false = omega (zlin, parts-minus x c, parts-minus y c) in h ∙ sym t)
+
+pub maximum-shifted : (f : ℕ → ℤ) (c : ℤ) (n : ℕ) → firstMaximum (λ g. f g -ℤ c) n ≡ firstMaximum f n
+unfolding firstMaximum
+maximum-shifted f c zero = refl
+maximum-shifted f c (suc n) = rw (maximum-shifted f c n, less-test (f (firstMaximum f n)) (f n) c)
 
 -- the genotype that is kept is the first maximum of its table
 pub genotype-maximum : (phased : Bool) (tab : List ℤ) (k : ℕ) → 1 ≤ k → FirstMaximum (postAt phased tab k) (k * k) (maxGenotype phased tab k)

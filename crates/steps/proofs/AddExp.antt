@@ -3,14 +3,14 @@
 use mathlib.Core.Path.{_≡_, refl, _∙_, ap}
 use Prim.Native.Nat.{ℕ, _+_, _≤_}
 use native.Mathlib.Omega.{arith}
-use lib.IntN.{ℤ, pos, negsuc, natAbs, _+ℤ_}
+use lib.IntN.{ℤ, pos, negsuc, natAbs, negℤ, _+ℤ_}
 use lib.Signed.{_≤ℤ_}
 use Rattle.steps.specs.Table.{knots}
 use Rattle.steps.specs.Knots.{T}
 use Rattle.steps.specs.Addend.{addend}
 use Rattle.steps.specs.Logs.{larger, difference, addExp}
-use Rattle.steps.proofs.Addends.{falls, at-most}
-use Rattle.steps.proofs.Signed.{up, dn, zlin, casesZ, le-true, →leZ-no, parts-add, up-pos, dn-pos, apart, apart-swap, add-abs, <ℤ→}
+use Rattle.steps.proofs.Addends.{falls, at-most, far}
+use Rattle.steps.proofs.Signed.{up, dn, zlin, casesZ, le-true, →leZ-no, parts-add, up-pos, dn-pos, neg-up, neg-dn, apart, apart-swap, add-abs, <ℤ→}
 
 -- ---- the difference
 pub diff-swap : (a b : ℤ) → difference a b ≡ difference b a
@@ -150,6 +150,24 @@ add-exp-from a b =
     let s = addExp a (pos 0) in
     let m : s +ℤ b ≡ b +ℤ s = omega (zlin, parts-add s b, parts-add b s) in
     ap (λ (x : ℤ). addExp x b) e ∙ ap (λ (x : ℤ). addExp (a +ℤ b) x) z ∙ add-shift a (pos 0) b ∙ m
+
+-- ---- so far apart that A is 0
+pub far-above : (d : ℤ) → pos 51328 ≤ℤ d → addExp d (pos 0) ≡ d
+far-above d h =
+    let k : pos 0 ≤ℤ d = omega (zlin, up-pos 0, dn-pos 0, up-pos 51328, dn-pos 51328) in
+    let q = diff-parts d (pos 0) k in
+    let z = far (difference d (pos 0)) (omega (zlin, q, up-pos 0, dn-pos 0, up-pos 51328, dn-pos 51328)) in
+    omega (zlin, first-parts d (pos 0) k, z)
+
+pub far-below : (d : ℤ) → d ≤ℤ negℤ (pos 51328) → addExp d (pos 0) ≡ pos 0
+far-below d h =
+    let n = neg-up (pos 51328) in
+    let m = neg-dn (pos 51328) in
+    let k : d ≤ℤ pos 0 = omega (zlin, n, m, up-pos 0, dn-pos 0, up-pos 51328, dn-pos 51328) in
+    let q = diff-parts (pos 0) d k in
+    let e = diff-swap d (pos 0) in
+    let z = far (difference d (pos 0)) (omega (zlin, e, q, n, m, up-pos 0, dn-pos 0, up-pos 51328, dn-pos 51328)) in
+    omega (zlin, second-parts d (pos 0) k, z)
 
 -- ---- two halves are one
 pub add-halves : addExp (negsuc 4095) (negsuc 4095) ≡ pos 0

@@ -252,6 +252,10 @@ module _ {w : List ℤ} {b : List ℕ} {rates : Rates} (z : RoundSizes) (G : Cas
   unfolding haplotypeAt
   haplotypes-written l a w h e = rw w (front-written (haplotypeAt run) 0 (2 * z .s .n) l hap' h e (λ i k. rw haps-are))
 
+  -- the haplotypes written are the run's
+  pub result-written : (l : List ℕ) (a : ℕ) → length hap' ≡ 2 * z .s .n → take (2 * z .s .n) (hap' ++ drop a l) ≡ result run .haps
+  result-written l a e = rw (take-at hap' (drop a l) (2 * z .s .n) e) (sym haps-are)
+
   -- demand 3 of what is returned and written
   pub demand3-written : (l : List ℕ) (a : ℕ) → length hap' ≡ 2 * z .s .n
       → Demand3 (sweepCase run) (orderOfSweep run) (z .limit) from (resultOf (r .sweeps) (r .settled) (take (2 * z .s .n) (hap' ++ drop a l)))

@@ -26,7 +26,7 @@ use Rattle.call_genotypes.proofs.Tables.{sets-before, sets-after, sets-at}
 use Rattle.with_haplotypes.specs.Round.{atVisit}
 
 -- where a count is 0, so are its first and its rest
-none-first : (b : Bool) (n : ℕ) → cond b 1 0 + n ≡ 0 → (b ≡ false) × (n ≡ 0)
+pub none-first : (b : Bool) (n : ℕ) → cond b 1 0 + n ≡ 0 → (b ≡ false) × (n ≡ 0)
 none-first true n e = absurd (omega arith)
 none-first false n e = (refl, omega arith)
 

@@ -1,5 +1,6 @@
 pub mod OrdersHeld
 pub mod Latest
+pub mod FinalPairs
 pub mod ScoreBounds
 pub mod CheckLaws
 pub mod RunLaws

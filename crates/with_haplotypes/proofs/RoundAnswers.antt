@@ -3,12 +3,12 @@
 use mathlib.Core.Path.{_≡_, refl, sym, ap, _∙_}
 use mathlib.Core.Bool.{_&&_}
 use mathlib.Core.List.{List}
-use Prim.Native.Nat.{ℕ, _*_, _≤_}
+use Prim.Native.Nat.{ℕ, _*_, _≤_, _<_}
 use native.Mathlib.Omega.{arith}
 use borrow.Author.Tests.{leb-true, ltb-true, eqb-true, le-ltb}
 use lib.Dec.{leb, ltb, eqb}
 use lib.IntN.{ℤ, pos}
-use lib.ListN.{length}
+use lib.ListN.{length, take}
 use Rattle.variants_and_fragments.specs.declared.Sizes.{Sizes}
 use Rattle.variants_and_fragments.specs.declared.Refusal.{Refusal}
 use Rattle.variants_and_fragments.specs.Case.{alleleCount, variantOf}
@@ -27,15 +27,21 @@ use Rattle.haplotype_assembly.proofs.PhaseAnswers.{faultless}
 use Rattle.shuffle.specs.Answers.{ordersOutcome, firstBadOrder}
 use Rattle.shuffle.specs.Orders.{orderCount}
 use Rattle.shuffle.proofs.GoodOrders.{unless-done, orders-good}
+use Rattle.sweeps.specs.Sweeps.{SweepCase, GoodSweepCase, phasedTotal, sourceTotal}
+use Rattle.sweeps.proofs.Run.{after-good}
+use Rattle.likelihoods.proofs.SweepCases.{good-sweep-case}
 use Rattle.genotype_probs.specs.Normalized.{firstNotNormal}
 use Rattle.genotype_probs.proofs.NormalizedLaws.{none-not-normal}
 use Rattle.with_haplotypes.specs.declared.RoundAnswer.{RoundAnswer}
 use Rattle.with_haplotypes.specs.declared.RoundSizes.{RoundSizes}
 use Rattle.with_haplotypes.specs.declared.Round.the-variants.{Done, Refused}
-use Rattle.with_haplotypes.specs.Round.{RoundInput, caseOfRound, runOf, returned, posteriors, latestScore}
-use Rattle.with_haplotypes.specs.Promise.{RoundSlices, roundShort, shortOfSlices, limitChecks, roundChecks, roundOutcome, outcomeOf, CalledWithHaplotypes}
+use Rattle.with_haplotypes.specs.Round.{RoundInput, caseOfRound, runOf, sweepCase, orderOfSweep, result, returned, posteriors, latestScore, final}
+use Rattle.with_haplotypes.specs.Promise.{RoundSlices, roundShort, shortOfSlices, limitChecks, roundChecks, roundOutcome, outcomeOf, ToldTotals, pairOn, CalledWithHaplotypes}
 use Rattle.with_haplotypes.specs.Steps.{Admitted, RoundRoom, RoundMade}
-use Rattle.with_haplotypes.proofs.RunLaws.{known}
+use Rattle.with_haplotypes.proofs.RunLaws.{known, variants-counted}
+use Rattle.with_haplotypes.proofs.RunLaws as runs
+use Rattle.with_haplotypes.proofs.StartLaws.{start-good}
+use Rattle.with_haplotypes.proofs.FinalPairs.{final-pair}
 
 -- ---- what passed the checks
 count-is : (n m : ℕ) (orders : List ℕ) → ordersOutcome n orders ≡ done m → m ≡ orderCount n (length orders)
@@ -123,6 +129,8 @@ module _ (input : RoundInput) (sets : List ℤ) (before : RoundSlices) where
     quals-after = refl;
     gqs-after = refl;
     demand3 = λ y q. let z : _≡_ {A = ℕ} 0 1 = cc in absurd (omega arith);
+    totals = λ y q. let z : _≡_ {A = ℕ} 0 1 = cc in absurd (omega arith);
+    final-pairs = λ y q v h. let z : _≡_ {A = ℕ} 0 1 = cc in absurd (omega arith);
   }
 
   -- 1 to 5
@@ -154,6 +162,55 @@ module _ (input : RoundInput) (sets : List ℤ) (before : RoundSlices) where
     unfolding roundOutcome andThen stop
     outcome-done = rw (e, q, all-normal, le-ltb (s .n) (s .n) (omega arith))
 
+    -- what is told of the run
+    module _ {r : RoundAnswer} {after : RoundSlices} (M : RoundMade (runOf input) s before r after) where
+      abbrev C : SweepCase
+      C = sweepCase (runOf input)
+
+      abbrev haps : List ℕ
+      haps = take (2 * s .n) (after .haplotypes)
+
+      start-is : r .start ≡ phasedTotal C (runOf input .start)
+      unfolding returned
+      start-is = ap (λ x. x .start) (M .returned-is)
+
+      end-is : r .end ≡ phasedTotal C haps
+      unfolding returned
+      end-is = ap (λ x. x .end) (M .returned-is) ∙ ap (phasedTotal C) (sym (M .result-are))
+
+      source-is : r .source ≡ sourceTotal C haps
+      unfolding returned
+      source-is = ap (λ x. x .source) (M .returned-is) ∙ ap (sourceTotal C) (sym (M .result-are))
+
+      told : ToldTotals C (runOf input .start) haps r
+      told = record {
+        start-is = start-is;
+        end-is = end-is;
+        source-is = source-is;
+        gains = rw (start-is, end-is) (M .demand3 .gains);
+        bounded = rw (start-is, end-is) (M .demand3 .bounded);
+      }
+
+      sweeps-are : result (runOf input) .sweeps ≡ r .sweeps
+      unfolding returned
+      sweeps-are = sym (ap (λ x. x .sweeps) (M .returned-is))
+
+      good : GoodSweepCase C
+      unfolding sweepCase
+      good = good-sweep-case (input .rates) (runOf input .phased) (caseOfRound input) (good-case (input .words) (input .bases) s e)
+
+      pairs-kept : (v : ℕ) → v < s .n → final (runOf input) v .genotype ≡ pairOn haps v
+      pairs-kept v h =
+          let A = admits s m e q .0 in
+          let g = good-case (input .words) (input .bases) s e in
+          let n = variants-are (known (A .given)) (input .bases) in
+          let c = variants-counted (sizesOf s m) (A .given) (runOf input .phased) (runOf input .start) (input .orders) (input .limit) in
+          let ok = runs.orders-good (sizesOf s m) (A .given) (runOf input .phased) (runOf input .start) (input .orders) (input .limit) (A .good-orders) in
+          let last = M .demand3 .ends .last in
+          final-pair (runOf input) v haps last (sweeps-are ∙ M .demand3 .ends .counted) (M .demand3 .ends .reached)
+          (after-good C good (orderOfSweep (runOf input)) ok (runOf input .start) last (start-good A))
+          (ok last) (omega arith) (g .variants-in v (omega arith) .some-allele) (g .variants-in v (omega arith) .three-alleles)
+
     pub answer-done : (r : RoundAnswer) (after : RoundSlices) → RoundMade (runOf input) s before r after → CalledWithHaplotypes input sets before (Done r) after
     unfolding outcomeOf afterwards
     answer-done r after M =
@@ -168,4 +225,6 @@ module _ (input : RoundInput) (sets : List ℤ) (before : RoundSlices) where
           quals-after = rw n (M .quals-are);
           gqs-after = rw n (M .gqs-are);
           demand3 = λ y j. let same : r ≡ y = cc in rw (← same, n) (M .demand3);
+          totals = λ y j. let same : r ≡ y = cc in rw (← same, n) (told M);
+          final-pairs = λ y j v h. rw n (pairs-kept M v (rw n at h));
         }

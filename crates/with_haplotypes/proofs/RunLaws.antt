@@ -36,7 +36,7 @@ use Rattle.call_genotypes.proofs.Linked.{lik-within}
 use Rattle.with_haplotypes.specs.declared.RoundAnswer.{RoundAnswer}
 use Rattle.with_haplotypes.specs.declared.RoundSizes.{RoundSizes}
 use Rattle.with_haplotypes.specs.Round.{RunInput, runInput, sweepCase, orderOfSweep, result}
-use Rattle.with_haplotypes.specs.Steps.{CaseGiven, OrdersGiven, Scratch, Prepared, RunGiven, RunMade}
+use Rattle.with_haplotypes.specs.Steps.{CaseGiven, OrdersGiven, Scratch, ScratchRoom, Prepared, RunGiven, SomePhased, RunMade, RunPromise, PreparedRun, PreparedPromise}
 use Rattle.with_haplotypes.proofs.OrdersHeld.{order-good}
 
 -- each of a list of ones is 1
@@ -48,6 +48,22 @@ all-ones (x ∷ xs) e (suc v) h = all-ones xs (both (eqb x 1) (allb (λ x. eqb x
 
 pub known : {w : List ℤ} {b : List ℕ} {rates : Rates} {s : Sizes} → CaseGiven w b rates s → CaseIn w s
 known {w} {b} {rates} {s} g = case-in w b s (g .accepted)
+
+-- ---- a run with scratch of its own, of whatever size
+-- scratch that is long enough for these sizes
+pub scratch-room : (s : Sizes) (x : Scratch) (calls fragments variants : ℕ) → s .c ≤ calls → s .f ≤ fragments → s .n ≤ variants
+    → length (x .rows) ≡ calls → length (x .row-ends) ≡ fragments → length (x .piles) ≡ calls → length (x .pile-ends) ≡ variants → length (x .pri) ≡ 9 * variants → ScratchRoom s x
+scratch-room s x calls fragments variants c f n rows row-ends piles pile-ends pri =
+    record { rows-long = omega arith; row-ends-long = omega arith; piles-long = omega arith; pile-ends-long = omega arith; pri-long = omega arith }
+
+module _ {w : List ℤ} {b : List ℕ} {rates : Rates} {z : RoundSizes} {ks ph orders : List ℕ} {state : SweepState} {x : Scratch} (P : Prepared w b rates (z .s) x) where
+  -- what the run over prepared scratch asks
+  pub run-asks : SomePhased (RunGiven w b rates z ks ph orders state) → PreparedRun z ks ph x orders state
+  run-asks G = record { words = w; bases = b; rates = rates; phased = G .phased; given = G .holds; prepared = P }
+
+  -- and what it promises
+  pub run-promised : {after : SweepState} {r : RoundAnswer} → PreparedPromise z ks ph x orders state after r → RunPromise w b rates z ks ph orders state after r
+  run-promised p phased g = p (record { words = w; bases = b; rates = rates; phased = phased; given = g; prepared = P })
 
 -- ---- a case, phased variants and orders
 module _ {w : List ℤ} {b : List ℕ} {rates : Rates} (z : RoundSizes) (g : CaseGiven w b rates (z .s)) (phased : ℕ → Bool) (start orders : List ℕ) (limit : ℕ) where

@@ -4,11 +4,12 @@
 use mathlib.Core.Path.{_≡_}
 use mathlib.Core.Bool.{_&&_}
 use mathlib.Core.List.{List}
-use Prim.Native.Nat.{ℕ, _*_}
+use Prim.Native.Nat.{ℕ, _+_, _*_, _<_}
 use lib.Dec.{eqb, leb, ltb}
 use lib.Ieee.{Float}
-use lib.IntN.{ℤ}
+use lib.IntN.{ℤ, pos, _+ℤ_, _-ℤ_, _*ℤ_}
 use lib.ListN.{length, take}
+use lib.Signed.{_≤ℤ_}
 use Rattle.variants_and_fragments.specs.Case.{alleleCount, variantOf}
 use Rattle.variants_and_fragments.specs.Refusals.{number, place, Outcome, refused, done, andThen, unless, stop, afterwards, shortOf, earlier}
 use Rattle.variants_and_fragments.specs.Check.{caseOf}
@@ -17,7 +18,9 @@ use Rattle.genotype_probs.specs.declared.Rates.{Rates}
 use Rattle.genotype_probs.specs.Rates.{ratesFault}
 use Rattle.haplotype_assembly.specs.GivenPhase.{phaseFault}
 use Rattle.shuffle.specs.Answers.{ordersOutcome}
+use Rattle.sweeps.specs.Sweeps.{SweepCase, allele0, allele1, phasedTotal, sourceTotal, phasedCount}
 use Rattle.sweeps.specs.Demand3.{Demand3}
+use Rattle.genotype_probs.specs.declared.posteriors.Genotype.{Genotype}
 use Rattle.genotype_probs.specs.Normalized.{firstNotNormal}
 use Rattle.with_haplotypes.specs.declared.RoundAnswer.{RoundAnswer}
 use Rattle.with_haplotypes.specs.declared.Round.{Round}
@@ -69,7 +72,21 @@ unfoldable pub outcomeOf : Round → Outcome RoundAnswer
 outcomeOf (Done x) = done x
 outcomeOf (Refused x) = refused (number x) (place x)
 
--- The promise: the answer, every lent slice afterwards, and demand 3 of what is returned and written. The slices are lent as `before` and come
+-- demand 3 in the numbers returned: the totals are those of the haplotypes at the start and of those written, the phased total does not fall,
+-- and sweeps ≤ 9 × gain + 8 × phased variants + 2
+pub record ToldTotals (C : SweepCase) (start haps : List ℕ) (x : RoundAnswer) : Type 0 where
+  pub start-is : x .start ≡ phasedTotal C start
+  pub end-is : x .end ≡ phasedTotal C haps
+  pub source-is : x .source ≡ sourceTotal C haps
+  pub gains : x .start ≤ℤ x .end
+  pub bounded : pos (x .sweeps) ≤ℤ (pos 9 *ℤ (x .end -ℤ x .start) +ℤ pos (8 * phasedCount C + 2))
+
+-- the pair at v
+abbrev pub pairOn : List ℕ → ℕ → Genotype
+pairOn h v = record { 0 = allele0 h v; 1 = allele1 h v }
+
+-- The promise: the answer, every lent slice afterwards, demand 3 of what is returned and written, and that the final answers are of the pairs
+-- written, whether the run settled or not. The slices are lent as `before` and come
 -- back as `after`
 pub record CalledWithHaplotypes (input : RoundInput) (sets : List ℤ) (before : RoundSlices) (r : Round) (after : RoundSlices) : Type 0 where
   pub answer : outcomeOf r ≡ roundOutcome input sets before
@@ -80,3 +97,6 @@ pub record CalledWithHaplotypes (input : RoundInput) (sets : List ℤ) (before :
   pub gqs-after : after .gqs ≡ afterwards (outcomeOf r) (written (λ v. final (runOf input) v .gq) (length (caseOfRound input .variants)) (before .gqs)) (before .gqs)
   pub demand3 : (x : RoundAnswer) → outcomeOf r ≡ done x
       → Demand3 (sweepCase (runOf input)) (orderOfSweep (runOf input)) (input .limit) (runOf input .start) (record { sweeps = x .sweeps; settled = x .settled; haps = take (2 * length (caseOfRound input .variants)) (after .haplotypes) })
+  pub totals : (x : RoundAnswer) → outcomeOf r ≡ done x → ToldTotals (sweepCase (runOf input)) (runOf input .start) (take (2 * length (caseOfRound input .variants)) (after .haplotypes)) x
+  pub final-pairs : (x : RoundAnswer) → outcomeOf r ≡ done x → (v : ℕ) → v < length (caseOfRound input .variants)
+      → final (runOf input) v .genotype ≡ pairOn (take (2 * length (caseOfRound input .variants)) (after .haplotypes)) v

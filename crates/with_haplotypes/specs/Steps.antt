@@ -155,3 +155,4 @@ pub record RoundMade (input : RunInput) (s : Sizes) (before : RoundSlices) (r : 
   pub quals-are : after .quals ≡ written (λ v. final input v .qual) (s .n) (before .quals)
   pub gqs-are : after .gqs ≡ written (λ v. final input v .gq) (s .n) (before .gqs)
   pub demand3 : Demand3 (sweepCase input) (orderOfSweep input) (input .limit) (input .start) (resultOf (r .sweeps) (r .settled) (take (2 * s .n) (after .haplotypes)))
+  pub result-are : take (2 * s .n) (after .haplotypes) ≡ result input .haps

@@ -178,6 +178,7 @@ returns c =
       quals-are = finish.quals-written (s .args .z) g _ _ _ o K R (room .posteriors-long) (n .normalize-all .ensures) F;
       gqs-are = finish.gqs-written (s .args .z) g _ _ _ o K R (room .posteriors-long) (n .normalize-all .ensures) F;
       demand3 = finish.demand3-written (s .args .z) g _ _ _ R _ (2 * s .args .z .s .n - 0) long;
+      result-are = finish.result-written (s .args .z) g _ _ _ R _ (2 * s .args .z .s .n - 0) long;
     }
 
 same-length : tie.Need-same-length

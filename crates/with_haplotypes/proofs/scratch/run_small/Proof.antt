@@ -2,7 +2,7 @@
 -- Assumes nothing.
 use borrow.Author.Needs.{needs}
 use native.Mathlib.Omega.{arith}
-use Rattle.with_haplotypes.proofs.RunLaws.{known}
+use Rattle.with_haplotypes.proofs.RunLaws.{scratch-room, run-asks, run-promised}
 use Rattle.with_haplotypes.proofs.scratch.run_small.Statement.{statement}
 use Rattle.with_haplotypes.proofs.scratch.run_small.Tie as tie
 
@@ -16,109 +16,45 @@ made c = c .before .before .before .before .before
 abbrev prep : tie.After-run-prepared-arg3 → tie.After-prepare
 prep c = c .before .before .before .before .before .before .before .before .before .before .before .before .before
 
-few-call-words-requires : tie.Need-few-call-words-requires
-few-call-words-requires c κs = search needs
-
-few-fragment-ends-requires : tie.Need-few-fragment-ends-requires
-few-fragment-ends-requires c κs = search needs
-
-few-call-words-requires-2 : tie.Need-few-call-words-requires-2
-few-call-words-requires-2 c κs = search needs
-
-few-variant-ends-requires : tie.Need-few-variant-ends-requires
-few-variant-ends-requires c κs = search needs
-
-few-nine-each-requires : tie.Need-few-nine-each-requires
-few-nine-each-requires c κs = search needs
-
-slice-aggregate-prepare : tie.Need-slice-aggregate-prepare
-slice-aggregate-prepare c = search needs
-
-slice-aggregate-prepare-2 : tie.Need-slice-aggregate-prepare-2
-slice-aggregate-prepare-2 c = search needs
-
-slice-aggregate-prepare-3 : tie.Need-slice-aggregate-prepare-3
-slice-aggregate-prepare-3 c = search needs
-
-slice-aggregate-prepare-4 : tie.Need-slice-aggregate-prepare-4
-slice-aggregate-prepare-4 c = search needs
-
-slice-aggregate-prepare-5 : tie.Need-slice-aggregate-prepare-5
-slice-aggregate-prepare-5 c = search needs
-
 prepare-requires : tie.Need-prepare-requires
 prepare-requires c κs =
     let m = made c in
     let s = st m in
     let g = s .pre .0 .holds .given in
-    let k = known g .sized in (
+    let k = s .pre .1 in (
       g,
-      record {
-        rows-long = omega (arith, s .pre .1, m .before .before .before .before .few-call-words .ensures);
-        row-ends-long = omega (arith, s .pre .1, m .before .before .before .few-fragment-ends .ensures);
-        piles-long = omega (arith, s .pre .1, m .before .before .few-call-words2 .ensures);
-        pile-ends-long = omega (arith, s .pre .1, m .before .few-variant-ends .ensures);
-        pri-long = omega (arith, s .pre .1, m .few-nine-each .ensures);
-      },
+      scratch-room _ _ 1024 512 128 (omega (arith, k)) (omega (arith, k)) (omega (arith, k))
+          (m .before .before .before .before .few-call-words .ensures) (m .before .before .before .few-fragment-ends .ensures) (m .before .before .few-call-words2 .ensures) (m .before .few-variant-ends .ensures) (m .few-nine-each .ensures),
     )
 
-slice-aggregate-run-prepared : tie.Need-slice-aggregate-run-prepared
-slice-aggregate-run-prepared c = search needs
-
-slice-aggregate-run-prepared-2 : tie.Need-slice-aggregate-run-prepared-2
-slice-aggregate-run-prepared-2 c = search needs
-
-slice-aggregate-run-prepared-3 : tie.Need-slice-aggregate-run-prepared-3
-slice-aggregate-run-prepared-3 c = search needs
-
-slice-aggregate-run-prepared-4 : tie.Need-slice-aggregate-run-prepared-4
-slice-aggregate-run-prepared-4 c = search needs
-
-slice-aggregate-run-prepared-5 : tie.Need-slice-aggregate-run-prepared-5
-slice-aggregate-run-prepared-5 c = search needs
-
 run-prepared-requires : tie.Need-run-prepared-requires
-run-prepared-requires c κs =
-    let q = prep c in
-    let s = st (made (q .before)) in
-    record { words = _; bases = _; rates = _; phased = s .pre .0 .phased; given = s .pre .0 .holds; prepared = q .prepare .ensures }
-
-same-length : tie.Need-same-length
-same-length c = search needs
-
-same-length-2 : tie.Need-same-length-2
-same-length-2 c = search needs
-
-same-length-3 : tie.Need-same-length-3
-same-length-3 c = search needs
+run-prepared-requires c κs = let q = prep c in let s = st (made (q .before)) in run-asks (q .prepare .ensures) (s .pre .0)
 
 returns : tie.Need-returns
-returns c p g =
-    let r = c .before .before .before .before in
-    r .run-prepared .ensures (record { words = _; bases = _; rates = _; phased = p; given = g; prepared = prep (r .before) .prepare .ensures })
+returns c = let r = c .before .before .before .before in run-promised (prep (r .before) .prepare .ensures) (r .run-prepared .ensures)
 
 pub run-small-spec : {M : Type 1} → statement M
 run-small-spec =
     tie.close
     (tie.spec
-    few-call-words-requires
-    few-fragment-ends-requires
-    few-call-words-requires-2
-    few-variant-ends-requires
-    few-nine-each-requires
-    slice-aggregate-prepare
-    slice-aggregate-prepare-2
-    slice-aggregate-prepare-3
-    slice-aggregate-prepare-4
-    slice-aggregate-prepare-5
+    (λ c κs. search needs)
+    (λ c κs. search needs)
+    (λ c κs. search needs)
+    (λ c κs. search needs)
+    (λ c κs. search needs)
+    (λ c. search needs)
+    (λ c. search needs)
+    (λ c. search needs)
+    (λ c. search needs)
+    (λ c. search needs)
     prepare-requires
-    slice-aggregate-run-prepared
-    slice-aggregate-run-prepared-2
-    slice-aggregate-run-prepared-3
-    slice-aggregate-run-prepared-4
-    slice-aggregate-run-prepared-5
+    (λ c. search needs)
+    (λ c. search needs)
+    (λ c. search needs)
+    (λ c. search needs)
+    (λ c. search needs)
     run-prepared-requires
-    same-length
-    same-length-2
-    same-length-3
+    (λ c. search needs)
+    (λ c. search needs)
+    (λ c. search needs)
     returns)
