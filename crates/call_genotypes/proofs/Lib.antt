@@ -1,8 +1,8 @@
 pub mod Tables
 pub mod Turns
 pub mod Far
-pub mod GapLaws
-pub mod GapSums
+pub mod RiseLaws
+pub mod RiseSums
 pub mod Sizes
 pub mod Fours
 pub mod Written

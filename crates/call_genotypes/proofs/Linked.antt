@@ -26,8 +26,8 @@ use Rattle.sweeps.proofs.Fours.{share-value}
 use Rattle.likelihoods.specs.Held.{SweepReads, Held, Liks, Within}
 use Rattle.call_genotypes.specs.declared.score.Pair.{Pair}
 use Rattle.call_genotypes.specs.Scores.{pairAt, rowMixes, turn, PileFits, AlleleSums, riseOf, pairRise, belowFirst, scoresOf, ScoresRoom, SweepState, VisitStart, overFirst, scoredAt}
-use Rattle.call_genotypes.proofs.GapLaws.{rowFour}
-use Rattle.call_genotypes.proofs.GapSums.{pairs-are}
+use Rattle.call_genotypes.proofs.RiseLaws.{rowFour}
+use Rattle.call_genotypes.proofs.RiseSums.{pairs-are}
 
 -- rows of a case are rows of a larger one
 rows-wider : {n f a e : ℕ} {words : List ℕ} (n' f' : ℕ) → n ≤ n' → f ≤ f' → RowsIn n f words a e → RowsIn n' f' words a e

@@ -41,7 +41,7 @@ valueOf r (suc zero) = r .second
 valueOf r (suc (suc zero)) = r .gap
 valueOf r (suc (suc (suc w))) = r .neither
 
--- d is so far from 0 that ln(1 + exp(..)) is straight at d and at every distance up to 262,144 from it
+-- d is so far from 0 that ln(1 + exp(..)) is straight at d and at every distance up to 262,144, the largest gap, from it: A is 0 from 51,328 on
 unfoldable pub isFar : ℤ → Bool
 isFar d = ltZ d (negℤ (pos 313472)) || ltZ (pos 313472) d
 

@@ -31,7 +31,8 @@ pub struct Mixes {
     pub neither: i64,
 }
 
-// Whether ln(1 + exp(..)) is straight at d and as far around it as a gap goes: 51,328 and 262,144 steps from 0.
+// Whether ln(1 + exp(..)) is straight at d and as far around it as a gap goes: 313,472 is 51,328, from where on A is 0, and 262,144, the
+// largest gap.
 fn is_far(d: i64) -> bool
     ensures { λ r. ⌜ r ≡ isFar d ⌝ }
 {

@@ -1,6 +1,6 @@
 -- Visits and sweeps from the likelihoods that stand, a step between specs/Sweeps.antt and the code: a variant's pile, a call's share of a
 -- score, its four values, and whether a visit changed its pair. proofs/{Link,Scored,Fours,Perm}.antt join these to specs/Sweeps.antt; the code
--- gets a call's four values by their gaps (call_genotypes/proofs/GapLaws.antt). Assumes nothing.
+-- gets a call's four values by their gaps (call_genotypes/proofs/RiseLaws.antt). Assumes nothing.
 use mathlib.Core.Bool.{Bool, true, false, not, cond, _&&_, _||_}
 use mathlib.Core.List.{List, [], _∷_, _++_}
 use Prim.Native.Nat.{ℕ, zero, suc, _+_}

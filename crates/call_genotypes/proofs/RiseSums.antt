@@ -16,7 +16,7 @@ use Rattle.genotype_probs.proofs.ListLaws.{sum-plus}
 use Rattle.sweeps.specs.Incremental.{whichValue, alleleSum}
 use Rattle.sweeps.proofs.Basics.{sumOver-cong}
 use Rattle.call_genotypes.specs.Scores.{rowMixes, turn, AlleleSums, sumsAt, riseOf, pairRise}
-use Rattle.call_genotypes.proofs.GapLaws.{rowFour, value-is}
+use Rattle.call_genotypes.proofs.RiseLaws.{rowFour, value-is}
 
 -- ---- sums of what some rows have
 cond-plus : (b : Bool) (x y : ℤ) → cond b (x +ℤ y) (pos 0) ≡ cond b x (pos 0) +ℤ cond b y (pos 0)
