@@ -3,7 +3,7 @@ pub mod Numbers
 pub mod Comparisons
 pub mod RateLaws
 pub mod PriorBounds
-pub mod PriorTable
+pub mod HeldPriors
 pub mod Entries
 pub mod AlleleLaws
 pub mod Maxima

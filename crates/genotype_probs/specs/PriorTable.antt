@@ -1,5 +1,5 @@
 -- How the code holds the priors: letters as numbers, and the 4 by 36 table. Only contracts of inner functions go by this file;
--- `table-holds` (proofs/PriorTable.antt) ties it to `getPrior`. Assumes nothing.
+-- `table-holds` (proofs/HeldPriors.antt) ties it to `getPrior`. Assumes nothing.
 use mathlib.Core.Bool.{cond}
 use mathlib.Core.List.{List}
 use Prim.Native.Nat.{ℕ, zero, suc, _+_, _*_, _/_, _%_}

@@ -99,7 +99,7 @@ answerFrom post k case v p =
     ∷ strandCalls case v 1 0 ∷ strandCalls case v 1 1 ∷ strandCalls case v 1 2
     ∷ ambiguousCount case v ∷ depthAfter case v ∷ []) p 0)
 
--- ---- of a case, at its rates
+-- ---- of a case, at given rates
 module _ (rates : Rates) (case : Case) where
   unfoldable pub variantAnswer : ℕ → ℕ → ℤ
   variantAnswer v = answerFrom (posteriors rates case v) (alleleCount (variantOf case v)) case v

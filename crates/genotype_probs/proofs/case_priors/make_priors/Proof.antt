@@ -11,7 +11,7 @@ use Rattle.variants_and_fragments.proofs.Written.{written-same}
 use Rattle.genotype_probs.specs.Priors.{priorAt}
 use Rattle.genotype_probs.specs.PriorTable.{priorTable, tablePriorAt}
 use Rattle.genotype_probs.proofs.AcceptedPriors.{table-in, alleles-in}
-use Rattle.genotype_probs.proofs.PriorTable.{places-hold}
+use Rattle.genotype_probs.proofs.HeldPriors.{places-hold}
 use borrow.Author.Needs.{needs}
 use Rattle.genotype_probs.proofs.case_priors.make_priors.Statement.{statement}
 use Rattle.genotype_probs.proofs.case_priors.make_priors.Tie as tie
