@@ -104,12 +104,13 @@ class Module:
 
 
 def imports(lines):
-    """The names that these lines bring in, each with the path of its module."""
+    """The names that these lines bring in, each with the path of its module and its name there."""
     found = {}
     for line in lines:
         match = USE.match(line)
-        if match:
-            found.update((name.strip(), match.group(1)) for name in match.group(2).split(","))
+        for name in match.group(2).split(",") if match else []:
+            there, _, here = name.strip().partition(" as ")
+            found[here or there] = match.group(1), there
     return found
 
 
@@ -129,7 +130,7 @@ class Specs:
             return None
         if name in module.definitions:
             return match.groups(), name
-        return self.find(module.uses[name], name) if name in module.uses else None
+        return self.find(*module.uses[name]) if name in module.uses else None
 
     def meant(self, key, word):
         """What a word in a definition of this module means: nothing, if it is no definition of specs."""
@@ -137,7 +138,7 @@ class Specs:
         if word in module.definitions:
             return key, word
         if word in module.uses:
-            return self.find(module.uses[word], word)
+            return self.find(*module.uses[word])
         alias, _, rest = word.partition(".")
         return self.find(module.aliases[alias], rest) if alias in module.aliases and rest else None
 
@@ -153,7 +154,7 @@ class Specs:
                 contract = re.search(r"fn %s\b.*?\n\{" % name, text, re.S).group(0)
                 for word in words(re.findall(r"ensures \{.*\}", contract)):
                     if word in brought:
-                        yield self.find(brought[word], word)
+                        yield self.find(*brought[word])
 
     def sentences(self):
         """What docs/TRUST.md names as a sentence: a file of specs and a name, in one row of a table."""

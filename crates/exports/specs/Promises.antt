@@ -16,8 +16,7 @@ use Rattle.var_filter.specs.Filter.{limitsOf, filterOf}
 use Rattle.var_filter.specs.Filtered.{varFilterOf}
 use Rattle.genotype_probs.specs.Priors.{priorAt}
 use Rattle.genotype_probs.specs.Answers.{prioredOf}
-use Rattle.haplotype_assembly.specs.Phase.{phasedFlags, startAllele, phaseName}
-use Rattle.haplotype_assembly.specs.PhaseRead.{flagOf}
+use Rattle.haplotype_assembly.specs.Phase.{flagOf, phasedFlags, startAllele, phaseName}
 use Rattle.haplotype_assembly.specs.Lines.{flistBuffer}
 use Rattle.haplotype_assembly.specs.GivenPhase.{phaseOutcome}
 use Rattle.haplotype_assembly.specs.FlistBuffer.{flistOutcome, startingWith}

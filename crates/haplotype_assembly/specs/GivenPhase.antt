@@ -14,8 +14,7 @@ use Rattle.variants_and_fragments.specs.Check.{caseOf}
 use Rattle.variants_and_fragments.specs.Decode.{decode}
 use Rattle.haplotype_assembly.specs.declared.Phased.{Phased}
 use Rattle.haplotype_assembly.specs.declared.Phased.the-variants.{Done, Refused}
-use Rattle.haplotype_assembly.specs.Phase.{phasedFlags, startAllele, phaseName}
-use Rattle.haplotype_assembly.specs.PhaseRead.{flagOf}
+use Rattle.haplotype_assembly.specs.Phase.{flagOf, phasedFlags, startAllele, phaseName}
 
 -- ---- 7: a set ≥ N; phase bytes or sets not N long
 

@@ -11,6 +11,10 @@ use Rattle.variants_and_fragments.specs.Refusals.{earlier}
 use Rattle.variants_and_fragments.specs.Case.{Case, Variant, alleleCount, alleleOf, variantOf}
 use Rattle.variants_and_fragments.specs.Decode.{tabulate}
 
+-- a flag as a byte
+abbrev pub flagOf : Bool → ℕ
+flagOf b = cond b 1 0
+
 -- the bytes '0' and '1'
 abbrev pub phase0 : ℕ
 phase0 = 48

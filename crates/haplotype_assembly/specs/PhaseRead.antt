@@ -8,7 +8,7 @@ use Prim.Native.Nat.{ℕ, _^_, _<_, _≤_}
 use lib.IntN.{ℤ, pos}
 use lib.ListN.{length, getD}
 use Rattle.variants_and_fragments.specs.Layout.{pos0At, genotypeAt, alleleCountAt, lengthAt}
-use Rattle.haplotype_assembly.specs.Phase.{orderedFirst, orderedSecond, phasedTest, isPhase, byteOf, pairPlace, nameBelow, nameOfSet}
+use Rattle.haplotype_assembly.specs.Phase.{flagOf, orderedFirst, orderedSecond, phasedTest, isPhase, byteOf, pairPlace, nameBelow, nameOfSet}
 
 unfoldable pub startAt : List ℤ → List ℕ → ℕ → ℕ
 startAt w bytes =
@@ -20,10 +20,6 @@ ruleAt w v = phasedTest (alleleCountAt w v) (genotypeAt w v 0) (genotypeAt w v 1
 
 unfoldable pub phasedAt : List ℤ → List ℕ → ℕ → Bool
 phasedAt w bytes v = ruleAt w v && isPhase (byteOf bytes v)
-
--- a flag as a byte
-abbrev pub flagOf : Bool → ℕ
-flagOf b = cond b 1 0
 
 unfoldable pub flagsAt : List ℤ → List ℕ → ℕ → ℕ
 flagsAt w bytes v = flagOf (phasedAt w bytes v)
