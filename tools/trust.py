@@ -157,11 +157,10 @@ class Specs:
                         yield self.find(*brought[word])
 
     def sentences(self):
-        """What docs/TRUST.md names as a sentence: a file of specs and a name, in one row of a table."""
+        """What docs/TRUST.md names as a sentence: a name and its file of specs, in a column of a table."""
         for line in open(os.path.join(self.root, TRUST), encoding="utf-8"):
-            for crate, file, names in re.findall(r"`([a-z_]+)/specs/(\w+)\.antt`: ((?:`[^`]+`(?:, )?)+)", line):
-                for name in re.findall(r"`([^`]+)`", names):
-                    yield (crate, file), name
+            for name, crate, file in re.findall(r"\| `([^`]+)`, `([a-z_]+)/specs/(\w+)\.antt` \|", line):
+                yield (crate, file), name
 
     def reached(self):
         whole = [tuple(re.match(r"(\w+)/specs/(\w+)\.antt", file).groups()) for file in (SAMPLES, PROGRAM)]

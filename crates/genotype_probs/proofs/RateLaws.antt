@@ -2,6 +2,7 @@
 -- most 57,344 steps down. Assumes nothing.
 use mathlib.Core.Path.{_≡_, refl, sym, ap, _∙_}
 use mathlib.Core.Bool.{true, false}
+use mathlib.Core.List.{[], _∷_, map}
 use Prim.Native.Nat.{ℕ, suc, _+_, _-_, _≤_, _<_, _^_}
 use native.Mathlib.Numerals.{add-one}
 use native.Mathlib.Omega.{arith}
@@ -12,11 +13,12 @@ use lib.IntN.{ℤ, pos, negsuc, negℤ, natAbs, _+ℤ_}
 use lib.Signed.{ltZ, _≤ℤ_}
 use mir.Syntax.{w64}
 use mir.Val.{toZ, ofZ}
-use Rattle.steps.specs.Logs.{steps, addExp, sumExp, logOf}
+use Rattle.steps.specs.Logs.{steps, addExp, lnSumExp, sumExp, logOf}
 use Rattle.steps.specs.OneMinus.{low, first, lnOneMinusExp}
 use Rattle.steps.proofs.Signed.{by-test, true-false, cases, zlin, neg-abs, parts-add, true-lt, up-pos, dn-pos, read-small}
 use Rattle.steps.proofs.AddExp.{add-size}
 use Rattle.steps.proofs.Marks.{of-small, log-injective}
+use Rattle.steps.proofs.Sums.{sum-steps}
 use Rattle.steps.proofs.OneMinus.{search-least, lowest-of, of-below, down-le}
 use Rattle.variants_and_fragments.specs.First.{firstFailFrom, firstFail}
 use Rattle.variants_and_fragments.proofs.First.{first-all, first-le}
@@ -89,6 +91,10 @@ unfolding faultFrom firstFailFrom
 fault-none rates = refl
 
 -- ---- sums of rates
+pub rate-sum : (rates : Rates) → lnSumExp (map steps (homSnv rates ∷ hetSnv rates ∷ homIndel rates ∷ hetIndel rates ∷ [])) ≡ steps (rateSum rates)
+unfolding rateSum
+rate-sum rates = sum-steps (homSnv rates) (hetSnv rates ∷ homIndel rates ∷ hetIndel rates ∷ [])
+
 pub sum-rates : (rates : Rates) → rateSum rates ≡ addExp (addExp (addExp (homSnv rates) (hetSnv rates)) (homIndel rates)) (hetIndel rates)
 unfolding rateSum sumExp
 sum-rates rates = refl

@@ -9,10 +9,10 @@ use native.Mathlib.Omega.{arith}
 use borrow.Author.Tests.{lt-ltb}
 use lib.IntN.{ℤ, pos, negℤ, natAbs, _+ℤ_, _-ℤ_}
 use lib.ListN.{getD}
-use Rattle.steps.specs.Logs.{addExp, sumExp}
+use Rattle.steps.specs.Logs.{steps, addExp, lnSumExp, sumExp}
 use Rattle.steps.proofs.Signed.{zlin, parts-minus, up-pos, dn-pos}
 use Rattle.steps.proofs.AddExp.{add-size}
-use Rattle.steps.proofs.Sums.{sum-shift}
+use Rattle.steps.proofs.Sums.{sum-steps, sum-shift}
 use Rattle.variants_and_fragments.specs.Decode.{tabulateFrom, tabulate}
 use Rattle.genotype_probs.specs.Posteriors.{sumOf, entryAt, rowSum, tableSum, normalized}
 
@@ -31,6 +31,11 @@ from-shift f c i zero = refl
 from-shift f c i (suc k) = ap (λ (l : List ℤ). (f i +ℤ c) ∷ l) (from-shift f c (suc i) k)
 
 -- ---- sums
+-- `sumOf` is `ln_sum_exp`
+pub sum-of : (x : ℤ) (xs : List ℤ) → lnSumExp (map steps (x ∷ xs)) ≡ steps (sumOf (x ∷ xs))
+unfolding sumOf
+sum-of x xs = sum-steps x xs
+
 pub sum-first : (f : ℕ → ℤ) (k : ℕ) → 1 ≤ k → sumOf (tabulate k f) ≡ sumExp (f 0) (tabulateFrom f 1 (k - 1))
 unfolding tabulateFrom sumOf
 sum-first f zero h = absurd (omega arith)

@@ -12,7 +12,7 @@ use Rattle.variants_and_fragments.specs.Decode.{tabulate}
 use Rattle.variants_and_fragments.specs.Pileup.{only}
 use Rattle.genotype_probs.specs.declared.posteriors.GenotypePost.{GenotypePost}
 
--- `ln_sum_exp` of finite ones; it is not asked of none
+-- `ln_sum_exp` of finite ones (`sum-of` of proofs/TableSums.antt); it is not asked of none
 unfoldable pub sumOf : List ℤ → ℤ
 sumOf [] = pos 0
 sumOf (x ∷ xs) = sumExp x xs
@@ -47,7 +47,8 @@ pub record FirstMaximum (f : ℕ → ℤ) (n r : ℕ) : Type 0 where
   pub greatest : (p : ℕ) → p < n → f p ≤ℤ f r
   pub first : (p : ℕ) → p < r → f p <ℤ f r
 
--- the search for it, by strict >: it meets the statement where n > 0 (proofs/Maxima)
+-- the search for it, by strict >: where n > 0 it gives the number of the statement, which one number alone meets (`meets` and `one-maximum` of
+-- proofs/Maxima.antt)
 unfoldable pub firstMaximum : (ℕ → ℤ) → ℕ → ℕ
 firstMaximum f zero = 0
 firstMaximum f (suc n) = let b = firstMaximum f n in cond (ltZ (f b) (f n)) n b
@@ -56,7 +57,7 @@ firstMaximum f (suc n) = let b = firstMaximum f n in cond (ltZ (f b) (f n)) n b
 unfoldable pub atMostOne : ℤ → ℤ
 atMostOne z = cond (ltZ (pos 0) z) (pos 0) z
 
--- the row-major number of the genotype that `max_genotype_post` keeps
+-- the row-major number of the genotype that `max_genotype_post` keeps: the first maximum (`genotype-maximum` of proofs/Maxima.antt)
 unfoldable pub maxGenotype : Bool → List ℤ → ℕ → ℕ
 maxGenotype phased tab k = firstMaximum (postAt phased tab k) (k * k)
 

@@ -33,7 +33,7 @@ tvRate rates = rates .tv .0
 unfoldable pub rateOk : ℤ → Bool
 rateOk rate = leZ (negsuc 262143) rate && leZ rate (negsuc 0)
 
--- 01, section 3: `ln_sum_exp` of the first four
+-- 01, section 3: `ln_sum_exp` of the first four (`rate-sum` of proofs/RateLaws.antt)
 unfoldable pub rateSum : Rates → ℤ
 rateSum rates = sumExp (homSnv rates) (hetSnv rates ∷ homIndel rates ∷ hetIndel rates ∷ [])
 

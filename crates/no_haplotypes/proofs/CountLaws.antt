@@ -1,19 +1,19 @@
 -- The counts of a variant: those of both strands are those of the allele, those of the alleles and the ambiguous ones are all its calls.
 -- Assumes nothing.
-use mathlib.Core.Path.{_≡_, refl, ap, _∙_}
+use mathlib.Core.Path.{_≡_, refl, ap, subst, _∙_}
 use mathlib.Core.Bool.{Bool, not, _&&_, and-false}
 use mathlib.Core.List.{List, [], _∷_, _++_, map}
 use Prim.Native.Nat.{ℕ, suc, _+_, _≤_, _<_}
 use native.Mathlib.Decide.{ℕ-discrete}
 use native.Mathlib.Omega.{arith}
-use borrow.Author.Tests.{eq-eqb, ne-eqb}
+use borrow.Author.Tests.{eq-eqb, ne-eqb, eqb-true}
 use lib.Dec.{eqb}
 use lib.IntN.{ℤ}
 use lib.ListN.{length, length-append, List·getD-eq-default}
 use Rattle.steps.proofs.Signed.{by-test, cases}
 use Rattle.variants_and_fragments.specs.declared.Sizes.{Sizes}
 use Rattle.variants_and_fragments.specs.Accepted.{CaseIn}
-use Rattle.variants_and_fragments.specs.Case.{Case, Call, Fragment, usable, fragmentOf, noFragment, All, end, also, GoodCall, GoodFragment, GoodCase}
+use Rattle.variants_and_fragments.specs.Case.{Case, Call, Fragment, usable, alleleCount, variantOf, fragmentOf, noFragment, All, end, also, GoodCall, GoodFragment, GoodCase}
 use Rattle.variants_and_fragments.specs.Decode.{decode}
 use Rattle.variants_and_fragments.specs.Pileup.{Row, rowOf, only, usableCalls, rowsFrom, rowsOf, atVariant, pileOf, ambiguousIn, ambiguousFrom, ambiguousCount}
 use Rattle.variants_and_fragments.specs.Sums.{countOver}
@@ -119,18 +119,36 @@ module _ {case : Case} (good : GoodCase case) where
   pub two-strands : (f : ℕ) → fragmentOf case f .strand ≤ 1
   two-strands = strands-two case (λ f h. fragment-in good f h .strand-in)
 
-  call-three : (call : Call) → GoodCall (case .variants) call → call .allele < 3
-  call-three call g = omega (arith, g .allele-in, good .variants-in (call .variant) (g .variant-in) .three-alleles)
+  call-three : (row : Row) → GoodCall (case .variants) (row .call) → row .call .allele < 3
+  call-three row g = omega (arith, g .allele-in, good .variants-in (row .call .variant) (g .variant-in) .three-alleles)
 
-  from-three : (f : ℕ) (xs : List Fragment) → All (GoodFragment (case .variants)) xs → All (λ (row : Row). row .call .allele < 3) (rowsFrom (case .cutoff) f xs)
+  from-good : (f : ℕ) (xs : List Fragment) → All (GoodFragment (case .variants)) xs → All (λ (row : Row). GoodCall (case .variants) (row .call)) (rowsFrom (case .cutoff) f xs)
   unfolding rowsFrom usableCalls
-  from-three f [] end = end
-  from-three f (x ∷ xs) (also g r) = all-append (all-map (rowOf f) (usableCalls (case .cutoff) x) (only-all (usable (case .cutoff) x) (x .calls) (all-imp call-three (g .calls-in)))) (from-three (suc f) xs r)
+  from-good f [] end = end
+  from-good f (x ∷ xs) (also g r) = all-append (all-map (rowOf f) (usableCalls (case .cutoff) x) (only-all (usable (case .cutoff) x) (x .calls) (g .calls-in))) (from-good (suc f) xs r)
+
+  rows-good : All (λ (row : Row). GoodCall (case .variants) (row .call)) (rowsOf case)
+  unfolding rowsOf
+  rows-good = from-good 0 (case .fragments) (good .fragments-in)
 
   -- counts plus ambiguous equal the calls
   pub counts-ambiguous : (v : ℕ) → alleleCalls case v 0 + alleleCalls case v 1 + alleleCalls case v 2 + ambiguousCount case v ≡ callsAt case v
-  unfolding alleleCalls pileOf rowsOf
-  counts-ambiguous v = omega (arith, three-alleles case (pileOf case v) (only-all (atVariant v) (rowsOf case) (from-three 0 (case .fragments) (good .fragments-in))), all-calls case v)
+  unfolding alleleCalls pileOf
+  counts-ambiguous v = omega (arith, three-alleles case (pileOf case v) (only-all (atVariant v) (rowsOf case) (all-imp call-three rows-good)), all-calls case v)
+
+  -- absent alleles 0
+  none-shows : (v x : ℕ) → alleleCount (variantOf case v) ≤ x → (rows : List Row) → All (λ (row : Row). GoodCall (case .variants) (row .call)) rows → length (only (shows case x) (only (atVariant v) rows)) ≡ 0
+  none-shows v x h [] end = rw (only-none (atVariant v), only-none (shows case x))
+  none-shows v x h (row ∷ rows) (also g r) =
+      by-test (atVariant v row)
+      (λ t.
+      let a : row .call .allele < alleleCount (variantOf case v) = subst (λ (u : ℕ). row .call .allele < alleleCount (variantOf case u)) (eqb-true (row .call .variant) v t) (g .allele-in) in
+      rw (only-in (atVariant v) row rows t, only-out (shows case x) row (only (atVariant v) rows) (ne-eqb (row .call .allele) x (λ e. omega arith))) (none-shows v x h rows r))
+      (λ t. rw (only-out (atVariant v) row rows t) (none-shows v x h rows r))
+
+  pub absent-none : (v x : ℕ) → alleleCount (variantOf case v) ≤ x → alleleCalls case v x ≡ 0
+  unfolding alleleCalls pileOf
+  absent-none v x h = none-shows v x h (rowsOf case) rows-good
 
 -- ---- of the words of an accepted case
 pub case-strands : {w : List ℤ} {s : Sizes} → CaseIn w s → (b : List ℕ) (f : ℕ) → fragmentOf (decode w b) f .strand ≤ 1

@@ -1,4 +1,5 @@
 pub mod CountLaws
+pub mod Counts
 pub mod TallyLaws
 pub mod ScoreLaws
 pub mod PosteriorLaws

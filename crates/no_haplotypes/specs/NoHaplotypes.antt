@@ -3,7 +3,7 @@
 use mathlib.Core.Path.{_≡_}
 use mathlib.Core.Bool.{false, cond, _&&_, _||_}
 use mathlib.Core.List.{List, [], _∷_}
-use Prim.Native.Nat.{ℕ, _+_, _*_, _/_, _%_}
+use Prim.Native.Nat.{ℕ, _+_, _*_, _/_, _%_, _≤_, _<_}
 use lib.Dec.{eqb, leb, ltb}
 use lib.IntN.{ℤ, pos, _+ℤ_}
 use lib.Ieee.{Float}
@@ -98,6 +98,26 @@ answerFrom post k case v p =
     ∷ strandCalls case v 0 0 ∷ strandCalls case v 0 1 ∷ strandCalls case v 0 2
     ∷ strandCalls case v 1 0 ∷ strandCalls case v 1 1 ∷ strandCalls case v 1 2
     ∷ ambiguousCount case v ∷ depthAfter case v ∷ []) p 0)
+
+-- where they stand: the count of allele x, its forward and its reverse count, the ambiguous count
+abbrev pub countWord : ℕ → ℕ
+countWord x = 2 + x
+
+abbrev pub forwardWord : ℕ → ℕ
+forwardWord x = 5 + x
+
+abbrev pub reverseWord : ℕ → ℕ
+reverseWord x = 8 + x
+
+abbrev pub ambiguousWord : ℕ
+ambiguousWord = 11
+
+-- "Counts plus ambiguous equal the calls; forward plus reverse equal the counts", and "absent alleles 0", of the words of v. So of every
+-- accepted case and of all that is written: proofs/Counts.antt, `answers-add-up` and `written-add-up`
+pub record CountsAddUp (case : Case) (v : ℕ) (word : ℕ → ℤ) : Type 0 where
+  pub calls : word (countWord 0) +ℤ word (countWord 1) +ℤ word (countWord 2) +ℤ word ambiguousWord ≡ pos (callsAt case v)
+  pub strands : (x : ℕ) → x < 3 → word (forwardWord x) +ℤ word (reverseWord x) ≡ word (countWord x)
+  pub absent : (x : ℕ) → x < 3 → alleleCount (variantOf case v) ≤ x → word (countWord x) ≡ pos 0
 
 -- ---- of a case, at given rates
 module _ (rates : Rates) (case : Case) where

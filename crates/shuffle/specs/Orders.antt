@@ -23,7 +23,7 @@ unfoldable pub swapsDown : ℕ → List ℕ → ℕ → List ℕ
 swapsDown zero order state = order
 swapsDown (suc i) order state = swapsDown i (swapped order (suc i) (output state % (suc i + 1))) (nextState state)
 
--- one order of n variants, "from ascending"
+-- one order of n variants, "from ascending": a permutation (`order-permutation` of proofs/Permuted.antt)
 unfoldable pub orderFrom : ℕ → ℕ → List ℕ
 orderFrom n state = swapsDown (n - 1) (ascending n) state
 

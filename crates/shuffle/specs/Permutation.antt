@@ -31,6 +31,6 @@ unfoldable pub eachOnce : ℕ → List ℕ → Bool
 eachOnce zero order = true
 eachOnce (suc v) order = eachOnce v order && eqb (times v order) 1
 
--- an order is a permutation: true just where `Permutation` holds (proofs/Permuted.antt)
+-- an order is a permutation: true just where `Permutation` holds (`permutes-permutation` and `permutation-permutes` of proofs/Permuted.antt)
 unfoldable pub permutes : ℕ → List ℕ → Bool
 permutes n order = allBelow n order && eachOnce n order

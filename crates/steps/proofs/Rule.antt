@@ -1,8 +1,9 @@
 -- The rule of the knots, proved at all 1,665 entries by one test that antt computes. The powers of 4096 have 168,000 bits, more than
 -- the steps of one declaration allow, so the test takes the 64th power, drops its last 2480 bits, and takes the 64th power of that.
 -- Assumes nothing.
-use mathlib.Core.Path.{_≡_, subst}
+use mathlib.Core.Path.{_≡_, refl, subst}
 use mathlib.Core.Bool.{Bool}
+use mathlib.Core.List.{List}
 use Prim.Native.Nat.{ℕ, suc, _+_, _*_, _^_, _/_, _≤_, _<_}
 use native.Mathlib.Nat.{le-trans, not-le-of-lt, lt-of-not-le, le-of-suc-le-suc, le-refl, le-antisymm, add-le-add, pow-le-pow-left, mul-le-mul-right}
 use native.Mathlib.Omega.{arith}
@@ -10,8 +11,9 @@ use lib.Dec as D
 use lib.Dec.{leb, ltb, leb→le}
 use lib.ListN.{getD, length}
 use lib.Pow.{pow-mono}
+use lib.Seq.{ext-getD}
 use Rattle.steps.specs.Table.{knots, roots}
-use Rattle.steps.specs.Knots.{Greatest, Knot, T}
+use Rattle.steps.specs.Knots.{Greatest, Knot, KnotTable, T}
 use Rattle.steps.proofs.Powers.{at-least, below}
 use Rattle.steps.proofs.Entries.{both, both-left, both-right, pairwise, at}
 
@@ -82,3 +84,14 @@ pub one-knot : (k t u : ℕ) → Knot k t → Knot k u → t ≡ u
 one-knot k t u x y =
     one-root (x .knot)
     (subst (λ (e : ℕ). Greatest (λ (z : ℕ). 2 ^ (z + 163840) ≤ (2 ^ 40 + e) ^ 4096) u) (one-root (y .root) (x .root)) (y .knot))
+
+-- ---- the whole table
+pub whole-table : KnotTable knots
+unfolding knots T
+whole-table = record { long = refl; each = rule }
+
+pub one-table : (ts : List ℕ) → KnotTable ts → ts ≡ knots
+one-table ts x =
+    let l = x .long in
+    let m = whole-table .long in
+    ext-getD 0 ts knots (omega arith) (λ k h. one-knot k (getD ts k 0) (getD knots k 0) (x .each k (omega arith)) (whole-table .each k (omega arith)))

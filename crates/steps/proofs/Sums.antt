@@ -1,17 +1,40 @@
--- Laws of sums from the left: one more element, a sum of finite ones, a constant added to each, the size.
+-- Laws of sums from the left: the statement, one more element, a sum of finite ones, a constant added to each, the size.
 -- Assumes nothing.
-use mathlib.Core.Path.{_≡_, refl, _∙_, ap}
-use mathlib.Core.List.{List, [], _∷_, map}
+use mathlib.Core.Path.{_≡_, refl, sym, _∙_, ap}
+use mathlib.Core.List.{List, [], _∷_, _++_, append-nil, append-assoc, map}
 use Prim.Native.Nat.{ℕ, suc, _+_, _*_, _≤_, _<_}
 use native.Mathlib.Numerals.{add-one}
 use native.Mathlib.Omega.{arith}
 use lib.IntN.{ℤ, pos, natAbs, _+ℤ_}
 use lib.ListN.{length, getD, drop}
 use lib.Seq.{drop-cons, drop-length}
-use Rattle.steps.specs.Logs.{Log, mark, steps, addExp, lnAddExp, lnSumFrom, lnSumExp, sumExp, logOf, size}
+use Rattle.steps.specs.Logs.{Log, mark, steps, addExp, lnAddExp, AddsFromLeft, lnSumFrom, lnSumExp, sumExp, logOf, size}
 use Rattle.steps.proofs.AddExp.{add-shift, add-size}
 use Rattle.steps.proofs.Marks.{log-size}
 
+-- ---- the statement
+-- it adds from the left, starting at the mark
+sum-last : (a : Log) (xs : List Log) (x : Log) → lnSumFrom a (xs ++ (x ∷ [])) ≡ lnAddExp (lnSumFrom a xs) x
+unfolding lnSumFrom
+sum-last a [] x = refl
+sum-last a (y ∷ ys) x = sum-last (lnAddExp a y) ys x
+
+pub sum-meets : AddsFromLeft lnSumExp
+unfolding lnSumExp lnSumFrom
+sum-meets = record { start = refl; next = sum-last mark }
+
+-- and no other function does
+sum-on : (f : List Log → Log) → AddsFromLeft f → (xs ys : List Log) → f (xs ++ ys) ≡ lnSumFrom (f xs) ys
+unfolding lnSumFrom
+sum-on f h xs [] = ap f (append-nil xs)
+sum-on f h xs (y ∷ ys) =
+    ap f (sym (append-assoc xs (y ∷ []) ys)) ∙ sum-on f h (xs ++ (y ∷ [])) ys ∙ ap (λ (a : Log). lnSumFrom a ys) (h .next xs y)
+
+pub one-sum : (f : List Log → Log) → AddsFromLeft f → (xs : List Log) → f xs ≡ lnSumExp xs
+unfolding lnSumExp
+one-sum f h xs = sum-on f h [] xs ∙ ap (λ (a : Log). lnSumFrom a xs) (h .start)
+
+-- ---- laws
 -- one more element, and none left
 pub sum-next : (a : Log) (s : List ℤ) (i : ℕ) → i < length s → lnSumFrom a (map logOf (drop i s)) ≡ lnSumFrom (lnAddExp a (logOf (getD s i (pos 0)))) (map logOf (drop (i + 1) s))
 unfolding lnSumFrom

@@ -1,7 +1,8 @@
 -- 01, section 1: log probabilities. A finite one is a whole number of steps, 4,096 to a doubling; the mark is probability zero.
 -- Assumes nothing.
+use mathlib.Core.Path.{_≡_}
 use mathlib.Core.Bool.{Bool, false, cond}
-use mathlib.Core.List.{List, [], _∷_}
+use mathlib.Core.List.{List, [], _∷_, _++_}
 use Prim.Native.Nat.{ℕ}
 use lib.Dec.{eqb}
 use lib.IntN.{ℤ, pos, negsuc, natAbs, _+ℤ_, _-ℤ_}
@@ -28,7 +29,14 @@ lnAddExp mark b = b
 lnAddExp (steps a) mark = steps a
 lnAddExp (steps a) (steps b) = steps (addExp a b)
 
--- ln_sum_exp adds from the left, starting at the mark
+-- "`ln_sum_exp` adds from the left, starting at the mark", of a function on lists: none gives the mark, and one more at the right end is
+-- added to the sum so far
+pub record AddsFromLeft (sum : List Log → Log) : Type 0 where
+  pub start : sum [] ≡ mark
+  pub next : (xs : List Log) (x : Log) → sum (xs ++ (x ∷ [])) ≡ lnAddExp (sum xs) x
+
+-- the sum from a start on, and from the mark on: `ln_sum_exp`, which adds from the left as no other function does (`sum-meets` and `one-sum`
+-- of proofs/Sums.antt)
 unfoldable pub lnSumFrom : Log → List Log → Log
 lnSumFrom a [] = a
 lnSumFrom a (x ∷ xs) = lnSumFrom (lnAddExp a x) xs

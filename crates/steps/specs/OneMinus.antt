@@ -1,5 +1,5 @@
--- 01, section 1: ln_one_minus_exp, as its statement and as a function that searches. proofs/OneMinus.antt shows that the function meets
--- the statement, and that one value alone does. Assumes nothing.
+-- 01, section 1: ln_one_minus_exp, as its statement and as a function that searches.
+-- Assumes nothing.
 use mathlib.Core.Path.{_≡_}
 use mathlib.Core.Bool.{Bool, cond}
 use Prim.Native.Nat.{ℕ, zero, suc, _+_, _-_, _^_}
@@ -29,6 +29,8 @@ unfoldable pub first : (ℕ → Bool) → ℕ → ℕ → ℕ
 first f zero b = b
 first f (suc n) b = first f n (cond (f (b + 2 ^ n - 1)) b (b + 2 ^ n))
 
+-- ln_one_minus_exp: for every p ≤ 0 and for the mark the value of the statement, which one value alone meets (`meets`, `meets-mark` and
+-- `one-value` of proofs/OneMinus.antt)
 unfoldable pub lnOneMinusExp : Log → Log
 lnOneMinusExp mark = steps (pos 0)
 lnOneMinusExp (steps (pos n)) = mark

@@ -90,7 +90,7 @@ pub record RunResult : Type 0 where
   pub haps : List ℕ
 
 module _ (C : SweepCase) where
-  -- the first maximum is taken
+  -- the first maximum is taken (`best-first` of proofs/Visit.antt)
   unfoldable pub bestPair : ℕ → List ℕ → ℕ
   bestPair v h = firstMaximum (score C v h) (C .k v * C .k v)
 

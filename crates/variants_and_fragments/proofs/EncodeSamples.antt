@@ -1,4 +1,4 @@
--- Cases, by computation: decoding gives the encoded case back, and the check accepts it.
+-- Three closed cases, by computation: decoding gives the encoded case back, and the check accepts it. Nothing is shown of other cases.
 -- Assumes nothing.
 use mathlib.Core.Path.{_≡_, refl}
 use mathlib.Core.List.{[], _∷_, _++_}

@@ -1,0 +1,113 @@
+-- Section 4's sentence on the counts, of every accepted case: of the 13 words of each variant, and of what the operation writes.
+-- Assumes nothing.
+use mathlib.Core.Path.{_≡_, refl, sym, ap, _∙_}
+use mathlib.Core.Bool.{Bool, true, false}
+use mathlib.Core.List.{List}
+use Prim.Native.Nat.{ℕ, zero, suc, _+_, _*_, _/_, _%_, _≤_, _<_}
+use native.Mathlib.Omega.{arith}
+use borrow.Author.Tests.{leb-true}
+use lib.Ieee.{Float}
+use lib.IntN.{ℤ, pos, _+ℤ_}
+use lib.ListN.{length, getD}
+use Rattle.variants_and_fragments.specs.declared.Sizes.{Sizes}
+use Rattle.variants_and_fragments.specs.Case.{Case, GoodCase}
+use Rattle.variants_and_fragments.specs.Check.{caseOf}
+use Rattle.variants_and_fragments.specs.Decode.{decode}
+use Rattle.variants_and_fragments.specs.Refusals.{Outcome, refused, done, andThen, unless, afterwards}
+use Rattle.variants_and_fragments.specs.Written.{written}
+use Rattle.variants_and_fragments.proofs.Accepted.{case-in}
+use Rattle.variants_and_fragments.proofs.Decoded.{variants-are}
+use Rattle.variants_and_fragments.proofs.GoodCases.{good-case}
+use Rattle.variants_and_fragments.proofs.Written.{written-at}
+use Rattle.genotype_probs.specs.declared.Rates.{Rates}
+use Rattle.no_haplotypes.specs.declared.Called.the-variants.{Done}
+use Rattle.no_haplotypes.specs.NoHaplotypes.{alleleCalls, strandCalls, callsAt, answerFrom, countWord, forwardWord, reverseWord, ambiguousWord, CountsAddUp, variantAnswer, answerAt, calledOf, outcomeOf, CalledNoHaplotypes}
+use Rattle.no_haplotypes.proofs.CountLaws.{forward-reverse, two-strands, counts-ambiguous, absent-none}
+
+-- ---- the words of a variant, whatever its posteriors
+module _ (post : List ℤ) (k : ℕ) (case : Case) (v : ℕ) where
+  abbrev word : ℕ → ℤ
+  word = answerFrom post k case v
+
+  count-word : (x : ℕ) → x < 3 → word (countWord x) ≡ pos (alleleCalls case v x)
+  unfolding answerFrom
+  count-word zero h = refl
+  count-word (suc zero) h = refl
+  count-word (suc (suc zero)) h = refl
+  count-word (suc (suc (suc x))) h = absurd (omega arith)
+
+  forward-word : (x : ℕ) → x < 3 → word (forwardWord x) ≡ pos (strandCalls case v 0 x)
+  unfolding answerFrom
+  forward-word zero h = refl
+  forward-word (suc zero) h = refl
+  forward-word (suc (suc zero)) h = refl
+  forward-word (suc (suc (suc x))) h = absurd (omega arith)
+
+  reverse-word : (x : ℕ) → x < 3 → word (reverseWord x) ≡ pos (strandCalls case v 1 x)
+  unfolding answerFrom
+  reverse-word zero h = refl
+  reverse-word (suc zero) h = refl
+  reverse-word (suc (suc zero)) h = refl
+  reverse-word (suc (suc (suc x))) h = absurd (omega arith)
+
+  all-words : GoodCase case → word (countWord 0) +ℤ word (countWord 1) +ℤ word (countWord 2) +ℤ word ambiguousWord ≡ pos (callsAt case v)
+  unfolding answerFrom
+  all-words good = ap pos (counts-ambiguous good v)
+
+  words-add-up : GoodCase case → CountsAddUp case v word
+  words-add-up good = record {
+    calls = all-words good;
+    strands = λ x h. rw (forward-word x h, reverse-word x h, count-word x h) (ap pos (forward-reverse case (two-strands good) v x));
+    absent = λ x h l. rw (count-word x h) (ap pos (absent-none good v x l));
+  }
+
+-- other words that are the same
+same-words : {case : Case} {v : ℕ} (f g : ℕ → ℤ) → ((p : ℕ) → p < 13 → g p ≡ f p) → CountsAddUp case v f → CountsAddUp case v g
+same-words f g e c = record {
+  calls = rw (e 2 (omega arith), e 3 (omega arith), e 4 (omega arith), e 11 (omega arith)) (c .calls);
+  strands = λ x h. rw (e (forwardWord x) (omega arith), e (reverseWord x) (omega arith), e (countWord x) (omega arith)) (c .strands x h);
+  absent = λ x h l. rw (e (countWord x) (omega arith)) (c .absent x h l);
+}
+
+-- ---- of every accepted case, at any rates
+pub answers-add-up : (w : List ℤ) (b : List ℕ) (s : Sizes) → caseOf w b ≡ done s → (rates : Rates) (v : ℕ) → CountsAddUp (decode w b) v (variantAnswer rates (decode w b) v)
+unfolding variantAnswer
+answers-add-up w b s h rates v = words-add-up _ _ (decode w b) v (good-case w b s h)
+
+-- ---- of what the operation writes where it is done
+unless-done : {X : Type 0} (t : Bool) (n p : ℕ) (rest : Outcome X) (x : X) → unless t n p rest ≡ done x → (t ≡ true) × (rest ≡ done x)
+unfolding unless
+unless-done true n p rest x e = (refl, e)
+unless-done false n p rest x e = let z : _≡_ {A = ℕ} 0 1 = cc in absurd (omega arith)
+
+then-done : {X Y P : Type 0} (o : Outcome X) (next : X → Outcome Y) (y : Y) → andThen o next ≡ done y → ((x : X) → o ≡ done x → next x ≡ done y → P) → P
+unfolding andThen
+then-done (refused n p) next y e k = let z : _≡_ {A = ℕ} 0 1 = cc in absurd (omega arith)
+then-done (done x) next y e k = k x refl e
+
+-- the case is accepted, and there is room for the answers
+called-room : {P : Type 0} (w : List ℤ) (b : List ℕ) (rates : Rates) (variants quals gqs : ℕ) → calledOf w b rates variants quals gqs ≡ done tt → ((s : Sizes) → caseOf w b ≡ done s → 13 * s .n ≤ variants → P) → P
+unfolding calledOf
+called-room w b rates variants quals gqs e k =
+    then-done (caseOf w b) _ tt e
+    (λ s c d.
+    let x = unless-done _ 6 _ _ tt d in
+    let y = unless-done _ 10 _ _ tt (x .1) in
+    let z = unless-done _ 10 _ _ tt (y .1) in
+    k s c (leb-true (13 * s .n) variants (z .0)))
+
+module _ {w : List ℤ} {b : List ℕ} {rates : Rates} {variants variants' : List ℤ} {quals gqs quals' gqs' : List Float} (called : CalledNoHaplotypes w b rates variants quals gqs Done variants' quals' gqs') where
+  written-word : (s : Sizes) → caseOf w b ≡ done s → 13 * s .n ≤ length variants → (v : ℕ) → v < length (decode w b .variants) → (p : ℕ) → p < 13 → getD variants' (13 * v + p) (pos 0) ≡ variantAnswer rates (decode w b) v p
+  unfolding outcomeOf afterwards answerAt
+  written-word s c room v h p l =
+      let n = variants-are (case-in w b s c) b in
+      let e : variants' ≡ written (answerAt rates (decode w b)) (13 * length (decode w b .variants)) variants = called .variants-after in
+      let q : (13 * v + p) / 13 ≡ v = omega arith in
+      let r : (13 * v + p) % 13 ≡ p = omega arith in
+      rw e (written-at (answerAt rates (decode w b)) (13 * length (decode w b .variants)) variants (pos 0) (omega arith) (13 * v + p) (omega arith) ∙ rw (q, r))
+
+  pub written-add-up : (v : ℕ) → v < length (decode w b .variants) → CountsAddUp (decode w b) v (λ p. getD variants' (13 * v + p) (pos 0))
+  unfolding outcomeOf
+  written-add-up v h =
+      called-room w b rates (length variants) (length quals) (length gqs) (sym (called .answer))
+      (λ s c room. same-words (variantAnswer rates (decode w b) v) (λ p. getD variants' (13 * v + p) (pos 0)) (written-word s c room v h) (answers-add-up w b s c rates v))
