@@ -1,4 +1,4 @@
--- Three closed cases, by computation: decoding gives the encoded case back, and the check accepts it. Nothing is shown of other cases.
+-- Three closed cases, by computation: decoding gives the encoded case back, as it does in general (Encoded.antt), and the check accepts it.
 -- Assumes nothing.
 use mathlib.Core.Path.{_≡_, refl}
 use mathlib.Core.List.{[], _∷_, _++_}

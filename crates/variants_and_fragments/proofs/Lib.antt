@@ -8,6 +8,7 @@ pub mod Bounds
 pub mod GoodCases
 pub mod Only
 pub mod Usable
+pub mod Encoded
 pub mod EncodeSamples
 pub mod Tabulated
 pub mod First

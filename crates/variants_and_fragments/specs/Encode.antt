@@ -1,6 +1,6 @@
--- 01, section 2: words and allele bytes made of a case. Records are numbered fragment after fragment, and a fragment's chain goes through
--- consecutive records. Samples make their words here. That `decode` gives the case back and the check accepts it is shown of five closed
--- cases, by computation (proofs/EncodeSamples.antt, samples/proofs/Laid.antt), and not in general. Assumes nothing.
+-- 01, section 2: words and allele bytes made of a case, from which `decode` gives back every case of at most three alleles a variant
+-- (`decode-encode` of proofs/Encoded.antt). Records are numbered fragment after fragment, and a fragment's chain goes through consecutive
+-- records. Samples make their words here; that the check accepts them is shown of these samples, and not in general. Assumes nothing.
 use mathlib.Core.List.{List, [], _∷_, _++_, map}
 use Prim.Native.Nat.{ℕ, suc, _+_}
 use lib.IntN.{ℤ, pos}
