@@ -6,7 +6,7 @@ use lib.IntN.{ℤ, pos, natAbs, negℤ, _+ℤ_, _-ℤ_}
 use lib.Signed.{ltZ, _≤ℤ_, _<ℤ_}
 use Rattle.steps.proofs.AddExp.{far-above, far-below}
 use Rattle.steps.proofs.Signed.{zlin, by-test, true-lt, up-pos, dn-pos, neg-up, neg-dn, natAbs-parts, parts-add, parts-minus}
-use Rattle.call_genotypes.specs.Scores.{onePlus, isFar}
+use Rattle.call_genotypes.specs.Inner.Scores.{onePlus, isFar}
 
 -- ---- what is far, by its sign
 pub far-low : (d : ℤ) → isFar d ≡ true → d <ℤ pos 0 → d <ℤ negℤ (pos 313472)

@@ -16,10 +16,10 @@ use Rattle.variants_and_fragments.specs.Pileup.{Row}
 use Rattle.variants_and_fragments.specs.Sums.{sumOver}
 use Rattle.variants_and_fragments.proofs.Decoded.{tabulate-length, tabulate-at}
 use Rattle.variants_and_fragments.proofs.Tabulated.{table-more, table-end}
-use Rattle.sweeps.specs.Incremental.{alleleSum}
+use Rattle.sweeps.specs.Inner.Incremental.{alleleSum}
 use Rattle.sweeps.proofs.Fours.{allele-sum-on}
-use Rattle.likelihoods.specs.Held.{Within}
-use Rattle.call_genotypes.specs.Scores.{addFour, AlleleSums}
+use Rattle.likelihoods.specs.Inner.Held.{Within}
+use Rattle.call_genotypes.specs.Inner.Scores.{addFour, AlleleSums}
 use Rattle.call_genotypes.proofs.Tables.{sets-before, sets-after, sets-at, replicate-at}
 
 -- the four stores, one after the other

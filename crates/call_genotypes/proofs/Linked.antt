@@ -14,18 +14,18 @@ use lib.IntN.{ℤ, pos, natAbs, _+ℤ_, _-ℤ_}
 use Rattle.steps.proofs.Signed.{cases, zlin, up-pos, dn-pos, parts-add, parts-minus}
 use Rattle.variants_and_fragments.specs.Pileup.{Row}
 use Rattle.variants_and_fragments.specs.Sums.{sumOver}
-use Rattle.pileup.specs.Packed.{RowsIn, rowsAt, groupStart}
+use Rattle.pileup.specs.Inner.Packed.{RowsIn, rowsAt, groupStart}
 use Rattle.pileup.proofs.Groups.{group-rows, group-in}
 use Rattle.genotype_probs.proofs.ListLaws.{down-abs}
 use Rattle.genotype_probs.proofs.TableSums.{tabulate-cong, pair-in, place-in}
 use Rattle.sweeps.specs.Sweeps.{SweepCase, allele0, allele1, score, scoreWith, mixOf}
-use Rattle.sweeps.specs.Incremental.{pileupFrom, share, whichValue, rowValue}
+use Rattle.sweeps.specs.Inner.Incremental.{pileupFrom, share, whichValue, rowValue}
 use Rattle.sweeps.proofs.Basics.{sumOver-cong}
 use Rattle.sweeps.proofs.Scored.{score-pileup}
 use Rattle.sweeps.proofs.Fours.{share-value}
-use Rattle.likelihoods.specs.Held.{SweepReads, Held, Liks, Within}
+use Rattle.likelihoods.specs.Inner.Held.{SweepReads, Held, Liks, Within}
 use Rattle.call_genotypes.specs.declared.score.Pair.{Pair}
-use Rattle.call_genotypes.specs.Scores.{pairAt, rowMixes, turn, PileFits, AlleleSums, riseOf, pairRise, belowFirst, scoresOf, ScoresRoom, SweepState, VisitStart, overFirst, scoredAt}
+use Rattle.call_genotypes.specs.Inner.Scores.{pairAt, rowMixes, turn, PileFits, AlleleSums, riseOf, pairRise, belowFirst, scoresOf, ScoresRoom, SweepState, VisitStart, overFirst, scoredAt}
 use Rattle.call_genotypes.proofs.RiseLaws.{rowFour}
 use Rattle.call_genotypes.proofs.RiseSums.{pairs-are}
 

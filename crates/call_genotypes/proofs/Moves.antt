@@ -15,18 +15,18 @@ use Rattle.variants_and_fragments.specs.Case.{Call}
 use Rattle.variants_and_fragments.specs.Pileup.{Row, rowOf}
 use Rattle.variants_and_fragments.specs.Sums.{sumOver}
 use Rattle.sweeps.specs.Sweeps.{SweepCase, allele0, allele1, putPair, callTerm, likelihood}
-use Rattle.sweeps.specs.Incremental.{rowsIn, pileupFrom, termAt}
+use Rattle.sweeps.specs.Inner.Incremental.{rowsIn, pileupFrom, termAt}
 use Rattle.sweeps.proofs.Basics.{lik-cong, at0-same, at1-same, at0-other, at1-other}
 use Rattle.sweeps.proofs.Link.{lik-own}
 use Rattle.sweeps.proofs.Scored.{lik-stays}
 use Rattle.variants_and_fragments.proofs.Bools.{is-true, is-false, which}
 use Rattle.variants_and_fragments.proofs.Sums.{sum-append}
-use Rattle.pileup.specs.Packed.{rowsAt, groupStart}
-use Rattle.likelihoods.specs.Held.{Liks}
+use Rattle.pileup.specs.Inner.Packed.{rowsAt, groupStart}
+use Rattle.likelihoods.specs.Inner.Held.{Liks}
 use Rattle.call_genotypes.specs.declared.score.Pair.{Pair}
-use Rattle.call_genotypes.specs.Scores.{pairAt}
+use Rattle.call_genotypes.specs.Inner.Scores.{pairAt}
 use Rattle.call_genotypes.proofs.Linked.{pile-rows, phased-yes, phased-no}
-use Rattle.call_genotypes.specs.Visits.{moveOf, Moved, Movable, PairPut}
+use Rattle.call_genotypes.specs.Inner.Visits.{moveOf, Moved, Movable, PairPut}
 
 -- ---- the sum over the pile of what moves one likelihood
 module _ (v old new : ℕ) (t : ℕ → Bool) where

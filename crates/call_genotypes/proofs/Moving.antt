@@ -15,8 +15,8 @@ use Rattle.variants_and_fragments.specs.Decode.{tabulateFrom}
 use Rattle.variants_and_fragments.specs.Sums.{sumOver}
 use Rattle.variants_and_fragments.proofs.Tabulated.{table-more, table-end}
 use Rattle.sweeps.specs.Sweeps.{callTerm}
-use Rattle.likelihoods.specs.Held.{Within}
-use Rattle.call_genotypes.specs.Visits.{moveOf, Moved}
+use Rattle.likelihoods.specs.Inner.Held.{Within}
+use Rattle.call_genotypes.specs.Inner.Visits.{moveOf, Moved}
 
 -- the rows before p have moved their likelihoods
 pub record Moving (side old new : ℕ) (row : ℕ → Row) (a e p : ℕ) (lik₀ lik : List ℤ) : Type 0 where

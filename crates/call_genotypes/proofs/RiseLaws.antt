@@ -11,8 +11,8 @@ use Rattle.steps.proofs.Signed.{zlin, up-pos, dn-pos, parts-add, parts-minus}
 use Rattle.variants_and_fragments.specs.Case.{Call}
 use Rattle.variants_and_fragments.specs.Pileup.{Row}
 use Rattle.sweeps.specs.Sweeps.{callTerm, mixOf}
-use Rattle.sweeps.specs.Incremental.{without, fourValue}
-use Rattle.call_genotypes.specs.Scores.{onePlus, mixValue, rowGap, rowMixes, riseOf, turn}
+use Rattle.sweeps.specs.Inner.Incremental.{without, fourValue}
+use Rattle.call_genotypes.specs.Inner.Scores.{onePlus, mixValue, rowGap, rowMixes, riseOf, turn}
 use Rattle.likelihoods.proofs.TotalParts.{mixed-from}
 use Rattle.call_genotypes.proofs.Turns.{times-one, times-minus}
 

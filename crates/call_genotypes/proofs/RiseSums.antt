@@ -13,9 +13,9 @@ use Rattle.steps.proofs.Signed.{zlin, parts-add, parts-minus}
 use Rattle.variants_and_fragments.specs.Pileup.{Row}
 use Rattle.variants_and_fragments.specs.Sums.{sumOver}
 use Rattle.genotype_probs.proofs.ListLaws.{sum-plus}
-use Rattle.sweeps.specs.Incremental.{whichValue, alleleSum}
+use Rattle.sweeps.specs.Inner.Incremental.{whichValue, alleleSum}
 use Rattle.sweeps.proofs.Basics.{sumOver-cong}
-use Rattle.call_genotypes.specs.Scores.{rowMixes, turn, AlleleSums, sumsAt, riseOf, pairRise}
+use Rattle.call_genotypes.specs.Inner.Scores.{rowMixes, turn, AlleleSums, sumsAt, riseOf, pairRise}
 use Rattle.call_genotypes.proofs.RiseLaws.{rowFour, value-is}
 
 -- ---- sums of what some rows have

@@ -9,19 +9,20 @@ use native.Mathlib.Numerals.{add-one}
 use lib.ListN.{length, take, drop}
 use Rattle.shuffle.specs.Permutation.{Permutation}
 use Rattle.shuffle.specs.Orders.{orderAt}
-use Rattle.sweeps.specs.Sweeps.{SweepCase, GoodHaps, sameHaps, sweep, run}
+use Rattle.sweeps.specs.Sweeps.{SweepCase, sameHaps, sweep, run}
+use Rattle.sweeps.specs.Inner.Sweeps.{GoodHaps}
 use Rattle.sweeps.specs.Demand3.{after}
-use Rattle.sweeps.specs.Posts.{posts}
+use Rattle.sweeps.specs.Inner.Posts.{posts}
 use Rattle.sweeps.proofs.Link.{flag-same}
 use Rattle.sweeps.proofs.Perm.{permutation-below, permutation-distinct}
 use Rattle.sweeps.proofs.Posts.{length-recorded}
 use Rattle.sweeps.proofs.Run.{demand3}
 use Rattle.sweeps.proofs.Sweep.{sweep-swept}
-use Rattle.likelihoods.specs.Held.{SweepReads, Liks}
+use Rattle.likelihoods.specs.Inner.Held.{SweepReads, Liks}
 use Rattle.call_genotypes.specs.declared.run.Plan.{Plan}
-use Rattle.call_genotypes.specs.Scores.{overFirst, SweepState}
-use Rattle.call_genotypes.specs.Visits.{SweepStart, Swept}
-use Rattle.call_genotypes.specs.Runs.{orderOf, RunStart, resultOf, Ran}
+use Rattle.call_genotypes.specs.Inner.Scores.{overFirst, SweepState}
+use Rattle.call_genotypes.specs.Inner.Visits.{SweepStart, Swept}
+use Rattle.call_genotypes.specs.Inner.Runs.{orderOf, RunStart, resultOf, Ran}
 
 -- s sweeps are made
 pub record Running (C : SweepCase) (o : ℕ → List ℕ) (limit : ℕ) (before state : SweepState) (s : ℕ) : Type 0 where

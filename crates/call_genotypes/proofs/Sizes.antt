@@ -10,14 +10,14 @@ use lib.IntN.{ℤ, pos, natAbs, _+ℤ_, _-ℤ_, _*ℤ_}
 use Rattle.steps.proofs.Signed.{add-abs, minus-abs, natAbs-parts, parts-minus, by-sign}
 use Rattle.steps.proofs.AddExp.{add-size}
 use Rattle.variants_and_fragments.specs.Pileup.{Row}
-use Rattle.variants_and_fragments.specs.Sums.{DownTo}
+use Rattle.variants_and_fragments.specs.Inner.Sums.{DownTo}
 use Rattle.variants_and_fragments.proofs.Bounds.{down-low, down-high}
-use Rattle.pileup.specs.Packed.{RowIn}
+use Rattle.pileup.specs.Inner.Packed.{RowIn}
 use Rattle.genotype_probs.proofs.ListLaws.{down-abs}
 use Rattle.sweeps.specs.Sweeps.{callTerm}
-use Rattle.likelihoods.specs.Held.{Within}
+use Rattle.likelihoods.specs.Inner.Held.{Within}
 use Rattle.call_genotypes.specs.declared.score.Mixes.{Mixes}
-use Rattle.call_genotypes.specs.Scores.{onePlus, mixValue, valueOf, rowGap, rowMixes, sumsAt, riseOf, pairRise}
+use Rattle.call_genotypes.specs.Inner.Scores.{onePlus, mixValue, valueOf, rowGap, rowMixes, sumsAt, riseOf, pairRise}
 use Rattle.call_genotypes.proofs.Turns.{times-size}
 
 -- ---- a call's four numbers

@@ -8,15 +8,16 @@ use native.Mathlib.Numerals.{add-one}
 use lib.Dec.{T, ltb, ltb→lt}
 use lib.ListN.{length, getD, drop, drop-of-length-le}
 use lib.Seq.{length-sets, drop-cons}
-use Rattle.sweeps.specs.Sweeps.{SweepCase, GoodHaps, score, sweep}
+use Rattle.sweeps.specs.Sweeps.{SweepCase, score, sweep}
+use Rattle.sweeps.specs.Inner.Sweeps.{GoodHaps}
 use Rattle.shuffle.specs.Permutation.{allBelow}
-use Rattle.sweeps.specs.Incremental.{changed}
-use Rattle.sweeps.specs.Posts.{recorded}
+use Rattle.sweeps.specs.Inner.Incremental.{changed}
+use Rattle.sweeps.specs.Inner.Posts.{recorded}
 use Rattle.sweeps.proofs.Basics.{and-l, and-r}
 use Rattle.sweeps.proofs.Visit.{visit-good}
-use Rattle.likelihoods.specs.Held.{SweepReads, Liks}
-use Rattle.call_genotypes.specs.Scores.{overFirst, SweepState, VisitStart}
-use Rattle.call_genotypes.specs.Visits.{Visited, SweepStart, Swept}
+use Rattle.likelihoods.specs.Inner.Held.{SweepReads, Liks}
+use Rattle.call_genotypes.specs.Inner.Scores.{overFirst, SweepState, VisitStart}
+use Rattle.call_genotypes.specs.Inner.Visits.{Visited, SweepStart, Swept}
 
 pub below-at : (n : ℕ) (vs : List ℕ) (p : ℕ) → T (allBelow n vs) → p < length vs → getD vs p 0 < n
 unfolding allBelow

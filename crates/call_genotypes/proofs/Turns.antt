@@ -11,7 +11,7 @@ use lib.ListN.{length, getD, set, replicate, length-set}
 use lib.Seq.{getD-set-same, getD-set-other}
 use lib.IntN.{ℤ, pos, negsuc, natAbs, negℤ, _+ℤ_, _-ℤ_, _*ℤ_, +ℤ-idr, zero-*ℤ, negsuc-*ℤ-pos, negsuc-*ℤ-negsuc}
 use Rattle.steps.proofs.Signed.{zlin, parts-times, neg-abs}
-use Rattle.call_genotypes.specs.Scores.{turn}
+use Rattle.call_genotypes.specs.Inner.Scores.{turn}
 use Rattle.call_genotypes.proofs.Tables.{replicate-at}
 
 -- ---- a product with a turn

@@ -13,10 +13,10 @@ use Rattle.sweeps.specs.Sweeps.{SweepCase, allele0, allele1, putPair, sameHaps,
 use Rattle.sweeps.proofs.Basics.{and-in, and-l, and-r, same-eq, same-refl, put-self, at0-same, at1-same}
 use Rattle.genotype_probs.proofs.Maxima.{maximum-same, maximum-shifted}
 use Rattle.variants_and_fragments.proofs.Bools.{is-true}
-use Rattle.likelihoods.specs.Held.{SweepReads}
+use Rattle.likelihoods.specs.Inner.Held.{SweepReads}
 use Rattle.call_genotypes.specs.declared.score.Pair.{Pair}
-use Rattle.call_genotypes.specs.Scores.{pairAt, SweepState, sweepState, VisitStart, overFirst, scoredAt}
-use Rattle.call_genotypes.specs.Visits.{bestAt, BestPair, Movable, PairPut, Visited}
+use Rattle.call_genotypes.specs.Inner.Scores.{pairAt, SweepState, sweepState, VisitStart, overFirst, scoredAt}
+use Rattle.call_genotypes.specs.Inner.Visits.{bestAt, BestPair, Movable, PairPut, Visited}
 use Rattle.call_genotypes.proofs.Linked.{in-haps}
 use Rattle.call_genotypes.proofs.Tables.{sets-at}
 use Rattle.genotype_probs.proofs.AlleleLaws.{nine}

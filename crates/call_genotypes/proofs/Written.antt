@@ -17,7 +17,7 @@ use Rattle.genotype_probs.proofs.AlleleLaws.{nine}
 use Rattle.genotype_probs.proofs.Maxima.{meets, maximum-more, maximum-kept}
 use Rattle.genotype_probs.proofs.Pairs.{NextPair, pair-start, row-on, place-on}
 use Rattle.genotype_probs.proofs.TableSums.{place-in, pair-in}
-use Rattle.call_genotypes.specs.Visits.{bestAt, BestPair}
+use Rattle.call_genotypes.specs.Inner.Visits.{bestAt, BestPair}
 
 -- p of the k × k values of g are written from `at` on, and (i, j) is the next pair
 pub record Writing (g : ℕ → ℤ) (at k : ℕ) (post₀ post : List ℤ) (p i j : ℕ) : Type 0 where

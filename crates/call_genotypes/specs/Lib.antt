@@ -1,3 +1,1 @@
-pub mod Scores
-pub mod Visits
-pub mod Runs
+pub mod Inner

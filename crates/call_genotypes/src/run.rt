@@ -1,9 +1,9 @@
 // The run of sweeps.
 ghost use mathlib.Core.Path.{_≡_};
-ghost use Rattle.steps.specs.Lines.{lines};
-ghost use Rattle.likelihoods.specs.Held.{sweepReads};
-ghost use Rattle.call_genotypes.specs.Scores.{Some, sweepState};
-ghost use Rattle.call_genotypes.specs.Runs.{RunStart, RanFrom};
+ghost use Rattle.steps.specs.Inner.Lines.{lines};
+ghost use Rattle.likelihoods.specs.Inner.Held.{sweepReads};
+ghost use Rattle.call_genotypes.specs.Inner.Scores.{Some, sweepState};
+ghost use Rattle.call_genotypes.specs.Inner.Runs.{RunStart, RanFrom};
 use crate::visit::sweep;
 
 // How many sweeps were made, the last included, and whether the last one changed nothing.

@@ -1,6 +1,6 @@
 // `filter`: `<words i32>` `<bases u8>` `<quals f64>` density_qual density_dist density_count
 // max_depth `[filters u8]`.
-ghost use Rattle.protocol.specs.Input.{Counts};
+ghost use Rattle.protocol.specs.Inner.Input.{Counts};
 use crate::answers::done;
 use crate::answers::refused;
 use crate::answers::unreadable;

@@ -1,6 +1,6 @@
 // The parts that several requests have: a case, the rates, a given phase, the lengths of the qualities. Each part says
 // what was read, and has the reader after it.
-ghost use Rattle.protocol.specs.Input.{Counts};
+ghost use Rattle.protocol.specs.Inner.Input.{Counts};
 use genotype_probs::Rates;
 use protocol::Buffer;
 use protocol::input;

@@ -1,5 +1,5 @@
 // `phase`: `<words i32>` `<bases u8>` `<phase u8>` `<sets i32>` `[haplotypes u8]` `[phased u8]` `[names u32]`.
-ghost use Rattle.protocol.specs.Input.{Counts};
+ghost use Rattle.protocol.specs.Inner.Input.{Counts};
 use crate::answers::done;
 use crate::answers::refused;
 use crate::answers::unreadable;

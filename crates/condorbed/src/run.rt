@@ -1,6 +1,6 @@
 // `run`: `<words i32>` `<bases u8>` six rates `<phase u8>` `<sets i32>` `<orders u32>` limit `[haplotypes u8]`
 // `[likelihoods i64]` `[posteriors i64]` `[quals f64]` `[gqs f64]`.
-ghost use Rattle.protocol.specs.Input.{Counts};
+ghost use Rattle.protocol.specs.Inner.Input.{Counts};
 use crate::answers::refused;
 use crate::answers::unreadable;
 use crate::arrays;

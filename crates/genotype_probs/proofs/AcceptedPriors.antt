@@ -6,11 +6,11 @@ use Prim.Native.Nat.{ℕ, _≤_}
 use native.Mathlib.Omega.{arith}
 use lib.IntN.{ℤ, pos}
 use Rattle.variants_and_fragments.specs.declared.Sizes.{Sizes}
-use Rattle.variants_and_fragments.specs.Accepted.{CaseIn, BasesIn}
+use Rattle.variants_and_fragments.specs.Inner.Accepted.{CaseIn, BasesIn}
 use Rattle.variants_and_fragments.proofs.Decoded.{tabulate-length, tabulate-at}
 use Rattle.genotype_probs.specs.declared.Rates.{Rates}
-use Rattle.genotype_probs.specs.PriorInputs.{AllelesIn, TableIn}
-use Rattle.genotype_probs.specs.PriorTable.{tableEntry, priorTable}
+use Rattle.genotype_probs.specs.Inner.PriorInputs.{AllelesIn, TableIn}
+use Rattle.genotype_probs.specs.Inner.PriorTable.{tableEntry, priorTable}
 use Rattle.genotype_probs.specs.Rates.{ratesFault}
 use Rattle.genotype_probs.proofs.PriorBounds.{diploid-down}
 use Rattle.genotype_probs.proofs.RateLaws.{rates-in, fault-top}

@@ -14,8 +14,8 @@ use Rattle.variants_and_fragments.specs.Alleles.{allelesLength, allelesStart}
 use Rattle.variants_and_fragments.proofs.AlleleBytes.{off-on, off-le}
 use Rattle.variants_and_fragments.specs.Decode.{alleleStart, alleleAt, variantFrom, decode}
 use Rattle.variants_and_fragments.proofs.Decoded.{tabulate-length, tabulate-at, variant-is}
-use Rattle.genotype_probs.specs.PriorTable.{lookup, tablePrior, tablePriors, tablePriorAt}
-use Rattle.genotype_probs.specs.PriorInputs.{AllelesIn}
+use Rattle.genotype_probs.specs.Inner.PriorTable.{lookup, tablePrior, tablePriors, tablePriorAt}
+use Rattle.genotype_probs.specs.Inner.PriorInputs.{AllelesIn}
 
 -- ---- where they start
 pub start-first : (w : List ℤ) (v : ℕ) → alleleStart w v 0 ≡ allelesStart w v

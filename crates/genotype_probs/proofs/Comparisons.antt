@@ -13,7 +13,7 @@ use Rattle.steps.proofs.Signed.{by-test}
 use Rattle.genotype_probs.specs.declared.letters.Compared.{Compared}
 use Rattle.genotype_probs.specs.Letters.{base, D, I, baseNumber, letterNumber, sameLetter}
 use Rattle.genotype_probs.specs.Priors.{baseAt, firstLetter, stopAt, Comparison, compared}
-use Rattle.genotype_probs.specs.PriorTable.{numberedBase, numbered, tableValue, lookup}
+use Rattle.genotype_probs.specs.Inner.PriorTable.{numberedBase, numbered, tableValue, lookup}
 use Rattle.genotype_probs.proofs.Numbers.{base-low, letter-low, base-there, base-back}
 
 -- D and I are no bases

@@ -11,7 +11,7 @@ use Rattle.genotype_probs.specs.declared.Rates.{Rates}
 use Rattle.genotype_probs.specs.Rates.{homSnv, hetSnv, homIndel, hetIndel, tsRate, tvRate, rateSum}
 use Rattle.genotype_probs.specs.Letters.{Base, base, letterNumber, sameLetter, Change, same, transition, transversion, indel, change}
 use Rattle.genotype_probs.specs.Priors.{lnHalf, lnQuarter, oneMinusExp, haploid, homozygous, diploid}
-use Rattle.genotype_probs.specs.PriorTable.{numberedBase, numberedLetter, changeAt, letterValue, tableEntry}
+use Rattle.genotype_probs.specs.Inner.PriorTable.{numberedBase, numberedLetter, changeAt, letterValue, tableEntry}
 use Rattle.genotype_probs.proofs.Numbers.{base-back, letter-back, letter-is-base, transition-number}
 
 -- ---- what a numbered letter is beside a numbered base

@@ -8,7 +8,8 @@ use native.Mathlib.Omega.{arith}
 use borrow.Author.Tests.{eq-eqb, ne-eqb}
 use lib.IntN.{ℤ, pos, natAbs}
 use lib.ListN.{getD}
-use Rattle.steps.specs.Logs.{Log, mark, steps, lnAddExp, lnSumFrom, lnSumExp, size}
+use Rattle.steps.specs.Logs.{Log, mark, steps, lnAddExp, lnSumFrom, lnSumExp}
+use Rattle.steps.specs.Inner.Logs.{size}
 use Rattle.steps.proofs.Marks.{log-size, size-steps}
 use Rattle.variants_and_fragments.specs.Decode.{tabulateFrom}
 use Rattle.variants_and_fragments.specs.Pileup.{only}

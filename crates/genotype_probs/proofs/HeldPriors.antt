@@ -1,4 +1,4 @@
--- The table that the code holds gives each prior: the one law that ties specs/PriorTable.antt to `getPrior`.
+-- The table that the code holds gives each prior: the one law that ties specs/Inner/PriorTable.antt to `getPrior`.
 -- Assumes nothing.
 use mathlib.Core.Path.{_≡_, _∙_}
 use Prim.Native.Nat.{ℕ, _+_, _*_, _/_, _%_}
@@ -10,7 +10,7 @@ use Rattle.variants_and_fragments.proofs.Decoded.{tabulate-at}
 use Rattle.genotype_probs.specs.declared.Rates.{Rates}
 use Rattle.genotype_probs.specs.Letters.{Base, Letter, baseNumber, letterNumber, sameLetter}
 use Rattle.genotype_probs.specs.Priors.{diploid, lettersPrior, allelesPrior, getPrior, allPriors, priorAt}
-use Rattle.genotype_probs.specs.PriorTable.{tableEntry, priorTable, tableValue, lookup, tablePrior, tablePriors, tablePriorAt}
+use Rattle.genotype_probs.specs.Inner.PriorTable.{tableEntry, priorTable, tableValue, lookup, tablePrior, tablePriors, tablePriorAt}
 use Rattle.genotype_probs.proofs.Numbers.{base-low, letter-low, base-there, letter-there}
 
 module _ (rates : Rates) where

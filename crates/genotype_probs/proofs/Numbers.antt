@@ -4,7 +4,7 @@ use mathlib.Core.Path.{_≡_, refl}
 use Prim.Native.Nat.{ℕ, zero, suc, _+_, _%_, _<_}
 use native.Mathlib.Omega.{arith}
 use Rattle.genotype_probs.specs.Letters.{Base, A, C, G, T, Letter, base, D, I, baseNumber, letterNumber, transitionOf}
-use Rattle.genotype_probs.specs.PriorTable.{numberedBase, numberedLetter}
+use Rattle.genotype_probs.specs.Inner.PriorTable.{numberedBase, numberedLetter}
 
 pub base-low : (b : Base) → baseNumber b < 4
 unfolding baseNumber

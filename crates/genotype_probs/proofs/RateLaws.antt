@@ -13,7 +13,8 @@ use lib.IntN.{ℤ, pos, negsuc, negℤ, natAbs, _+ℤ_}
 use lib.Signed.{ltZ, _≤ℤ_}
 use mir.Syntax.{w64}
 use mir.Val.{toZ, ofZ}
-use Rattle.steps.specs.Logs.{steps, addExp, lnSumExp, sumExp, logOf}
+use Rattle.steps.specs.Logs.{steps, addExp, lnSumExp, sumExp}
+use Rattle.steps.specs.Inner.Logs.{logOf}
 use Rattle.steps.specs.OneMinus.{low, first, lnOneMinusExp}
 use Rattle.steps.proofs.Signed.{by-test, true-false, cases, zlin, neg-abs, parts-add, true-lt, up-pos, dn-pos, read-small}
 use Rattle.steps.proofs.AddExp.{add-size}

@@ -2,10 +2,10 @@
 -- Assumes nothing.
 use mathlib.Core.Bool.{Bool, cond, not, _||_}
 use mathlib.Core.List.{List, [], _∷_, map}
-use Prim.Native.Nat.{ℕ, zero, suc, _+_, _*_, _/_, _%_, _^_, _≤_, _<_}
+use Prim.Native.Nat.{ℕ, zero, suc, _+_, _*_, _/_, _%_, _≤_, _<_}
 use lib.Dec.{eqb, ltb}
-use lib.IntN.{ℤ, pos, natAbs, _-ℤ_}
-use lib.ListN.{length, getD}
+use lib.IntN.{ℤ, pos, _-ℤ_}
+use lib.ListN.{getD}
 use lib.Signed.{ltZ, _≤ℤ_, _<ℤ_}
 use Rattle.steps.specs.Logs.{Log, steps, addExp, sumExp, lnSumExp}
 use Rattle.variants_and_fragments.specs.Decode.{tabulate}
@@ -85,10 +85,3 @@ others k p = only (isOther p (mirror k p)) (tabulate (k * k) (λ q. q))
 -- the sum over them: the mark where there is none
 unfoldable pub otherSum : List ℤ → ℕ → ℕ → Log
 otherSum tab k p = lnSumExp (map (λ q. steps (getD tab q (pos 0))) (others k p))
-
--- what a table at a place of a lent slice must be for the sums to fit: k in 1..3, nine places there, each entry at most 2^40 steps from 0
-pub record TableAt (post : List ℤ) (at k : ℕ) : Type 0 where
-  pub k-low : 1 ≤ k
-  pub k-high : k ≤ 3
-  pub inside : at + 9 ≤ length post
-  pub small : (p : ℕ) → p < k * k → natAbs (getD post (at + p) (pos 0)) ≤ 2 ^ 40

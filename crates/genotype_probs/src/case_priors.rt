@@ -3,7 +3,7 @@ ghost use mathlib.Core.Path.{_≡_};
 ghost use Prim.Native.Nat.{_*_, _≤_};
 ghost use lib.ListN.{length};
 ghost use Rattle.steps.specs.Table.{knots};
-ghost use Rattle.variants_and_fragments.specs.Accepted.{CaseIn, BasesIn};
+ghost use Rattle.variants_and_fragments.specs.Inner.Accepted.{CaseIn, BasesIn};
 ghost use Rattle.variants_and_fragments.specs.Decode.{decode};
 ghost use Rattle.variants_and_fragments.specs.Written.{written};
 ghost use Rattle.genotype_probs.specs.Rates.{ratesFault};

@@ -4,7 +4,7 @@ ghost use Prim.Native.Nat.{_<_};
 ghost use lib.ListN.{length};
 ghost use Rattle.genotype_probs.specs.Letters.{baseOf, baseNumber, letterNumber};
 ghost use Rattle.genotype_probs.specs.Priors.{firstLetter, stopAt, compared};
-ghost use Rattle.genotype_probs.specs.PriorTable.{numberedBase, numbered};
+ghost use Rattle.genotype_probs.specs.Inner.PriorTable.{numberedBase, numbered};
 
 pub const DELETION: usize = 4;
 

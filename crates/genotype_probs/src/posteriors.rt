@@ -6,9 +6,11 @@ ghost use lib.Dec.{ltb};
 ghost use lib.IntN.{pos, natAbs, _-ℤ_};
 ghost use lib.ListN.{drop};
 ghost use Rattle.steps.specs.Table.{knots};
-ghost use Rattle.steps.specs.Logs.{steps, lnAddExp, logOf, size};
-ghost use Rattle.variants_and_fragments.specs.Written.{writtenFrom};
-ghost use Rattle.genotype_probs.specs.Posteriors.{TableAt, entryAt, rowSum, tableSum, normalized, postAt, maxGenotype, atMostOne, maxGenotypePost, isOther, otherSum};
+ghost use Rattle.steps.specs.Logs.{steps, lnAddExp};
+ghost use Rattle.steps.specs.Inner.Logs.{logOf, size};
+ghost use Rattle.variants_and_fragments.specs.Inner.Written.{writtenFrom};
+ghost use Rattle.genotype_probs.specs.Posteriors.{entryAt, rowSum, tableSum, normalized, postAt, maxGenotype, atMostOne, maxGenotypePost, isOther, otherSum};
+ghost use Rattle.genotype_probs.specs.Inner.Posteriors.{TableAt};
 use steps::LogProb;
 use steps::logs;
 

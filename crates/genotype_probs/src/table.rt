@@ -9,7 +9,7 @@ ghost use lib.Signed.{ltZ};
 ghost use Rattle.steps.specs.Table.{knots};
 ghost use Rattle.genotype_probs.specs.Rates.{homSnv, hetSnv, homIndel, hetIndel, tsRate, tvRate, rateOk, rateSum, ratesFault};
 ghost use Rattle.genotype_probs.specs.Priors.{lnHalf, lnQuarter, oneMinusExp};
-ghost use Rattle.genotype_probs.specs.PriorTable.{changeAt, letterValue, tableEntry, priorTable};
+ghost use Rattle.genotype_probs.specs.Inner.PriorTable.{changeAt, letterValue, tableEntry, priorTable};
 use crate::Rates;
 use crate::letters::DELETION;
 use steps::LogProb;

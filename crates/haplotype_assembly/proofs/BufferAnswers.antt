@@ -15,12 +15,12 @@ use Rattle.variants_and_fragments.specs.declared.Refusal.the-variants.{Short}
 use Rattle.variants_and_fragments.specs.Refusals.{Outcome, refused, done, number, place, andThen, unless, afterwards}
 use Rattle.variants_and_fragments.specs.Check.{caseOf}
 use Rattle.variants_and_fragments.specs.Decode.{decode}
-use Rattle.variants_and_fragments.specs.Pileup.{fragmentRows}
-use Rattle.pileup.specs.Packed.{Grouped}
+use Rattle.variants_and_fragments.specs.Inner.Pileup.{fragmentRows}
+use Rattle.pileup.specs.Inner.Packed.{Grouped}
 use Rattle.haplotype_assembly.specs.declared.Buffered.the-variants.{Done, Refused}
 use Rattle.haplotype_assembly.specs.declared.tally.Counted.{Counted}
 use Rattle.haplotype_assembly.specs.Lines.{flistBuffer}
-use Rattle.haplotype_assembly.specs.LinesRead.{shownFragments, linesOver, LinesCounted}
+use Rattle.haplotype_assembly.specs.Inner.LinesRead.{shownFragments, linesOver, LinesCounted}
 use Rattle.haplotype_assembly.specs.FlistBuffer.{flistChecks, flistOutcome, bufferedOutcome, startingWith, FlistBuffer}
 use Rattle.haplotype_assembly.proofs.LinesDecoded.{buffer-is, lines-are}
 

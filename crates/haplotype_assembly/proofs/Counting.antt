@@ -9,7 +9,7 @@ use lib.ListN.{length, length-append}
 use Rattle.variants_and_fragments.specs.Case.{Fragment}
 use Rattle.variants_and_fragments.specs.Decode.{tabulateFrom, tabulate}
 use Rattle.haplotype_assembly.specs.declared.tally.Counted.{Counted}
-use Rattle.haplotype_assembly.specs.LinesRead.{fragmentLine, hasOne, linesOver, linesCount, CountedOn, LinesCounted}
+use Rattle.haplotype_assembly.specs.Inner.LinesRead.{fragmentLine, hasOne, linesOver, linesCount, CountedOn, LinesCounted}
 use Rattle.haplotype_assembly.proofs.Cited.{table-start, table-more, table-end}
 use Rattle.haplotype_assembly.proofs.Pieces.{one-top}
 

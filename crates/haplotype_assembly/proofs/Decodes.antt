@@ -14,12 +14,12 @@ use Rattle.variants_and_fragments.specs.Written.{written}
 use Rattle.variants_and_fragments.specs.Refusals.{done}
 use Rattle.variants_and_fragments.specs.Check.{caseOf}
 use Rattle.variants_and_fragments.specs.Layout.{alleleCountAt}
-use Rattle.variants_and_fragments.specs.Accepted.{CaseIn}
+use Rattle.variants_and_fragments.specs.Inner.Accepted.{CaseIn}
 use Rattle.variants_and_fragments.specs.Case.{alleleCount, alleleOf, variantOf}
 use Rattle.variants_and_fragments.specs.Decode.{decode}
 use Rattle.variants_and_fragments.proofs.Written.{written-same}
 use Rattle.haplotype_assembly.specs.Phase.{flagOf, phasedTest, phasedRule, phased, phasedFlags, byteOf, isPhase, pairPlace, startAllele, nameBelow, setName, nameOfSet, phaseName}
-use Rattle.haplotype_assembly.specs.PhaseRead.{startAt, ruleAt, phasedAt, flagsAt, setNameAt, phaseNameAt}
+use Rattle.haplotype_assembly.specs.Inner.PhaseRead.{startAt, ruleAt, phasedAt, flagsAt, setNameAt, phaseNameAt}
 use Rattle.haplotype_assembly.proofs.Cited.{case-in, bases-in, variants-are, pos0-is, genotype0-is, genotype1-is, allele-count-is, allele-length}
 
 -- ---- definitions over equal parts are equal

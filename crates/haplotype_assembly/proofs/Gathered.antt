@@ -5,7 +5,7 @@ use mathlib.Core.List.{List, [], _++_, append-assoc, append-nil}
 use Prim.Native.Nat.{ℕ, _+_, _≤_}
 use native.Mathlib.Omega.{arith}
 use lib.ListN.{length, length-append}
-use Rattle.haplotype_assembly.specs.LinesRead.{Put}
+use Rattle.haplotype_assembly.specs.Inner.LinesRead.{Put}
 use Rattle.haplotype_assembly.proofs.Stores.{put-none, put-on, put-as, put-length}
 
 pub record Gathered (whole left before after : List ℕ) (at end : ℕ) : Type 0 where

@@ -13,13 +13,15 @@ use Rattle.variants_and_fragments.specs.declared.Sizes.{Sizes}
 use Rattle.variants_and_fragments.specs.Refusals.{done}
 use Rattle.variants_and_fragments.specs.Check.{caseOf}
 use Rattle.variants_and_fragments.specs.Chain.{strandAt}
-use Rattle.variants_and_fragments.specs.Case.{Case, Fragment, Call, usable, variantOf, fragmentOf, All, also}
-use Rattle.variants_and_fragments.specs.Pileup.{Row, rowOf, only, usableCalls, fragmentRows}
+use Rattle.variants_and_fragments.specs.Case.{Case, Fragment, Call, usable, variantOf, fragmentOf}
+use Rattle.variants_and_fragments.specs.Inner.Case.{All, also}
+use Rattle.variants_and_fragments.specs.Pileup.{Row, rowOf, only, usableCalls}
+use Rattle.variants_and_fragments.specs.Inner.Pileup.{fragmentRows}
 use Rattle.variants_and_fragments.specs.Decode.{tabulateFrom, tabulate, fragmentFrom, decode}
-use Rattle.pileup.specs.Packed.{RowIn, Grouped}
+use Rattle.pileup.specs.Inner.Packed.{RowIn, Grouped}
 use Rattle.haplotype_assembly.specs.Phase.{phasedRule}
 use Rattle.haplotype_assembly.specs.Lines.{lineCalls, lineOf, hasLine, linesFrom, lineCount, flistBuffer, flistLines}
-use Rattle.haplotype_assembly.specs.LinesRead.{shownCalls, shownFragment, shownFragments, LinesGiven, headerOf, lineWith, headAt, fragmentLine, hasOne, linesOver, linesCount}
+use Rattle.haplotype_assembly.specs.Inner.LinesRead.{shownCalls, shownFragment, shownFragments, LinesGiven, headerOf, lineWith, headAt, fragmentLine, hasOne, linesOver, linesCount}
 use Rattle.haplotype_assembly.proofs.Cited.{fragment-here, sizes-are, group-rows, group-in}
 use Rattle.haplotype_assembly.proofs.Decodes.{accepted-in, count-is, rule-is}
 

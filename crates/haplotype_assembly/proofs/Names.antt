@@ -16,7 +16,7 @@ use Rattle.variants_and_fragments.specs.Layout.{pos0At}
 use Rattle.variants_and_fragments.specs.Refusals.{earlier}
 use Rattle.variants_and_fragments.proofs.Short.{earlier-top}
 use Rattle.haplotype_assembly.specs.Phase.{phase0, phase1, byteOf, isSet, nameBelow, nameOfSet}
-use Rattle.haplotype_assembly.specs.PhaseRead.{setNameAt, phaseNameAt, NamedTo}
+use Rattle.haplotype_assembly.specs.Inner.PhaseRead.{setNameAt, phaseNameAt, NamedTo}
 use Rattle.haplotype_assembly.specs.GivenPhase.{setOk}
 
 -- ---- a set, read as a number

@@ -19,7 +19,7 @@ use Rattle.variants_and_fragments.specs.Written.{written}
 use Rattle.variants_and_fragments.specs.Refusals.{Outcome, refused, done, number, place, andThen, unless, afterwards, shortOf, earlier}
 use Rattle.variants_and_fragments.specs.Check.{caseOf, outcomeOf as checkedOutcome}
 use Rattle.haplotype_assembly.specs.declared.Phased.the-variants.{Done, Refused}
-use Rattle.haplotype_assembly.specs.PhaseRead.{startAt, flagsAt, phaseNameAt}
+use Rattle.haplotype_assembly.specs.Inner.PhaseRead.{startAt, flagsAt, phaseNameAt}
 use Rattle.haplotype_assembly.specs.GivenPhase.{setsOk, phaseFaultAt, phaseFault, phaseShort, phaseChecks, phaseOutcome, outcomeOf, GivenPhase}
 use Rattle.haplotype_assembly.proofs.Cited.{first-all}
 use Rattle.variants_and_fragments.proofs.Short.{none-earlier, short-none}

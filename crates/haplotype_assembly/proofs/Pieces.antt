@@ -13,7 +13,7 @@ use Rattle.variants_and_fragments.specs.Case.{Fragment, Call}
 use Rattle.haplotype_assembly.specs.declared.tally.Tally.{Tally}
 use Rattle.haplotype_assembly.specs.declared.lines.Head.{Head}
 use Rattle.haplotype_assembly.specs.Lines.{space, colon, digit, decimal, blockStart, alleleBytes, callQuality, strandByte, hasLine}
-use Rattle.haplotype_assembly.specs.LinesRead.{Tallied, SmallTally, headerOf, lineWith, headAt, fragmentLine, hasOne}
+use Rattle.haplotype_assembly.specs.Inner.LinesRead.{Tallied, SmallTally, headerOf, lineWith, headAt, fragmentLine, hasOne}
 use Rattle.haplotype_assembly.proofs.Decimals.{decimal-top}
 
 -- ---- a block's start

@@ -6,8 +6,9 @@ use native.Mathlib.Omega.{arith}
 use lib.IntN.{ℤ}
 use mir.Syntax.{w64}
 use mir.Val.{SFits}
-use Rattle.steps.specs.Logs.{steps, logOf, size}
-use Rattle.variants_and_fragments.specs.Sums.{DownTo}
+use Rattle.steps.specs.Logs.{steps}
+use Rattle.steps.specs.Inner.Logs.{logOf, size}
+use Rattle.variants_and_fragments.specs.Inner.Sums.{DownTo}
 use Rattle.haplotype_assembly.proofs.Cited.{down-abs, of-small, size-steps, size-fits}
 
 module _ (z : ℤ) (h : DownTo 262144 z) where

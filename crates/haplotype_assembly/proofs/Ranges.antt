@@ -13,7 +13,7 @@ use mir.Val.{SFits}
 use Rattle.variants_and_fragments.specs.declared.Sizes.{Sizes}
 use Rattle.variants_and_fragments.specs.Words.{none, natOf}
 use Rattle.variants_and_fragments.specs.Layout.{genotypeAt}
-use Rattle.variants_and_fragments.specs.Accepted.{CaseIn}
+use Rattle.variants_and_fragments.specs.Inner.Accepted.{CaseIn}
 use Rattle.variants_and_fragments.proofs.Bools.{or-right}
 use Rattle.haplotype_assembly.specs.GivenPhase.{setOk, phaseFaultAt}
 

@@ -6,10 +6,10 @@ use mathlib.Core.List.{List, [], _∷_}
 use Prim.Native.Nat.{ℕ, _+_, _≤_, _<_}
 use lib.IntN.{ℤ}
 use Rattle.variants_and_fragments.specs.Pileup.{Row}
-use Rattle.pileup.specs.Packed.{rowAt, RowIn, RowsIn, heldRow, rowFrom}
+use Rattle.pileup.specs.Inner.Packed.{rowAt, RowIn, RowsIn, heldRow, rowFrom}
 use Rattle.pileup.specs.declared.row.Row.{Row as RowHeld}
-use Rattle.haplotype_assembly.specs.PhaseRead.{ruleAt}
-use Rattle.haplotype_assembly.specs.LinesRead.{shownCalls, shownAt}
+use Rattle.haplotype_assembly.specs.Inner.PhaseRead.{ruleAt}
+use Rattle.haplotype_assembly.specs.Inner.LinesRead.{shownCalls, shownAt}
 use Rattle.haplotype_assembly.proofs.Cited.{table-more, table-end}
 
 pub shown-end : (w : List ℤ) (rows : List ℕ) (p e : ℕ) → e ≤ p → shownAt w rows p e ≡ []

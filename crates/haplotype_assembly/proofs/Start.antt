@@ -8,7 +8,8 @@ use native.Mathlib.Omega.{arith}
 use lib.Dec.{leb, eqb}
 use lib.ListN.{length, getD, take}
 use lib.Seq.{ext-getD, length-take-le, getD-take}
-use Rattle.variants_and_fragments.specs.Case.{Case, alleleCount, variantOf, GoodCase}
+use Rattle.variants_and_fragments.specs.Case.{Case, alleleCount, variantOf}
+use Rattle.variants_and_fragments.specs.Inner.Case.{GoodCase}
 use Rattle.variants_and_fragments.specs.Decode.{tabulate}
 use Rattle.variants_and_fragments.specs.Written.{written}
 use Rattle.haplotype_assembly.specs.Phase.{phase0, phase1, low, high, orderedFirst, orderedSecond, byteOf, startAllele, startHaplotypes}

@@ -6,7 +6,7 @@ use Prim.Native.Nat.{ℕ, suc, _+_, _<_}
 use native.Mathlib.Omega.{arith}
 use lib.ListN.{length, set, length-append}
 use lib.Seq.{sets, set-comm, length-sets}
-use Rattle.haplotype_assembly.specs.LinesRead.{Put}
+use Rattle.haplotype_assembly.specs.Inner.LinesRead.{Put}
 
 -- a list stored after another
 pub sets-append : (l : List ℕ) (i : ℕ) (xs ys : List ℕ) → sets l i (xs ++ ys) ≡ sets (sets l i xs) (i + length xs) ys

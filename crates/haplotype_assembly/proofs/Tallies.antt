@@ -13,7 +13,7 @@ use lib.ListN.{length, length-append}
 use Rattle.variants_and_fragments.specs.Case.{Call}
 use Rattle.haplotype_assembly.specs.declared.tally.Tally.{Tally}
 use Rattle.haplotype_assembly.specs.Lines.{digit, decimal, blocks, blockStart, alleleBytes}
-use Rattle.haplotype_assembly.specs.LinesRead.{shownAt, tallyStep, Tallied, SmallTally}
+use Rattle.haplotype_assembly.specs.Inner.LinesRead.{shownAt, tallyStep, Tallied, SmallTally}
 use Rattle.haplotype_assembly.proofs.Pieces.{start-same, new-length, start-top}
 use Rattle.haplotype_assembly.proofs.Shown.{shown-end}
 

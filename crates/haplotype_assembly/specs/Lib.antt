@@ -1,6 +1,5 @@
 pub mod Phase
-pub mod PhaseRead
 pub mod GivenPhase
 pub mod Lines
-pub mod LinesRead
 pub mod FlistBuffer
+pub mod Inner

@@ -1,8 +1,9 @@
 // Fields of a variant's record, as this crate reads them.
 ghost use mathlib.Core.Path.{_≡_};
 ghost use Prim.Native.Nat.{_<_, _^_};
-ghost use Rattle.variants_and_fragments.specs.Layout.{Sized, genotypeAt, lengthAt, pos0At};
-ghost use Rattle.variants_and_fragments.specs.Accepted.{CaseIn};
+ghost use Rattle.variants_and_fragments.specs.Layout.{genotypeAt, lengthAt, pos0At};
+ghost use Rattle.variants_and_fragments.specs.Inner.Layout.{Sized};
+ghost use Rattle.variants_and_fragments.specs.Inner.Accepted.{CaseIn};
 use variants_and_fragments::Sizes;
 use variants_and_fragments::layout;
 

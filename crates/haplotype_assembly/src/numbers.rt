@@ -3,7 +3,7 @@ ghost use mathlib.Core.Path.{_≡_};
 ghost use Prim.Native.Nat.{_+_, _≤_, _<_};
 ghost use lib.ListN.{length};
 ghost use Rattle.haplotype_assembly.specs.Lines.{decimal};
-ghost use Rattle.haplotype_assembly.specs.LinesRead.{Put};
+ghost use Rattle.haplotype_assembly.specs.Inner.LinesRead.{Put};
 
 // How many digits n has. At the loop's head k - 1 are counted, and those of m are left.
 pub fn digit_count(n: usize) -> usize

@@ -2,10 +2,10 @@
 ghost use mathlib.Core.Path.{_≡_};
 ghost use Prim.Native.Nat.{_+_, _*_, _≤_, _<_};
 ghost use lib.ListN.{length};
-ghost use Rattle.variants_and_fragments.specs.Accepted.{CaseIn};
-ghost use Rattle.pileup.specs.Packed.{RowsIn};
+ghost use Rattle.variants_and_fragments.specs.Inner.Accepted.{CaseIn};
+ghost use Rattle.pileup.specs.Inner.Packed.{RowsIn};
 ghost use Rattle.haplotype_assembly.specs.Lines.{decimal, hasLine};
-ghost use Rattle.haplotype_assembly.specs.LinesRead.{shownAt, shownFragment, shownFragments, LinesGiven, tallyStep, Tallied, SmallTally, CountedOn, LinesCounted};
+ghost use Rattle.haplotype_assembly.specs.Inner.LinesRead.{shownAt, shownFragment, shownFragments, LinesGiven, tallyStep, Tallied, SmallTally, CountedOn, LinesCounted};
 use crate::numbers::digit_count;
 use crate::phase::phased_rule;
 use pileup::piles::group_start;

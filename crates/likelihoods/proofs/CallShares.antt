@@ -12,11 +12,11 @@ use lib.IntN.{ℤ, pos, natAbs}
 use lib.ListN.{getD}
 use Rattle.variants_and_fragments.specs.Case.{Call}
 use Rattle.variants_and_fragments.proofs.Sums.{sum-map}
-use Rattle.pileup.specs.Packed.{rowAt, rowsAt, groupStart}
+use Rattle.pileup.specs.Inner.Packed.{rowAt, rowsAt, groupStart}
 use Rattle.variants_and_fragments.specs.Sums.{sumTo}
 use Rattle.sweeps.specs.Sweeps.{allele0, callTerm, likelihood}
 use Rattle.sweeps.proofs.Basics.{lik-cong}
-use Rattle.likelihoods.specs.Likelihoods.{rowCall, callAt, callsBetween, callsOf, likelihoodAt, flagged, alleleOn, callShare, CallsIn}
+use Rattle.likelihoods.specs.Inner.Likelihoods.{rowCall, callAt, callsBetween, callsOf, likelihoodAt, flagged, alleleOn, callShare, CallsIn}
 use Rattle.likelihoods.proofs.RunningSums.{table-sum}
 use Rattle.likelihoods.proofs.SweepCases.{likelihood-sum}
 

@@ -9,14 +9,15 @@ use lib.ListN.{length}
 use Rattle.steps.proofs.Signed.{cases}
 use Rattle.variants_and_fragments.specs.declared.Sizes.{Sizes}
 use Rattle.variants_and_fragments.specs.Case.{Call, fragmentOf}
-use Rattle.variants_and_fragments.specs.Accepted.{CaseIn}
+use Rattle.variants_and_fragments.specs.Inner.Accepted.{CaseIn}
 use Rattle.variants_and_fragments.specs.Decode.{decode}
-use Rattle.variants_and_fragments.specs.Pileup.{Row, rowOf, usableCalls, fragmentRows}
-use Rattle.pileup.specs.Packed.{RowsIn, groupStart, Grouped}
-use Rattle.pileup.specs.Rows.{RowsMade}
+use Rattle.variants_and_fragments.specs.Pileup.{Row, rowOf, usableCalls}
+use Rattle.variants_and_fragments.specs.Inner.Pileup.{fragmentRows}
+use Rattle.pileup.specs.Inner.Packed.{RowsIn, groupStart, Grouped}
+use Rattle.pileup.specs.Inner.Rows.{RowsMade}
 use Rattle.pileup.proofs.Groups.{group-rows, group-in}
 use Rattle.genotype_probs.proofs.ListLaws.{down-abs}
-use Rattle.likelihoods.specs.Likelihoods.{rowCall, callsBetween, callsOf, CallsIn, EndsIn}
+use Rattle.likelihoods.specs.Inner.Likelihoods.{rowCall, callsBetween, callsOf, CallsIn, EndsIn}
 
 -- ---- ranges
 -- the rows of the first g groups

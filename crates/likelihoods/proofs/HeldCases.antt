@@ -9,14 +9,15 @@ use borrow.Author.Tests.{lt-ltb}
 use lib.IntN.{ℤ, pos, natAbs}
 use lib.ListN.{length, getD}
 use Rattle.variants_and_fragments.specs.declared.Sizes.{Sizes}
-use Rattle.variants_and_fragments.specs.Case.{Case, variantOf, alleleCount, GoodCase}
+use Rattle.variants_and_fragments.specs.Case.{Case, variantOf, alleleCount}
+use Rattle.variants_and_fragments.specs.Inner.Case.{GoodCase}
 use Rattle.variants_and_fragments.specs.Layout.{alleleCountAt}
 use Rattle.variants_and_fragments.specs.Check.{caseOf}
 use Rattle.variants_and_fragments.specs.Refusals.{done}
-use Rattle.variants_and_fragments.specs.Accepted.{CaseIn}
+use Rattle.variants_and_fragments.specs.Inner.Accepted.{CaseIn}
 use Rattle.variants_and_fragments.specs.Decode.{decode}
-use Rattle.pileup.specs.Packed.{packed, Grouped}
-use Rattle.pileup.specs.Piles.{PilesMade}
+use Rattle.pileup.specs.Inner.Packed.{packed, Grouped}
+use Rattle.pileup.specs.Inner.Piles.{PilesMade}
 use Rattle.variants_and_fragments.specs.Written.{written}
 use Rattle.variants_and_fragments.proofs.Accepted.{case-in}
 use Rattle.variants_and_fragments.proofs.Decoded.{variants-are, fragments-are, allele-count-is}
@@ -28,8 +29,8 @@ use Rattle.genotype_probs.specs.Priors.{getPrior, allPriors, priorAt}
 use Rattle.genotype_probs.proofs.AlleleLaws.{nine}
 use Rattle.genotype_probs.proofs.PriorSizes.{prior-small}
 use Rattle.sweeps.specs.Sweeps.{SweepCase}
-use Rattle.sweeps.specs.Incremental.{pileupFrom}
-use Rattle.likelihoods.specs.Held.{sweepReads, Held}
+use Rattle.sweeps.specs.Inner.Incremental.{pileupFrom}
+use Rattle.likelihoods.specs.Inner.Held.{sweepReads, Held}
 use Rattle.likelihoods.specs.SweepCaseOf.{sweepCaseOf}
 use Rattle.likelihoods.proofs.SweepCases as cases
 

@@ -9,13 +9,14 @@ use lib.Dec.{T, eqb, eqb→eq}
 use lib.IntN.{ℤ, pos}
 use lib.ListN.{length, getD}
 use Rattle.variants_and_fragments.specs.declared.Sizes.{Sizes}
-use Rattle.variants_and_fragments.specs.Case.{Case, Call, fragmentOf, All, also}
-use Rattle.variants_and_fragments.specs.Accepted.{CaseIn}
+use Rattle.variants_and_fragments.specs.Case.{Case, Call, fragmentOf}
+use Rattle.variants_and_fragments.specs.Inner.Case.{All, also}
+use Rattle.variants_and_fragments.specs.Inner.Accepted.{CaseIn}
 use Rattle.variants_and_fragments.specs.Check.{caseOf}
 use Rattle.variants_and_fragments.specs.Refusals.{done}
 use Rattle.variants_and_fragments.specs.Decode.{decode}
 use Rattle.variants_and_fragments.specs.Pileup.{usableCalls}
-use Rattle.pileup.specs.Rows.{RowsMade}
+use Rattle.pileup.specs.Inner.Rows.{RowsMade}
 use Rattle.variants_and_fragments.specs.Written.{written}
 use Rattle.variants_and_fragments.proofs.Accepted.{case-in}
 use Rattle.variants_and_fragments.proofs.Alls.{all-imp}
@@ -24,11 +25,12 @@ use Rattle.variants_and_fragments.proofs.GoodCases.{good-case, fragment-in}
 use Rattle.variants_and_fragments.proofs.Usable.{usable-in}
 use Rattle.variants_and_fragments.proofs.Written.{written-at, written-length}
 use Rattle.genotype_probs.specs.declared.Rates.{Rates}
-use Rattle.sweeps.specs.Sweeps.{SweepCase, allele0, allele1, hasCall, likelihood}
+use Rattle.sweeps.specs.Sweeps.{SweepCase, allele0, allele1, likelihood}
+use Rattle.sweeps.specs.Inner.Sweeps.{hasCall}
 use Rattle.sweeps.proofs.Basics.{or-cases, lik-cong}
-use Rattle.likelihoods.specs.Held.{Liks}
+use Rattle.likelihoods.specs.Inner.Held.{Liks}
 use Rattle.likelihoods.specs.SweepCaseOf.{sweepCaseOf}
-use Rattle.likelihoods.specs.Likelihoods.{callsOf, flagged, alleleOn, likelihoodAt}
+use Rattle.likelihoods.specs.Inner.Likelihoods.{callsOf, flagged, alleleOn, likelihoodAt}
 use Rattle.likelihoods.proofs.CallShares.{on-first, likelihood-first, likelihood-second}
 use Rattle.likelihoods.proofs.SweepCases as cases
 use Rattle.likelihoods.proofs.CallsHeld.{calls-are}

@@ -8,21 +8,24 @@ use native.Mathlib.Omega.{arith}
 use lib.Dec.{T, eqb}
 use lib.IntN.{ℤ, pos, _+ℤ_}
 use lib.ListN.{length, getD, length-map, List·getD-map}
-use Rattle.variants_and_fragments.specs.Case.{Case, Call, noFragment, fragmentOf, rising, All, end, also, GoodCase}
-use Rattle.variants_and_fragments.specs.Sums.{sumOver, DownTo}
+use Rattle.variants_and_fragments.specs.Case.{Case, Call, noFragment, fragmentOf}
+use Rattle.variants_and_fragments.specs.Inner.Case.{rising, All, end, also, GoodCase}
+use Rattle.variants_and_fragments.specs.Sums.{sumOver}
+use Rattle.variants_and_fragments.specs.Inner.Sums.{DownTo}
 use Rattle.variants_and_fragments.specs.Pileup.{only, usableCalls, pileOf}
 use Rattle.variants_and_fragments.proofs.Alls.{all-imp, all-map}
 use Rattle.variants_and_fragments.proofs.Bounds.{down-zero, fragment-sum-top}
 use Rattle.variants_and_fragments.proofs.GoodCases.{fragment-in}
 use Rattle.variants_and_fragments.proofs.Usable.{usable-fewer, usable-in, usable-rises}
 use Rattle.genotype_probs.specs.declared.Rates.{Rates}
-use Rattle.variants_and_fragments.specs.Accepted.{allb as allOf}
-use Rattle.sweeps.specs.Sweeps.{SweepCase, GoodSweepCase, callTerm, likelihood, mixOf}
-use Rattle.sweeps.specs.Incremental.{pileupFrom}
+use Rattle.variants_and_fragments.specs.Inner.Accepted.{allb as allOf}
+use Rattle.sweeps.specs.Sweeps.{SweepCase, callTerm, likelihood, mixOf}
+use Rattle.sweeps.specs.Inner.Sweeps.{GoodSweepCase}
+use Rattle.sweeps.specs.Inner.Incremental.{pileupFrom}
 use Rattle.sweeps.proofs.Basics.{and-in}
 use Rattle.sweeps.proofs.Piled.{pile-is}
 use Rattle.likelihoods.specs.SweepCaseOf.{sweepCaseOf}
-use Rattle.likelihoods.specs.Likelihoods.{callShare}
+use Rattle.likelihoods.specs.Inner.Likelihoods.{callShare}
 
 -- ---- tests
 all-true : {X : Type 0} (b : X → Bool) (xs : List X) → All (λ x. b x ≡ true) xs → T (allOf b xs)

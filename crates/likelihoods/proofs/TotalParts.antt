@@ -14,8 +14,8 @@ use Rattle.variants_and_fragments.specs.Sums.{sumOver, sumTo}
 use Rattle.variants_and_fragments.specs.Decode.{tabulate}
 use Rattle.sweeps.specs.Sweeps.{SweepCase, allele0, allele1, readShare, totalOf, mixOf}
 use Rattle.variants_and_fragments.proofs.Sums.{sumTo-cong}
-use Rattle.likelihoods.specs.Likelihoods.{callsOf, flagged}
-use Rattle.likelihoods.specs.Totals.{pairPrior, heldCase, priorShare, fragmentShare, PriorsIn}
+use Rattle.likelihoods.specs.Inner.Likelihoods.{callsOf, flagged}
+use Rattle.likelihoods.specs.Inner.Totals.{pairPrior, heldCase, priorShare, fragmentShare, PriorsIn}
 use Rattle.likelihoods.proofs.RunningSums.{table-sum}
 use Rattle.likelihoods.proofs.CallShares.{on-first}
 

@@ -16,17 +16,18 @@ use Rattle.variants_and_fragments.specs.Check.{caseOf}
 use Rattle.variants_and_fragments.specs.Refusals.{done}
 use Rattle.variants_and_fragments.specs.Sums.{sumOver, sumTo}
 use Rattle.variants_and_fragments.specs.Decode.{tabulate, decode}
-use Rattle.pileup.specs.Rows.{RowsMade}
+use Rattle.pileup.specs.Inner.Rows.{RowsMade}
 use Rattle.variants_and_fragments.proofs.Decoded.{tabulate-length, tabulate-at}
 use Rattle.genotype_probs.specs.declared.Rates.{Rates}
 use Rattle.genotype_probs.proofs.AlleleLaws.{nine}
 use Rattle.genotype_probs.proofs.TableSums.{place-in}
-use Rattle.sweeps.specs.Sweeps.{SweepCase, GoodHaps, allele0, allele1, likelihood, readShare, totalOf, phasedTotal, sourceTotal}
+use Rattle.sweeps.specs.Sweeps.{SweepCase, allele0, allele1, likelihood, readShare, totalOf, phasedTotal, sourceTotal}
+use Rattle.sweeps.specs.Inner.Sweeps.{GoodHaps}
 use Rattle.variants_and_fragments.proofs.Sums.{sumTo-cong}
-use Rattle.likelihoods.specs.Held.{SweepReads, Held, Liks}
+use Rattle.likelihoods.specs.Inner.Held.{SweepReads, Held, Liks}
 use Rattle.likelihoods.specs.SweepCaseOf.{sweepCaseOf}
-use Rattle.likelihoods.specs.Likelihoods.{callsOf, flagged}
-use Rattle.likelihoods.specs.Totals.{pairPrior, heldCase, priorShare, fragmentShare, standingShare, standingTotal, PriorsIn}
+use Rattle.likelihoods.specs.Inner.Likelihoods.{callsOf, flagged}
+use Rattle.likelihoods.specs.Inner.Totals.{pairPrior, heldCase, priorShare, fragmentShare, standingShare, standingTotal, PriorsIn}
 use Rattle.likelihoods.proofs.RunningSums.{table-sum}
 use Rattle.likelihoods.proofs.LikelihoodsHeld.{flag-is, frag-held, likelihood0-is, likelihood1-is}
 use Rattle.likelihoods.proofs.HeldCases.{counted, frags-counted}

@@ -1,4 +1,2 @@
-pub mod Held
-pub mod Likelihoods
 pub mod SweepCaseOf
-pub mod Totals
+pub mod Inner

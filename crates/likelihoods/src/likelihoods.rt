@@ -5,9 +5,9 @@ ghost use Prim.Native.Nat.{_+_, _*_, _<_, _≤_};
 ghost use lib.Dec.{eqb};
 ghost use lib.IntN.{natAbs};
 ghost use lib.ListN.{length};
-ghost use Rattle.pileup.specs.Packed.{groupStart};
+ghost use Rattle.pileup.specs.Inner.Packed.{groupStart};
 ghost use Rattle.variants_and_fragments.specs.Written.{written};
-ghost use Rattle.likelihoods.specs.Likelihoods.{CallsIn, EndsIn, LikelihoodsAre, callAt, flagged, alleleOn, callShare, likelihoodAt};
+ghost use Rattle.likelihoods.specs.Inner.Likelihoods.{CallsIn, EndsIn, LikelihoodsAre, callAt, flagged, alleleOn, callShare, likelihoodAt};
 use pileup::row::unpack;
 
 // A read's likelihoods on the two haplotypes.

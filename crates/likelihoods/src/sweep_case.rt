@@ -2,8 +2,9 @@
 ghost use mathlib.Core.Path.{_≡_};
 ghost use Prim.Native.Nat.{_≤_};
 ghost use lib.ListN.{length};
-ghost use Rattle.variants_and_fragments.specs.Layout.{Sized, alleleCountAt};
-ghost use Rattle.variants_and_fragments.specs.Alleles.{VariantsIn};
+ghost use Rattle.variants_and_fragments.specs.Layout.{alleleCountAt};
+ghost use Rattle.variants_and_fragments.specs.Inner.Layout.{Sized};
+ghost use Rattle.variants_and_fragments.specs.Inner.Alleles.{VariantsIn};
 ghost use Rattle.variants_and_fragments.specs.Written.{written};
 use variants_and_fragments::Sizes;
 use variants_and_fragments::layout::allele_count;

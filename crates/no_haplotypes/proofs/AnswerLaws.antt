@@ -7,7 +7,7 @@ use native.Mathlib.Omega.{arith}
 use borrow.Author.Tests.{lt-ltb, le-ltb}
 use lib.ListN.{getD}
 use Rattle.genotype_probs.specs.declared.posteriors.Genotype.{Genotype}
-use Rattle.no_haplotypes.specs.Calling.{answerValues, larger}
+use Rattle.no_haplotypes.specs.Inner.Calling.{answerValues, larger}
 
 -- ---- number by number
 module _ (g : Genotype) (counts : List ℕ) (ambiguous depth : ℕ) where

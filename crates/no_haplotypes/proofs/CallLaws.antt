@@ -17,18 +17,19 @@ use Rattle.steps.specs.Phred.{phredOf, capped}
 use Rattle.steps.proofs.AddExp.{add-size}
 use Rattle.steps.proofs.Signed.{by-test, le-true, false-lt}
 use Rattle.variants_and_fragments.specs.declared.Sizes.{Sizes}
-use Rattle.variants_and_fragments.specs.Case.{All}
+use Rattle.variants_and_fragments.specs.Inner.Case.{All}
 use Rattle.variants_and_fragments.specs.Decode.{decode}
 use Rattle.variants_and_fragments.specs.Layout.{alleleCountAt, depthAt}
 use Rattle.variants_and_fragments.specs.Pileup.{Row, only, pileOf}
-use Rattle.variants_and_fragments.specs.Written.{writtenFrom}
+use Rattle.variants_and_fragments.specs.Inner.Written.{writtenFrom}
 use Rattle.variants_and_fragments.proofs.Alls.{all-imp}
 use Rattle.variants_and_fragments.proofs.Decoded.{strand-is, dp-is}
 use Rattle.variants_and_fragments.proofs.Written.{from-same}
-use Rattle.pileup.specs.Packed.{rowAt}
+use Rattle.pileup.specs.Inner.Packed.{rowAt}
 use Rattle.genotype_probs.specs.declared.posteriors.Genotype.{Genotype}
 use Rattle.genotype_probs.specs.declared.posteriors.GenotypePost.{GenotypePost}
-use Rattle.genotype_probs.specs.Posteriors.{entryAt, postOf, postAt, maxGenotype, atMostOne, maxGenotypePost, TableAt}
+use Rattle.genotype_probs.specs.Posteriors.{entryAt, postOf, postAt, maxGenotype, atMostOne, maxGenotypePost}
+use Rattle.genotype_probs.specs.Inner.Posteriors.{TableAt}
 use Rattle.genotype_probs.proofs.AlleleLaws.{nine}
 use Rattle.variants_and_fragments.proofs.Tabulated.{table-length}
 use Rattle.genotype_probs.proofs.Maxima.{genotype-maximum}
@@ -36,8 +37,8 @@ use Rattle.genotype_probs.proofs.TableSums.{tabulate-cong, place-in, pair-in}
 use Rattle.genotype_probs.proofs.SameTables.{post-same, genotype-same}
 use Rattle.no_haplotypes.specs.declared.tally.Pile.{Pile}
 use Rattle.no_haplotypes.specs.NoHaplotypes.{rowStrand, calledFrom, qualFrom, gqFrom, strandCalls, callsAt, depthAfter, answerFrom}
-use Rattle.no_haplotypes.specs.Tally.{pileRows, shownOn, scoredFrom, posteriorsFrom, PosteriorsMade}
-use Rattle.no_haplotypes.specs.Calling.{PileHeld, answerValues, larger, madeFrom, VariantCalled}
+use Rattle.no_haplotypes.specs.Inner.Tally.{pileRows, shownOn, scoredFrom, posteriorsFrom, PosteriorsMade}
+use Rattle.no_haplotypes.specs.Inner.Calling.{PileHeld, answerValues, larger, madeFrom, VariantCalled}
 use Rattle.no_haplotypes.proofs.CountLaws.{only-same, all-calls, forward-reverse, case-strands}
 
 -- ---- the genotype and the quality go by the k × k entries

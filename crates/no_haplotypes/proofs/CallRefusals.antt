@@ -14,7 +14,7 @@ use Rattle.variants_and_fragments.specs.declared.Sizes.{Sizes}
 use Rattle.variants_and_fragments.specs.declared.Refusal.{Refusal}
 use Rattle.variants_and_fragments.specs.declared.Refusal.the-variants.{Rates as BadRates, Short}
 use Rattle.variants_and_fragments.specs.declared.Checked.the-variants.{Accepted, Refused as NotAccepted}
-use Rattle.variants_and_fragments.specs.Accepted.{CaseIn, BasesIn}
+use Rattle.variants_and_fragments.specs.Inner.Accepted.{CaseIn, BasesIn}
 use Rattle.variants_and_fragments.specs.Case.{alleleCount, variantOf}
 use Rattle.variants_and_fragments.specs.Check.{caseOf}
 use Rattle.variants_and_fragments.specs.Check as check
@@ -30,7 +30,7 @@ use Rattle.genotype_probs.proofs.AlleleLaws.{nine}
 use Rattle.no_haplotypes.specs.declared.Called.the-variants.{Done, Refused}
 use Rattle.genotype_probs.specs.Normalized.{firstNotNormal}
 use Rattle.no_haplotypes.specs.NoHaplotypes.{scoreAt, posteriors, calledOf, outcomeOf, CalledNoHaplotypes}
-use Rattle.no_haplotypes.specs.Calling.{FewCalls, AcceptedCalled}
+use Rattle.no_haplotypes.specs.Inner.Calling.{FewCalls, AcceptedCalled}
 use Rattle.no_haplotypes.proofs.Calling.{few-calls}
 use Rattle.genotype_probs.proofs.NormalizedLaws.{none-not-normal}
 

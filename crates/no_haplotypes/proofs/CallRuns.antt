@@ -10,11 +10,12 @@ use lib.ListN.{length, getD}
 use Rattle.variants_and_fragments.specs.declared.Sizes.{Sizes}
 use Rattle.variants_and_fragments.specs.Decode.{decode}
 use Rattle.variants_and_fragments.specs.Layout.{alleleCountAt}
-use Rattle.variants_and_fragments.specs.Written.{writtenFrom, written}
+use Rattle.variants_and_fragments.specs.Written.{written}
+use Rattle.variants_and_fragments.specs.Inner.Written.{writtenFrom}
 use Rattle.variants_and_fragments.proofs.Written.{written-on, written-length, from-after}
 use Rattle.no_haplotypes.specs.NoHaplotypes.{answerFrom, qualFrom, gqFrom}
-use Rattle.no_haplotypes.specs.Tally.{PriorsAt}
-use Rattle.no_haplotypes.specs.Calling.{PriorsIn, madeFrom, VariantCalled, VariantsCalled}
+use Rattle.no_haplotypes.specs.Inner.Tally.{PriorsAt}
+use Rattle.no_haplotypes.specs.Inner.Calling.{PriorsIn, madeFrom, VariantCalled, VariantsCalled}
 use Rattle.no_haplotypes.proofs.CallLaws.{made-same}
 
 -- the variants before v are called

@@ -11,7 +11,7 @@ use lib.ListN.{length, getD, drop}
 use lib.Seq.{getD-drop}
 use Rattle.steps.proofs.Signed.{by-test}
 use Rattle.variants_and_fragments.specs.declared.Sizes.{Sizes}
-use Rattle.variants_and_fragments.specs.Accepted.{CaseIn}
+use Rattle.variants_and_fragments.specs.Inner.Accepted.{CaseIn}
 use Rattle.variants_and_fragments.specs.Case.{Case, Variant, Call, alleleCount, variantOf, callCount}
 use Rattle.variants_and_fragments.specs.Check.{caseOf}
 use Rattle.variants_and_fragments.specs.Decode.{decode}
@@ -24,7 +24,7 @@ use Rattle.variants_and_fragments.proofs.GoodCases.{good-case}
 use Rattle.variants_and_fragments.proofs.Sums.{count-le}
 use Rattle.variants_and_fragments.proofs.Only.{only-length}
 use Rattle.variants_and_fragments.proofs.Written.{written-at, written-length, written-same}
-use Rattle.pileup.specs.Packed.{Grouped}
+use Rattle.pileup.specs.Inner.Packed.{Grouped}
 use Rattle.pileup.proofs.Groups.{group-rows, group-in}
 use Rattle.genotype_probs.specs.declared.Rates.{Rates}
 use Rattle.genotype_probs.specs.Priors.{allPriors, priorAt}
@@ -33,8 +33,8 @@ use Rattle.genotype_probs.proofs.PriorSizes.{prior-small}
 use Rattle.genotype_probs.proofs.TableSizes.{by-cond}
 use Rattle.genotype_probs.proofs.TableSums.{tabulate-cong}
 use Rattle.no_haplotypes.specs.NoHaplotypes.{pairScore, scoreAt, posteriors, callsAt, variantAnswer, answerAt, qualAt, gqAt}
-use Rattle.no_haplotypes.specs.Tally.{scoredFrom, posteriorsFrom}
-use Rattle.no_haplotypes.specs.Calling.{FewCalls, Piled, pileAt, PileHeld, madeFrom, PriorsIn, VariantsCalled, AcceptedCalled}
+use Rattle.no_haplotypes.specs.Inner.Tally.{scoredFrom, posteriorsFrom}
+use Rattle.no_haplotypes.specs.Inner.Calling.{FewCalls, Piled, pileAt, PileHeld, madeFrom, PriorsIn, VariantsCalled, AcceptedCalled}
 use Rattle.no_haplotypes.proofs.CountLaws.{all-calls}
 
 -- ---- how many calls

@@ -12,8 +12,9 @@ use lib.IntN.{ℤ}
 use lib.ListN.{length, length-append, List·getD-eq-default}
 use Rattle.steps.proofs.Signed.{by-test, cases}
 use Rattle.variants_and_fragments.specs.declared.Sizes.{Sizes}
-use Rattle.variants_and_fragments.specs.Accepted.{CaseIn}
-use Rattle.variants_and_fragments.specs.Case.{Case, Call, Fragment, usable, alleleCount, variantOf, fragmentOf, noFragment, All, end, also, GoodCall, GoodFragment, GoodCase}
+use Rattle.variants_and_fragments.specs.Inner.Accepted.{CaseIn}
+use Rattle.variants_and_fragments.specs.Case.{Case, Call, Fragment, usable, alleleCount, variantOf, fragmentOf, noFragment}
+use Rattle.variants_and_fragments.specs.Inner.Case.{All, end, also, GoodCall, GoodFragment, GoodCase}
 use Rattle.variants_and_fragments.specs.Decode.{decode}
 use Rattle.variants_and_fragments.specs.Pileup.{Row, rowOf, only, usableCalls, rowsFrom, rowsOf, atVariant, pileOf, ambiguousIn, ambiguousFrom, ambiguousCount}
 use Rattle.variants_and_fragments.specs.Sums.{countOver}

@@ -10,7 +10,8 @@ use lib.Ieee.{Float}
 use lib.IntN.{ℤ, pos, _+ℤ_}
 use lib.ListN.{length, getD}
 use Rattle.variants_and_fragments.specs.declared.Sizes.{Sizes}
-use Rattle.variants_and_fragments.specs.Case.{Case, GoodCase}
+use Rattle.variants_and_fragments.specs.Case.{Case}
+use Rattle.variants_and_fragments.specs.Inner.Case.{GoodCase}
 use Rattle.variants_and_fragments.specs.Check.{caseOf}
 use Rattle.variants_and_fragments.specs.Decode.{decode}
 use Rattle.variants_and_fragments.specs.Refusals.{Outcome, refused, done, andThen, unless, afterwards}

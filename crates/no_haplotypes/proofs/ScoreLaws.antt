@@ -15,7 +15,7 @@ use Rattle.variants_and_fragments.specs.Sums.{sumOver}
 use Rattle.variants_and_fragments.proofs.Sums.{sumOver-cong}
 use Rattle.genotype_probs.proofs.ListLaws.{sum-plus}
 use Rattle.no_haplotypes.specs.NoHaplotypes.{mixed, callScore}
-use Rattle.no_haplotypes.specs.Tally.{rowQual, bothGain, oneGain, gainAt, Tallied, pairGain}
+use Rattle.no_haplotypes.specs.Inner.Tally.{rowQual, bothGain, oneGain, gainAt, Tallied, pairGain}
 
 -- ---- sums
 plus-minus : (a b : ℤ) → a +ℤ (b -ℤ a) ≡ b

@@ -23,13 +23,13 @@ use Rattle.variants_and_fragments.specs.Sums.{sumOver}
 use Rattle.variants_and_fragments.proofs.Bounds.{down-abs}
 use Rattle.variants_and_fragments.proofs.Only.{only-none, only-in, only-out, only-length}
 use Rattle.variants_and_fragments.proofs.Tabulated.{table-length}
-use Rattle.pileup.specs.Packed.{rowAt, rowsAt, RowIn, RowsIn}
+use Rattle.pileup.specs.Inner.Packed.{rowAt, rowsAt, RowIn, RowsIn}
 use Rattle.genotype_probs.specs.Priors.{lnHalf}
 use Rattle.genotype_probs.proofs.ListLaws.{sum-last, table-last}
 use Rattle.genotype_probs.proofs.TableSizes.{by-cond}
 use Rattle.no_haplotypes.specs.declared.tally.Pile.{Pile}
 use Rattle.no_haplotypes.specs.NoHaplotypes.{mixed}
-use Rattle.no_haplotypes.specs.Tally.{pileRows, PileIn, rowQual, bothGain, oneGain, gainAt, shownOn, countPlace, CountsIn, added, CallAdded, Untouched, Tallied, SumsIn}
+use Rattle.no_haplotypes.specs.Inner.Tally.{pileRows, PileIn, rowQual, bothGain, oneGain, gainAt, shownOn, countPlace, CountsIn, added, CallAdded, Untouched, Tallied, SumsIn}
 use Rattle.no_haplotypes.proofs.CountLaws.{only-count}
 
 -- ---- the rows, one more at a time

@@ -1,3 +1,2 @@
 pub mod NoHaplotypes
-pub mod Tally
-pub mod Calling
+pub mod Inner

@@ -13,7 +13,7 @@ use Rattle.pileup.specs.declared.reader.CallStep.{CallStep}
 use Rattle.variants_and_fragments.specs.Layout.{callVariantAt, calledAlleleAt, qualAt, oneMinusQualAt}
 use Rattle.variants_and_fragments.specs.Chain.{nextCallAt}
 use Rattle.variants_and_fragments.specs.Decode.{callFrom}
-use Rattle.pileup.specs.Reader.{heldCall, readAt, nextAt, stepAt}
+use Rattle.pileup.specs.Inner.Reader.{heldCall, readAt, nextAt, stepAt}
 
 abbrev pub held : ℕ → ℕ → ℤ → ℤ → Call
 held v a q o = record { variant = v; allele = a; qual = q; «one_minus_qual» = o }

@@ -7,9 +7,9 @@ use native.Mathlib.Omega.{arith}
 use lib.IntN.{ℤ}
 use Rattle.variants_and_fragments.specs.declared.Sizes.{Sizes}
 use Rattle.variants_and_fragments.specs.Chain.{firstCallAt, nextCallAt, chainFrom, chainOf}
-use Rattle.variants_and_fragments.specs.Accepted.{FragmentIn}
+use Rattle.variants_and_fragments.specs.Inner.Accepted.{FragmentIn}
 use Rattle.variants_and_fragments.specs.Decode.{callFrom, fragmentFrom}
-use Rattle.pileup.specs.Reader.{heldCall, readAt, nextAt, gather, callsRead}
+use Rattle.pileup.specs.Inner.Reader.{heldCall, readAt, nextAt, gather, callsRead}
 use Rattle.variants_and_fragments.proofs.Walks.{chain-end, chain-none, chain-on}
 use Rattle.pileup.proofs.Folds.{Onward, onward-start, onward-next}
 

@@ -10,10 +10,10 @@ use lib.IntN.{ℤ}
 use Rattle.variants_and_fragments.specs.declared.Sizes.{Sizes}
 use Rattle.variants_and_fragments.specs.Layout.{callOk}
 use Rattle.variants_and_fragments.specs.Chain.{firstCallAt, nextCallAt, linkOk, chainFrom, chainOf, memb, goodChain, reached}
-use Rattle.variants_and_fragments.specs.Accepted.{allb, CallIn, FragmentIn}
+use Rattle.variants_and_fragments.specs.Inner.Accepted.{allb, CallIn, FragmentIn}
 use Rattle.variants_and_fragments.proofs.Bools.{both}
 use Rattle.variants_and_fragments.proofs.Records.{call-facts}
-use Rattle.variants_and_fragments.specs.Fold.{fold}
+use Rattle.variants_and_fragments.specs.Inner.Fold.{fold}
 use Rattle.variants_and_fragments.proofs.Walks.{chain-end, chain-none, chain-step, link-top}
 
 -- r is where a walk stands after k records

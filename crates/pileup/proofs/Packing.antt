@@ -8,10 +8,10 @@ use borrow.Author.Tests.{leb-true}
 use lib.IntN.{ℤ, pos, negsuc, negℤ, _-ℤ_}
 use Rattle.steps.proofs.Signed.{zlin, up, dn, up-pos, dn-pos, neg-up, neg-dn, parts-minus}
 use Rattle.variants_and_fragments.specs.Words.{debtOf}
-use Rattle.variants_and_fragments.specs.Sums.{DownTo}
+use Rattle.variants_and_fragments.specs.Inner.Sums.{DownTo}
 use Rattle.variants_and_fragments.specs.Pileup.{Row}
 use Rattle.variants_and_fragments.proofs.Decoded.{debt-is}
-use Rattle.pileup.specs.Packed.{RowIn, Packable, packed, unpacked}
+use Rattle.pileup.specs.Inner.Packed.{RowIn, Packable, packed, unpacked}
 
 -- how far below 0 a number of −262144..0 lies
 pub down-debt : (z : ℤ) → DownTo 262144 z → debtOf z ≤ 262144

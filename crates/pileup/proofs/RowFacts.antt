@@ -8,10 +8,11 @@ use native.Mathlib.Omega.{arith}
 use lib.Dec.{lit<}
 use lib.IntN.{ℤ}
 use Rattle.variants_and_fragments.specs.declared.Sizes.{Sizes}
-use Rattle.variants_and_fragments.specs.Case.{usable, All, end, also}
+use Rattle.variants_and_fragments.specs.Case.{usable}
+use Rattle.variants_and_fragments.specs.Inner.Case.{All, end, also}
 use Rattle.variants_and_fragments.specs.Layout.{cutoffAt, callOk, callVariantAt}
 use Rattle.variants_and_fragments.specs.Chain.{chainOf}
-use Rattle.variants_and_fragments.specs.Accepted.{allb, CallIn, CaseIn}
+use Rattle.variants_and_fragments.specs.Inner.Accepted.{allb, CallIn, CaseIn}
 use Rattle.variants_and_fragments.specs.Decode.{tabulateFrom, callFrom, fragmentFrom}
 use Rattle.variants_and_fragments.specs.Pileup.{rowOf, usableCalls, rowsFrom}
 use Rattle.variants_and_fragments.proofs.Alls.{all-map, all-append}
@@ -19,7 +20,7 @@ use Rattle.variants_and_fragments.proofs.Bools.{both}
 use Rattle.variants_and_fragments.proofs.Decoded.{debt-down}
 use Rattle.variants_and_fragments.proofs.Only.{only-all}
 use Rattle.variants_and_fragments.proofs.Records.{call-facts}
-use Rattle.pileup.specs.Packed.{RowIn}
+use Rattle.pileup.specs.Inner.Packed.{RowIn}
 
 module _ {w : List ℤ} {s : Sizes} (k : CaseIn w s) where
   pub row-in : (f r : ℕ) → f < s .f → CallIn w s r → RowIn (s .n) (s .f) (rowOf f (callFrom w s r))

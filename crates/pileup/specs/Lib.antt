@@ -1,4 +1,1 @@
-pub mod Packed
-pub mod Reader
-pub mod Rows
-pub mod Piles
+pub mod Inner

@@ -2,8 +2,8 @@
 // proved by walks of their MIR, by hand; `read_record`, which does the work, and whoever calls `read_call` are covered.
 ghost use mathlib.Core.Path.{_≡_};
 ghost use Prim.Native.Nat.{_≤_};
-ghost use Rattle.variants_and_fragments.specs.Layout.{Sized};
-ghost use Rattle.pileup.specs.Reader.{readAt, stepAt, readerAt, movedOn};
+ghost use Rattle.variants_and_fragments.specs.Inner.Layout.{Sized};
+ghost use Rattle.pileup.specs.Inner.Reader.{readAt, stepAt, readerAt, movedOn};
 use variants_and_fragments::Sizes;
 use variants_and_fragments::layout::call_variant;
 use variants_and_fragments::layout::called_allele;

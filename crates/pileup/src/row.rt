@@ -3,8 +3,8 @@ ghost use mathlib.Core.Path.{_≡_};
 ghost use Prim.Native.Nat.{_+_, _<_, _≤_};
 ghost use lib.IntN.{pos, negℤ, _-ℤ_};
 ghost use Rattle.variants_and_fragments.specs.Words.{debtOf};
-ghost use Rattle.variants_and_fragments.specs.Sums.{DownTo};
-ghost use Rattle.pileup.specs.Packed.{Packable, heldRow, rowFrom, packed, unpacked, UsableIs};
+ghost use Rattle.variants_and_fragments.specs.Inner.Sums.{DownTo};
+ghost use Rattle.pileup.specs.Inner.Packed.{Packable, heldRow, rowFrom, packed, unpacked, UsableIs};
 
 // A call that is usable, with the number of its fragment.
 pub struct Row {

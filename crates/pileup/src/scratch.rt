@@ -1,7 +1,7 @@
 // Scratch arrays of an operation, as long as the largest case needs, or a small one.
 ghost use mathlib.Core.Path.{_≡_};
 ghost use lib.ListN.{length};
-ghost use Rattle.pileup.specs.Piles.{Zeros};
+ghost use Rattle.pileup.specs.Inner.Piles.{Zeros};
 
 // A word per call record.
 pub fn call_words() -> [u64; 16384]

@@ -14,7 +14,7 @@ use lib.ListN.{length, set, length-append, length-set}
 use lib.Seq.{paste, take-suc-set, drop-set-lt}
 use borrow.Author.Tests.{lt-ltb, le-ltb, ltb-true, ltb-false, leb-true, leb-false}
 use Rattle.io.specs.Digits.{glyph, digits, Fewest}
-use Rattle.protocol.specs.Print.{decimalFrom, decimalOf, signedOf, Put}
+use Rattle.protocol.specs.Inner.Print.{decimalFrom, decimalOf, signedOf, Put}
 
 pub digits-length : (k n : ℕ) → length (digits 10 k n) ≡ k
 digits-length zero n = refl

@@ -11,7 +11,7 @@ use lib.IntN.{ℤ, pos, negsuc, negℤ}
 use lib.ListN.{length, length-append}
 use borrow.Author.Tests.{ltb-true, le-leb, ne-eqb}
 use Rattle.protocol.specs.Text.{isDigit, allDigits, isNumeral, valueOf, integer, intOf}
-use Rattle.protocol.specs.Print.{decimalFrom, decimalOf, signedOf}
+use Rattle.protocol.specs.Inner.Print.{decimalFrom, decimalOf, signedOf}
 use Rattle.protocol.proofs.Readings.{both, digit-low}
 
 digit : (d : ℕ) → d < 10 → isDigit (48 + d) ≡ true

@@ -6,7 +6,7 @@ use Prim.Native.Nat.{ℕ, _≤_, _<_}
 use native.Mathlib.Omega.{arith}
 use lib.ListN.{length}
 use lib.Seq.{length-take-le}
-use Rattle.protocol.specs.Input.{ahead, Counts}
+use Rattle.protocol.specs.Inner.Input.{ahead, Counts}
 use Rattle.protocol.specs.declared.input.Step.{Step}
 
 pub step-falls : (s : Step) (n : ℕ) → s .more ≡ true → n ≤ s .reader .left → n < ahead s

@@ -5,7 +5,7 @@ use Prim.Native.Nat.{ℕ, _≤_, _<_, _^_}
 use lib.Dec.{leb}
 use borrow.Author.Tests.{lt-ltb, le-ltb, leb-true}
 use Rattle.protocol.specs.Text.{isDigit}
-use Rattle.protocol.specs.State.{grown, spoilt, natural, isNatural, isInteger, i32In, i32Sizes, withSign}
+use Rattle.protocol.specs.Inner.State.{grown, spoilt, natural, isNatural, isInteger, i32In, i32Sizes, withSign}
 use Rattle.protocol.specs.declared.number.Number.{Number}
 use Rattle.protocol.specs.declared.number.ReadI32.the-variants.{Value as I32·Value, Unreadable as I32·Unreadable}
 

@@ -3,7 +3,7 @@ use mathlib.Core.Path.{_≡_, refl}
 use mathlib.Core.List.{[], _∷_}
 use lib.IntN.{pos, negsuc}
 use Rattle.protocol.specs.Text.{isDigit, allDigits, isNumeral, valueOf, none, integer, intOf}
-use Rattle.protocol.specs.Print.{decimalFrom, decimalOf, signedOf}
+use Rattle.protocol.specs.Inner.Print.{decimalFrom, decimalOf, signedOf}
 
 -- `00012`
 leading-zeros : intOf (48 ∷ 48 ∷ 48 ∷ 49 ∷ 50 ∷ []) ≡ integer (pos 12)

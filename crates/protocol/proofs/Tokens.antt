@@ -11,7 +11,7 @@ use lib.Ieee.{binary64, ofBits}
 use lib.ListN.{length}
 use borrow.Author.Tests.{le-ltb, ltb-true, ltb-false, lt-leb, eqb-true}
 use Rattle.protocol.specs.Text.{isDigit, allDigits, isNumeral, valueOf, Reading, none, integer, intOf}
-use Rattle.protocol.specs.State.{start, spoilt, grown, signed, pushed, pushedAll, isInteger, isNatural, natural, naturalOf, withSign, i32Sizes, i32In, i32Of, u8In, u8Of, u32In, u32Of, u64In, u64Of, f64In, f64Of, lengthIn, lengthOf}
+use Rattle.protocol.specs.Inner.State.{start, spoilt, grown, signed, pushed, pushedAll, isInteger, isNatural, natural, naturalOf, withSign, i32Sizes, i32In, i32Of, u8In, u8Of, u32In, u32Of, u64In, u64Of, f64In, f64Of, lengthIn, lengthOf}
 use Rattle.protocol.specs.declared.number.Number.{Number}
 use Rattle.protocol.specs.declared.number.ReadU8.the-variants.{Value as U8·Value, Unreadable as U8·Unreadable}
 use Rattle.protocol.specs.declared.number.ReadU32.the-variants.{Value as U32·Value, Unreadable as U32·Unreadable}

@@ -1,6 +1,4 @@
 -- The definitions that the contracts of the text of the request stream cite.
 pub mod Text
-pub mod State
-pub mod Print
-pub mod Input
 pub mod Word
+pub mod Inner

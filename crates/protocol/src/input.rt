@@ -1,7 +1,7 @@
 // Standard input through a buffer, token by token.
 ghost use Prim.Native.Nat.{_≤_};
 ghost use mathlib.Core.Path.{_≡_};
-ghost use Rattle.protocol.specs.Input.{ahead, Counts};
+ghost use Rattle.protocol.specs.Inner.Input.{ahead, Counts};
 ghost use Rattle.protocol.specs.Word.{pushedWord};
 use crate::BUFFER_BYTES;
 use crate::Buffer;

@@ -3,7 +3,7 @@ ghost use mathlib.Core.Path.{_≡_};
 ghost use Prim.Native.Nat.{_+_, _-_, _*_, _<_, _≤_, _^_};
 ghost use mathlib.Core.Bool.{true};
 ghost use Rattle.protocol.specs.Text.{isSpace, opensComment, isDigit};
-ghost use Rattle.protocol.specs.State as State;
+ghost use Rattle.protocol.specs.Inner.State as State;
 use crate::float;
 
 // Whether b is a space, a tab, a line feed or a carriage return.

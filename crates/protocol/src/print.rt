@@ -5,7 +5,7 @@ ghost use lib.ListN.{length};
 ghost use lib.Seq.{paste};
 ghost use lib.IntN.{natAbs};
 ghost use lib.Ieee.{binary64, toBits};
-ghost use Rattle.protocol.specs.Print.{Put, decimalOf, signedOf};
+ghost use Rattle.protocol.specs.Inner.Print.{Put, decimalOf, signedOf};
 use crate::float;
 
 // Puts x's decimal text into out from at on, and answers where it ends.

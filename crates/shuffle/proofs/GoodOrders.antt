@@ -17,7 +17,8 @@ use Rattle.variants_and_fragments.specs.Check.{caseOf}
 use Rattle.variants_and_fragments.specs.declared.Sizes.{Sizes}
 use Rattle.shuffle.specs.SplitMix.{stateAfter}
 use Rattle.shuffle.specs.Permutation.{Permutation, permutes}
-use Rattle.shuffle.specs.Orders.{orderFrom, ordersFrom, orderCount, orderAt, GoodOrders}
+use Rattle.shuffle.specs.Orders.{orderFrom, ordersFrom, orderCount, orderAt}
+use Rattle.shuffle.specs.Inner.Orders.{GoodOrders}
 use Rattle.shuffle.specs.Answers.{firstBadOrder, ordersOutcome, sweepOrders}
 use Rattle.shuffle.proofs.Swaps.{order-length}
 use Rattle.shuffle.proofs.Permuted.{order-permutation, permutes-permutation, permutation-permutes}

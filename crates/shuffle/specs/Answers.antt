@@ -13,8 +13,6 @@ use Rattle.shuffle.specs.Permutation.{permutes}
 use Rattle.shuffle.specs.Orders.{ordersFrom, orderCount, orderAt}
 use Rattle.shuffle.specs.declared.Ordered.{Ordered}
 use Rattle.shuffle.specs.declared.Ordered.the-variants.{Done, Refused}
-use Rattle.shuffle.specs.declared.OrdersChecked.{OrdersChecked}
-use Rattle.shuffle.specs.declared.OrdersChecked.the-variants.{Good, Bad}
 
 -- the first order that is no permutation; m where each is one
 unfoldable pub firstBadOrder : ℕ → List ℕ → ℕ → ℕ
@@ -25,11 +23,6 @@ unfoldable pub ordersOutcome : ℕ → List ℕ → Outcome ℕ
 ordersOutcome n orders =
     let m = orderCount n (length orders) in
     unless (ltb 0 m) 8 0 (unless (leb m (firstBadOrder n orders m)) 8 (firstBadOrder n orders m) (done m))
-
--- the answer of the check of orders in 01's terms
-unfoldable pub checkedAs : OrdersChecked → Outcome ℕ
-checkedAs (Good m) = done m
-checkedAs (Bad o) = refused 8 o
 
 -- the operation: the case's refusals, then 8 by the slice's length, "its length refused as under 8"; else done with what the slice holds
 unfoldable pub sweepOrders : List ℤ → List ℕ → ℕ → List ℕ → Outcome (List ℕ)

@@ -2,3 +2,4 @@ pub mod SplitMix
 pub mod Permutation
 pub mod Orders
 pub mod Answers
+pub mod Inner

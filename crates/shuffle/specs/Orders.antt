@@ -1,13 +1,11 @@
 -- 01, section 7, "Orders": one order, and the orders of a slice one after the other.
 -- Assumes nothing.
-use mathlib.Core.Path.{_≡_}
 use mathlib.Core.Bool.{cond}
 use mathlib.Core.List.{List, [], _∷_, _++_}
-use Prim.Native.Nat.{ℕ, zero, suc, _+_, _*_, _-_, _/_, _%_, _<_}
+use Prim.Native.Nat.{ℕ, zero, suc, _+_, _*_, _-_, _/_, _%_}
 use lib.Dec.{eqb}
-use lib.ListN.{length, getD, set, take, drop}
+use lib.ListN.{getD, set, take, drop}
 use Rattle.shuffle.specs.SplitMix.{nextState, output, stateAfter}
-use Rattle.shuffle.specs.Permutation.{Permutation}
 
 -- 0..n−1, ascending
 unfoldable pub ascending : ℕ → List ℕ
@@ -42,9 +40,3 @@ orderCount (suc n) elements = cond (eqb (elements % suc n) 0) (elements / suc n)
 -- order o of a slice
 unfoldable pub orderAt : ℕ → List ℕ → ℕ → List ℕ
 orderAt n orders o = take n (drop (o * n) orders)
-
--- a slice of m orders, m not 0, each a permutation
-pub record GoodOrders (n : ℕ) (orders : List ℕ) (m : ℕ) : Type 0 where
-  pub some : 0 < m
-  pub fills : m * n ≡ length orders
-  pub permutation : (o : ℕ) → o < m → Permutation n (orderAt n orders o)

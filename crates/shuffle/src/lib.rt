@@ -1,7 +1,8 @@
 // Sweep orders: the operation `sweep_orders`, and the check of lent orders (document 01, section 7, refusal 8).
 ghost use mathlib.Core.Path.{_≡_};
 ghost use Prim.Native.Nat.{_≤_};
-ghost use Rattle.shuffle.specs.Answers.{ordersOutcome, checkedAs, SweepOrders};
+ghost use Rattle.shuffle.specs.Answers.{ordersOutcome, SweepOrders};
+ghost use Rattle.shuffle.specs.Inner.Answers.{checkedAs};
 use crate::orders::first_bad_order;
 use crate::orders::order_count;
 use crate::orders::write_orders;

@@ -9,7 +9,7 @@ use lib.ListN.{getD, drop}
 use lib.Seq.{drop-cons}
 use Rattle.steps.specs.Table.{knots}
 use Rattle.steps.specs.Knots.{T}
-use Rattle.steps.specs.Lines.{fall, base, below, above, lines}
+use Rattle.steps.specs.Inner.Lines.{fall, base, below, above, lines}
 use Rattle.steps.proofs.Rule.{long}
 
 -- ---- along the knots: x is the knot k, `more` those after it

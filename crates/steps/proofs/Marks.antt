@@ -9,7 +9,8 @@ use lib.Dec.{eqb}
 use lib.IntN.{ℤ, pos, negsuc, natAbs}
 use mir.Syntax.{w64}
 use mir.Val.{SFits, ofZ}
-use Rattle.steps.specs.Logs.{Log, mark, steps, addExp, lnAddExp, isMark, logOf, size}
+use Rattle.steps.specs.Logs.{Log, mark, steps, addExp, lnAddExp}
+use Rattle.steps.specs.Inner.Logs.{isMark, logOf, size}
 use Rattle.steps.proofs.Signed.{cases, by-test, true-false, sfits}
 use Rattle.steps.proofs.AddExp.{add-swap, add-size}
 

@@ -9,7 +9,8 @@ use borrow.Author.Tests.{ltb-true}
 use lib.IntN.{ℤ, pos, negsuc, negℤ, natAbs}
 use lib.Pow.{pow-pos}
 use lib.Signed.{ltZ, _≤ℤ_}
-use Rattle.steps.specs.Logs.{Log, mark, steps, addExp, difference, size}
+use Rattle.steps.specs.Logs.{Log, mark, steps, addExp, difference}
+use Rattle.steps.specs.Inner.Logs.{size}
 use Rattle.steps.specs.OneMinus.{GreatestZ, OneMinusExp, low, first, lnOneMinusExp}
 use Rattle.steps.proofs.Addends.{past}
 use Rattle.steps.proofs.AddExp.{add-below, mono-second, first-parts, diff-parts}

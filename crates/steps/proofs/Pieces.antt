@@ -9,7 +9,7 @@ use lib.Signed.{_≤ℤ_}
 use Rattle.steps.specs.Knots.{T}
 use Rattle.steps.specs.Addend.{addend}
 use Rattle.steps.specs.Logs.{addExp, larger, difference}
-use Rattle.steps.specs.Lines.{fall, base, lines, Holds}
+use Rattle.steps.specs.Inner.Lines.{fall, base, lines, Holds}
 use Rattle.steps.proofs.Signed.{cases, zlin, up-pos, dn-pos, up-negsuc, dn-negsuc, neg-up, neg-dn, natAbs-parts, by-sign, parts-add}
 use Rattle.steps.proofs.Slope.{slope}
 use Rattle.steps.proofs.Addends.{line, on-line, at-knot, far}

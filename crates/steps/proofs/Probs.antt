@@ -3,7 +3,7 @@
 use mathlib.Core.Path.{_≡_, refl}
 use lib.IntN.{negsuc}
 use lib.Ieee.{eq, ofBits}
-use Rattle.steps.specs.Probs.{half, quarter, lnOf}
+use Rattle.steps.specs.Inner.Probs.{half, quarter, lnOf}
 
 pub ln-half : lnOf half ≡ negsuc 4095
 unfolding lnOf half eq ofBits

@@ -12,7 +12,8 @@ use lib.Dec.{leb, ltb, leb→le}
 use lib.ListN.{getD, length}
 use lib.Pow.{pow-mono}
 use lib.Seq.{ext-getD}
-use Rattle.steps.specs.Table.{knots, roots}
+use Rattle.steps.specs.Table.{knots}
+use Rattle.steps.specs.Inner.Table.{roots}
 use Rattle.steps.specs.Knots.{Greatest, Knot, KnotTable, T}
 use Rattle.steps.proofs.Powers.{at-least, below}
 use Rattle.steps.proofs.Entries.{both, both-left, both-right, pairwise, at}

@@ -8,7 +8,8 @@ use native.Mathlib.Omega.{arith}
 use lib.IntN.{ℤ, pos, natAbs, _+ℤ_}
 use lib.ListN.{length, getD, drop}
 use lib.Seq.{drop-cons, drop-length}
-use Rattle.steps.specs.Logs.{Log, mark, steps, addExp, lnAddExp, AddsFromLeft, lnSumFrom, lnSumExp, sumExp, logOf, size}
+use Rattle.steps.specs.Logs.{Log, mark, steps, addExp, lnAddExp, AddsFromLeft, lnSumFrom, lnSumExp, sumExp}
+use Rattle.steps.specs.Inner.Logs.{logOf, size}
 use Rattle.steps.proofs.AddExp.{add-shift, add-size}
 use Rattle.steps.proofs.Marks.{log-size}
 

@@ -1,11 +1,10 @@
 -- 01, section 1: log probabilities. A finite one is a whole number of steps, 4,096 to a doubling; the mark is probability zero.
 -- Assumes nothing.
 use mathlib.Core.Path.{_≡_}
-use mathlib.Core.Bool.{Bool, false, cond}
+use mathlib.Core.Bool.{cond}
 use mathlib.Core.List.{List, [], _∷_, _++_}
 use Prim.Native.Nat.{ℕ}
-use lib.Dec.{eqb}
-use lib.IntN.{ℤ, pos, negsuc, natAbs, _+ℤ_, _-ℤ_}
+use lib.IntN.{ℤ, pos, natAbs, _+ℤ_, _-ℤ_}
 use lib.Signed.{leZ}
 use Rattle.steps.specs.Addend.{addend}
 
@@ -48,16 +47,3 @@ lnSumExp xs = lnSumFrom mark xs
 unfoldable pub sumExp : ℤ → List ℤ → ℤ
 sumExp a [] = a
 sumExp a (x ∷ xs) = sumExp (addExp a x) xs
-
--- how an i64 of the code is read: the least one is the mark
-unfoldable pub isMark : ℤ → Bool
-isMark (pos n) = false
-isMark (negsuc n) = eqb n 9223372036854775807
-
-unfoldable pub logOf : ℤ → Log
-logOf z = cond (isMark z) mark (steps z)
-
--- how far from 0 a log probability is; the mark, of which no sum is made, counts as 0
-unfoldable pub size : Log → ℕ
-size mark = 0
-size (steps z) = natAbs z

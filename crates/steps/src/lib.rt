@@ -7,9 +7,10 @@ ghost use lib.IntN.{pos};
 ghost use lib.ListN.{length, getD};
 ghost use lib.Signed.{leZ};
 ghost use Rattle.steps.specs.Table.{knots};
-ghost use Rattle.steps.specs.Logs.{mark, steps, lnAddExp, lnSumExp, logOf, size};
+ghost use Rattle.steps.specs.Logs.{mark, steps, lnAddExp, lnSumExp};
+ghost use Rattle.steps.specs.Inner.Logs.{logOf, size};
 ghost use Rattle.steps.specs.OneMinus.{lnOneMinusExp};
-ghost use Rattle.steps.specs.Probs.{half, quarter, Known, lnOf};
+ghost use Rattle.steps.specs.Inner.Probs.{half, quarter, Known, lnOf};
 
 mod addend;
 mod knots;

@@ -1,4 +1,4 @@
-// The lines of specs/Lines.antt, base and slope of each: below zero, from zero on, far above, far below.
+// The lines of specs/Inner/Lines.antt, base and slope of each: below zero, from zero on, far above, far below.
 pub const LINES: [u32; 6420] = [
     51359,
     1,

@@ -3,8 +3,8 @@ ghost use mathlib.Core.Path.{_≡_};
 ghost use Prim.Native.Nat.{_^_, _≤_};
 ghost use lib.IntN.{pos, natAbs};
 ghost use Rattle.steps.specs.Logs.{addExp};
-ghost use Rattle.steps.specs.Lines.{Holds};
-ghost use Rattle.steps.specs.Lines as spec;
+ghost use Rattle.steps.specs.Inner.Lines.{Holds};
+ghost use Rattle.steps.specs.Inner.Lines as spec;
 
 // The lines. The run copies them once, before its sweeps, and lends the copy: a const that is indexed is copied at each use.
 pub fn lines() -> [u32; 6420]

@@ -1,7 +1,7 @@
 // Phred values of log probabilities.
 ghost use mathlib.Core.Path.{_≡_};
 ghost use Prim.Native.Nat.{_^_, _<_};
-ghost use Rattle.steps.specs.Logs.{logOf, size};
+ghost use Rattle.steps.specs.Inner.Logs.{logOf, size};
 ghost use Rattle.steps.specs.Phred.{phredOf, capped, qualityByte};
 use crate::LogProb;
 use crate::PHREDProb;

@@ -10,13 +10,15 @@ use lib.ListN.{length, set, length-set}
 use lib.Seq.{getD-set-same, getD-set-other, set-getD}
 use lib.IntN.{ℤ, pos, _+ℤ_, +ℤ-idl, +ℤ-idr}
 use borrow.Author.Tests.{ne-eqb}
-use Rattle.variants_and_fragments.specs.Case.{Call, risingFrom}
-use Rattle.variants_and_fragments.specs.Accepted.{allb}
+use Rattle.variants_and_fragments.specs.Case.{Call}
+use Rattle.variants_and_fragments.specs.Inner.Case.{risingFrom}
+use Rattle.variants_and_fragments.specs.Inner.Accepted.{allb}
 use Rattle.variants_and_fragments.specs.Sums.{sumOver, sumTo, countTo}
 use Rattle.variants_and_fragments.proofs.Sums.{sumTo-cong, countTo-cong}
 pub use Rattle.variants_and_fragments.proofs.Sums.{sumOver-cong}
 use Rattle.variants_and_fragments.proofs.Bools.{T-not, is-true, which, cond-yes, cond-no}
-use Rattle.sweeps.specs.Sweeps.{SweepCase, allele0, allele1, putPair, sameHaps, callTerm, likelihood, hasCall, readShare, perCall}
+use Rattle.sweeps.specs.Sweeps.{SweepCase, allele0, allele1, putPair, sameHaps, callTerm, likelihood, readShare, perCall}
+use Rattle.sweeps.specs.Inner.Sweeps.{hasCall}
 use Rattle.steps.proofs.Signed.{parts-add, zlin}
 
 -- ---- tests

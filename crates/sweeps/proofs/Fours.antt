@@ -8,11 +8,11 @@ use native.Mathlib.Omega.{arith}
 use lib.Dec.{eqb}
 use lib.IntN.{ℤ, pos, _+ℤ_, +ℤ-idl, +ℤ-idr}
 use Rattle.steps.proofs.Signed.{parts-add, zlin}
-use Rattle.variants_and_fragments.specs.Case.{All, end, also}
+use Rattle.variants_and_fragments.specs.Inner.Case.{All, end, also}
 use Rattle.variants_and_fragments.specs.Pileup.{Row}
 use Rattle.variants_and_fragments.specs.Sums.{sumOver}
 use Rattle.sweeps.specs.Sweeps.{SweepCase, callTerm, allele0, allele1}
-use Rattle.sweeps.specs.Incremental.{without, share, fourValue, whichValue, rowValue, alleleSum}
+use Rattle.sweeps.specs.Inner.Incremental.{without, share, fourValue, whichValue, rowValue, alleleSum}
 
 -- a call's share is one of its four values
 pub share-value : (C : SweepCase) (v : ℕ) (h : List ℕ) (L0 L1 : ℕ → ℤ) (i j : ℕ) (row : Row)

@@ -11,8 +11,9 @@ use Rattle.variants_and_fragments.specs.Case.{Call}
 use Rattle.variants_and_fragments.specs.Sums.{sumOver, sumTo}
 use Rattle.variants_and_fragments.proofs.Bools.{T-not, not-T, is-true, is-false, which}
 use Rattle.shuffle.specs.Permutation.{member}
-use Rattle.sweeps.specs.Sweeps.{SweepCase, allele0, allele1, sameHaps, callTerm, likelihood, visit, sweep, GoodSweepCase, GoodHaps}
-use Rattle.sweeps.specs.Incremental.{termAt, changed, distinct}
+use Rattle.sweeps.specs.Sweeps.{SweepCase, allele0, allele1, sameHaps, callTerm, likelihood, visit, sweep}
+use Rattle.sweeps.specs.Inner.Sweeps.{GoodSweepCase, GoodHaps}
+use Rattle.sweeps.specs.Inner.Incremental.{termAt, changed, distinct}
 use Rattle.sweeps.proofs.Basics.{or-l, or-r, or-cases, and-l, and-r, eqb-no, at0-other, at1-other, same-eq, same-refl}
 use Rattle.steps.proofs.Signed.{parts-add, zlin}
 use Rattle.sweeps.proofs.Visit.{visit-good, visit-at0, visit-at1, fixed-stays}

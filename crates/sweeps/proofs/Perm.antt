@@ -9,7 +9,7 @@ use Rattle.variants_and_fragments.proofs.Bools.{not-T, true-is, both}
 use Rattle.shuffle.specs.Permutation.{Permutation, member, times, allBelow, eachOnce, permutes}
 use Rattle.shuffle.proofs.Permuted.{permutation-permutes}
 use Rattle.shuffle.proofs.Times.{is-same, member-times, member-head, member-tail}
-use Rattle.sweeps.specs.Incremental.{distinct}
+use Rattle.sweeps.specs.Inner.Incremental.{distinct}
 use Rattle.sweeps.proofs.Basics.{and-in}
 
 pub permutation-below : {n : ℕ} {vs : List ℕ} → Permutation n vs → T (allBelow n vs)

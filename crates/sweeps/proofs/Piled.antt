@@ -8,7 +8,7 @@ use lib.IntN.{ℤ}
 use Rattle.variants_and_fragments.specs.Case.{Case, Call, Fragment}
 use Rattle.variants_and_fragments.specs.Pileup.{only, rowOf, usableCalls, rowsFrom, rowsOf, atVariant, pileOf}
 use Rattle.variants_and_fragments.proofs.Only.{only-append}
-use Rattle.sweeps.specs.Incremental.{rowsIn, pileupFrom}
+use Rattle.sweeps.specs.Inner.Incremental.{rowsIn, pileupFrom}
 
 only-rows : (v f : ℕ) (cs : List Call) → only (atVariant v) (map (rowOf f) cs) ≡ rowsIn v f cs
 unfolding only rowsIn

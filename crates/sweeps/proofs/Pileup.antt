@@ -12,7 +12,7 @@ use Rattle.variants_and_fragments.specs.Case.{Call}
 use Rattle.variants_and_fragments.specs.Sums.{sumOver}
 use Rattle.variants_and_fragments.proofs.Sums.{sum-append}
 use Rattle.sweeps.specs.Sweeps.{perCall}
-use Rattle.sweeps.specs.Incremental.{rowsIn, pileupFrom}
+use Rattle.sweeps.specs.Inner.Incremental.{rowsIn, pileupFrom}
 
 calls-sum : (v i : ℕ) (cs : List Call) (X : ℕ → ℤ) → sumOver (rowsIn v i cs) (λ p. X (p .fragment)) ≡ perCall v cs (X i)
 unfolding sumOver rowsIn perCall

@@ -7,7 +7,7 @@ use lib.Seq.{sets, length-sets}
 use lib.IntN.{ℤ}
 use Rattle.sweeps.specs.Sweeps.{SweepCase, visit}
 use Rattle.sweeps.specs.Demand3.{after}
-use Rattle.sweeps.specs.Posts.{table, recorded, posts}
+use Rattle.sweeps.specs.Inner.Posts.{table, recorded, posts}
 
 module _ (norm : ℕ → (ℕ → ℤ) → List ℤ) (C : SweepCase) where
   pub length-recorded : (vs h : List ℕ) (ps : List ℤ) → length (recorded norm C vs h ps) ≡ length ps

@@ -15,7 +15,8 @@ use Rattle.variants_and_fragments.proofs.Bools.{T-not, is-true, is-false}
 use Rattle.shuffle.specs.Permutation.{Permutation, member}
 use Rattle.shuffle.proofs.Times.{times-member}
 use Rattle.genotype_probs.specs.Posteriors.{FirstMaximum}
-use Rattle.sweeps.specs.Sweeps.{SweepCase, RunResult, allele0, allele1, sameHaps, scoreWith, score, bestPair, sweep, run, phasedTotal, pairNumber, phasedCount, GoodSweepCase, GoodHaps}
+use Rattle.sweeps.specs.Sweeps.{SweepCase, RunResult, allele0, allele1, sameHaps, scoreWith, score, bestPair, sweep, run, phasedTotal, pairNumber, phasedCount}
+use Rattle.sweeps.specs.Inner.Sweeps.{GoodSweepCase, GoodHaps}
 use Rattle.sweeps.specs.Demand3.{after, Stands, Ends, Demand3}
 use Rattle.sweeps.proofs.Basics.{cond-ind, same-eq, same-refl, countTo-le}
 use Rattle.steps.proofs.Signed.{up, dn, up-pos, dn-pos, parts-add, neg-up, neg-dn, parts-times, zlin}

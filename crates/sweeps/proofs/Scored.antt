@@ -10,16 +10,18 @@ use lib.Dec.{T, eqb, eqb→eq, leb, leb→le}
 use lib.ListN.{length, getD}
 use lib.IntN.{ℤ, pos, negℤ, _+ℤ_, _-ℤ_, +ℤ-idl, +ℤ-idr}
 use borrow.Author.Tests.{ne-eqb}
-use Rattle.variants_and_fragments.specs.Case.{Call, risingFrom, rising}
+use Rattle.variants_and_fragments.specs.Case.{Call}
+use Rattle.variants_and_fragments.specs.Inner.Case.{risingFrom, rising}
 use Rattle.variants_and_fragments.specs.Pileup.{Row}
-use Rattle.variants_and_fragments.specs.Accepted.{allb}
+use Rattle.variants_and_fragments.specs.Inner.Accepted.{allb}
 use Rattle.variants_and_fragments.specs.Sums.{sumOver}
-use Rattle.sweeps.specs.Sweeps.{SweepCase, allele0, allele1, putPair, callTerm, likelihood, hasCall, readShare, perCall, withOwn, scoreWith}
-use Rattle.sweeps.specs.Incremental.{termAt}
+use Rattle.sweeps.specs.Sweeps.{SweepCase, allele0, allele1, putPair, callTerm, likelihood, readShare, perCall, withOwn, scoreWith}
+use Rattle.sweeps.specs.Inner.Sweeps.{hasCall}
+use Rattle.sweeps.specs.Inner.Incremental.{termAt}
 use Rattle.sweeps.proofs.Basics.{lik-cong, and-l, and-r, eqb-no, at0-same, at1-same, at0-other, at1-other}
 use Rattle.steps.proofs.Signed.{parts-add, neg-up, neg-dn, zlin}
 use Rattle.sweeps.proofs.Link.{lik-own}
-use Rattle.sweeps.specs.Incremental.{rowsIn, pileupFrom, step, share}
+use Rattle.sweeps.specs.Inner.Incremental.{rowsIn, pileupFrom, step, share}
 use Rattle.variants_and_fragments.proofs.Sums.{sum-append}
 use Rattle.variants_and_fragments.proofs.Bools.{is-true, which}
 

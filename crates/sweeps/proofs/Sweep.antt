@@ -7,7 +7,8 @@ use Prim.Native.Nat.{ℕ, _<_, _≤_}
 use lib.Dec.{T, eqb, eqb→eq, eqb-refl}
 use lib.Signed.{_≤ℤ_, ≤ℤ-refl}
 use Rattle.shuffle.specs.Permutation.{member}
-use Rattle.sweeps.specs.Sweeps.{SweepCase, visit, sweep, phasedTotal, GoodSweepCase, GoodHaps}
+use Rattle.sweeps.specs.Sweeps.{SweepCase, visit, sweep, phasedTotal}
+use Rattle.sweeps.specs.Inner.Sweeps.{GoodSweepCase, GoodHaps}
 use Rattle.sweeps.proofs.Basics.{or-l, or-r, or-cases}
 use Rattle.steps.proofs.Signed.{zlin}
 use Rattle.sweeps.proofs.Visit.{Agree, Gain, Fixed, Step, total-cong, places-cong, visit-good, visit-step, becomes-fixed, keeps-fixed, fixed-stays}

@@ -11,11 +11,13 @@ use lib.Dec.{T, eqb, eqb→eq}
 use lib.ListN.{length}
 use lib.IntN.{ℤ, pos, _+ℤ_}
 use lib.Signed.{_≤ℤ_}
-use Rattle.variants_and_fragments.specs.Case.{Call, rising}
-use Rattle.variants_and_fragments.specs.Accepted.{allb}
+use Rattle.variants_and_fragments.specs.Case.{Call}
+use Rattle.variants_and_fragments.specs.Inner.Case.{rising}
+use Rattle.variants_and_fragments.specs.Inner.Accepted.{allb}
 use Rattle.variants_and_fragments.specs.Sums.{sumOver, sumTo, countTo}
 use Rattle.variants_and_fragments.proofs.Bools.{T-not, which, cond-yes}
-use Rattle.sweeps.specs.Sweeps.{SweepCase, allele0, allele1, putPair, hasCall, readShare, perCall, totalOf, withOwn, scoreWith, score, bestPair, visit, phasedTotal, pairNumber, GoodSweepCase, GoodHaps}
+use Rattle.sweeps.specs.Sweeps.{SweepCase, allele0, allele1, putPair, readShare, perCall, totalOf, withOwn, scoreWith, score, bestPair, visit, phasedTotal, pairNumber}
+use Rattle.sweeps.specs.Inner.Sweeps.{hasCall, GoodSweepCase, GoodHaps}
 use Rattle.variants_and_fragments.proofs.Sums.{sumTo-cong, countTo-cong}
 use Rattle.sweeps.proofs.Basics.{lt-or-ge, cond-under, eqb-no, length-put, at0-same, at1-same, at0-other, at1-other, put-self, sumOver-cong, sumOver-cong-of, one-call, less, lessN, sumTo-split, countTo-split, sumOver-split, mixed-cong}
 use Rattle.steps.proofs.Signed.{up, dn, parts-add, zlin}

@@ -1,4 +1,3 @@
 pub mod Sweeps
 pub mod Demand3
-pub mod Incremental
-pub mod Posts
+pub mod Inner

@@ -1,16 +1,14 @@
 -- 01, section 6: likelihoods, scores, visits, sweeps, the run and its totals. Every definition computes at closed values.
 -- Haplotypes are a flat list of 2 alleles a variant, variant v's pair at 2v and 2v + 1, as the run writes them.
 -- Assumes nothing.
-use mathlib.Core.Path.{_≡_}
 use mathlib.Core.Bool.{Bool, true, false, cond, _&&_, _||_}
 use mathlib.Core.List.{List, [], _∷_}
-use Prim.Native.Nat.{ℕ, zero, suc, _+_, _*_, _/_, _%_, _<_, _≤_}
-use lib.Dec.{T, eqb}
-use lib.ListN.{length, getD, set}
+use Prim.Native.Nat.{ℕ, zero, suc, _+_, _*_, _/_, _%_}
+use lib.Dec.{eqb}
+use lib.ListN.{getD, set}
 use lib.IntN.{ℤ, pos, _+ℤ_, _-ℤ_}
 use Rattle.steps.specs.Logs.{addExp}
-use Rattle.variants_and_fragments.specs.Case.{Call, rising}
-use Rattle.variants_and_fragments.specs.Accepted.{allb}
+use Rattle.variants_and_fragments.specs.Case.{Call}
 use Rattle.variants_and_fragments.specs.Sums.{sumOver, sumTo, countTo}
 use Rattle.genotype_probs.specs.Posteriors.{firstMaximum}
 
@@ -56,10 +54,6 @@ callTerm c a = cond (eqb (c .allele) a) (c .one-minus-qual) (c .qual)
 unfoldable pub likelihood : (ℕ → Bool) → (ℕ → ℕ) → List Call → ℤ
 likelihood counts a [] = pos 0
 likelihood counts a (c ∷ cs) = cond (counts (c .variant)) (callTerm c (a (c .variant))) (pos 0) +ℤ likelihood counts a cs
-
-unfoldable pub hasCall : ℕ → List Call → Bool
-hasCall v [] = false
-hasCall v (c ∷ cs) = eqb (c .variant) v || hasCall v cs
 
 -- x for each call at v
 unfoldable pub perCall : ℕ → List Call → ℤ → ℤ
@@ -131,12 +125,3 @@ module _ (C : SweepCase) where
   phasedCount = countTo (C .n) (λ w. cond (C .phased w) 1 0)
 
 -- ---- what an accepted run has: its case and its haplotypes; each of its orders is a `Permutation` (shuffle)
-pub record GoodSweepCase (C : SweepCase) : Type 0 where
-  pub some-allele : (v : ℕ) → v < C .n → 1 ≤ C .k v
-  pub three-alleles : (v : ℕ) → v < C .n → C .k v ≤ 3
-  pub rise : T (allb rising (C .frags))
-
-pub record GoodHaps (C : SweepCase) (h : List ℕ) : Type 0 where
-  pub len : length h ≡ 2 * C .n
-  pub low : (v : ℕ) → v < C .n → allele0 h v < C .k v
-  pub high : (v : ℕ) → v < C .n → allele1 h v < C .k v

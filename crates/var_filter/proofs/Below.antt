@@ -6,7 +6,7 @@ use Prim.Native.Nat.{ℕ, zero, suc, _+_, _-_, _≤_, _<_}
 use native.Mathlib.Omega.{arith}
 use native.Mathlib.Decide.{ℕ-discrete}
 use Rattle.var_filter.specs.Filter.{anyBelow, countBelow}
-use Rattle.var_filter.specs.FilterWindow.{pastLast}
+use Rattle.var_filter.specs.Inner.FilterWindow.{pastLast}
 use Rattle.variants_and_fragments.specs.Sums.{countTo}
 use Rattle.variants_and_fragments.proofs.Sums.{countTo-grows}
 

@@ -13,7 +13,7 @@ use lib.Ieee.{Float}
 use lib.ListN.{length}
 use Rattle.variants_and_fragments.specs.Case.{Case, variantOf}
 use Rattle.var_filter.specs.Filter.{anyBelow, countBelow, Limits, strong, counted, dense}
-use Rattle.var_filter.specs.FilterWindow.{pastLast}
+use Rattle.var_filter.specs.Inner.FilterWindow.{pastLast}
 use Rattle.var_filter.proofs.Below.{any-one, any-none, any-more, count-after, count-le, past-le, past-none, past-holds, past-count}
 
 -- e is the first variant past the reach of v, or N

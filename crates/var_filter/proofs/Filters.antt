@@ -14,12 +14,12 @@ use Rattle.variants_and_fragments.specs.declared.Sizes.{Sizes}
 use Rattle.var_filter.specs.declared.DensityParameters.{DensityParameters}
 use Rattle.var_filter.specs.declared.Window.{Window}
 use Rattle.variants_and_fragments.specs.Layout.{sizesOf, depthAt}
-use Rattle.variants_and_fragments.specs.Accepted.{CaseIn}
+use Rattle.variants_and_fragments.specs.Inner.Accepted.{CaseIn}
 use Rattle.variants_and_fragments.specs.Decode.{decode}
 use Rattle.variants_and_fragments.specs.Written.{written}
 use Rattle.variants_and_fragments.proofs.Written.{written-on, written-length}
 use Rattle.var_filter.specs.Filter.{anyBelow, limitsOf, joinedReasons, markedDense, tooDeep, filterOf}
-use Rattle.var_filter.specs.FilterWindow.{WindowAt, Slid}
+use Rattle.var_filter.specs.Inner.FilterWindow.{WindowAt, Slid}
 use Rattle.var_filter.proofs.Density.{covers, covers-on}
 use Rattle.var_filter.proofs.Windows.{depth-is, window-start, reach-to}
 

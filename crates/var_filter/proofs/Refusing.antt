@@ -16,7 +16,7 @@ use Rattle.variants_and_fragments.specs.declared.Checked.the-variants.{Accepted
 use Rattle.var_filter.specs.declared.Filtered.the-variants.{Done, Refused}
 use Rattle.variants_and_fragments.specs.Refusals.{done, andThen, unless, afterwards}
 use Rattle.variants_and_fragments.specs.Check.{outcomeOf, caseOf}
-use Rattle.variants_and_fragments.specs.Accepted.{CaseIn}
+use Rattle.variants_and_fragments.specs.Inner.Accepted.{CaseIn}
 use Rattle.variants_and_fragments.proofs.Accepted.{case-in}
 use Rattle.variants_and_fragments.specs.Decode.{decode}
 use Rattle.variants_and_fragments.specs.Written.{written}

@@ -19,10 +19,10 @@ use Rattle.var_filter.specs.declared.Window.{Window}
 use Rattle.variants_and_fragments.specs.Case.{variantOf}
 use Rattle.variants_and_fragments.specs.Sums.{countTo}
 use Rattle.variants_and_fragments.specs.Layout.{sizesOf, pos0At, depthAt}
-use Rattle.variants_and_fragments.specs.Accepted.{CaseIn}
+use Rattle.variants_and_fragments.specs.Inner.Accepted.{CaseIn}
 use Rattle.variants_and_fragments.specs.Decode.{variantFrom, decode}
 use Rattle.var_filter.specs.Filter.{strong, limitsOf}
-use Rattle.var_filter.specs.FilterWindow.{pastLast, WindowAt, WindowEnd, Extended, Slid}
+use Rattle.var_filter.specs.Inner.FilterWindow.{pastLast, WindowAt, WindowEnd, Extended, Slid}
 use Rattle.variants_and_fragments.proofs.Decoded.{variant-count, variant-is}
 use Rattle.var_filter.proofs.Below.{count-in, count-out, count-le, count-top, past-in, past-out, past-le}
 use Rattle.var_filter.proofs.Density.{ReachTo}

@@ -1,3 +1,3 @@
 pub mod Filter
-pub mod FilterWindow
 pub mod Filtered
+pub mod Inner

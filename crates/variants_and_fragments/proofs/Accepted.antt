@@ -14,7 +14,7 @@ use Rattle.variants_and_fragments.specs.Layout.{sizesOf, headFault, call
 use Rattle.variants_and_fragments.specs.Chain.{firstCallAt, strandAt, chainOf, goodChain, reached, fragmentTest, fragmentOk, chainFault}
 use Rattle.variants_and_fragments.specs.Alleles.{allelesOk, allelesFault}
 use Rattle.variants_and_fragments.specs.Check.{variantFault, callFault, caseOf}
-use Rattle.variants_and_fragments.specs.Accepted.{FragmentIn, CaseIn, BasesIn}
+use Rattle.variants_and_fragments.specs.Inner.Accepted.{FragmentIn, CaseIn, BasesIn}
 use Rattle.variants_and_fragments.proofs.Bools.{both}
 use Rattle.variants_and_fragments.proofs.First.{first-all, first-le}
 use Rattle.variants_and_fragments.proofs.Readings.{quality-debt}

@@ -4,7 +4,7 @@ use mathlib.Core.List.{List, [], _∷_, _++_, map}
 use Prim.Native.Nat.{ℕ, zero, suc, _+_, _≤_, _<_}
 use native.Mathlib.Omega.{arith}
 use lib.ListN.{length, getD, drop}
-use Rattle.variants_and_fragments.specs.Case.{All, end, also}
+use Rattle.variants_and_fragments.specs.Inner.Case.{All, end, also}
 use Rattle.variants_and_fragments.specs.Decode.{tabulateFrom, tabulate}
 
 pub all-at : {X : Type 0} {P : X → Type 0} {xs : List X} → All P xs → (i : ℕ) (d : X) → i < length xs → P (getD xs i d)

@@ -7,8 +7,10 @@ use Prim.Native.Nat.{ℕ, _+_, _*_, _^_, _≤_, _<_}
 use native.Mathlib.Omega.{arith}
 use lib.IntN.{ℤ, pos, negℤ, natAbs, _+ℤ_}
 use lib.ListN.{length}
-use Rattle.variants_and_fragments.specs.Case.{Case, Fragment, Call, noFragment, fragmentOf, All, end, also, GoodCase}
-use Rattle.variants_and_fragments.specs.Sums.{sumOver, countOver, DownTo}
+use Rattle.variants_and_fragments.specs.Case.{Case, Fragment, Call, noFragment, fragmentOf}
+use Rattle.variants_and_fragments.specs.Inner.Case.{All, end, also, GoodCase}
+use Rattle.variants_and_fragments.specs.Sums.{sumOver, countOver}
+use Rattle.variants_and_fragments.specs.Inner.Sums.{DownTo}
 use Rattle.variants_and_fragments.proofs.Alls.{all-imp}
 use Rattle.variants_and_fragments.proofs.Sums.{count-same, count-times, count-at, count-le}
 use Rattle.steps.proofs.Signed.{up, dn, up-pos, dn-pos, natAbs-parts, by-sign, ≤ℤ→, →≤ℤ, le-true, true-le, parts-add, neg-up, neg-dn}

@@ -10,8 +10,9 @@ use lib.IntN.{ℤ}
 use lib.Dec.{leb, ltb}
 use borrow.Author.Tests.{lt-ltb, le-ltb, le-leb, lt-leb, eq-eqb, ne-eqb, leb-true}
 use Rattle.variants_and_fragments.specs.declared.Sizes.{Sizes}
-use Rattle.variants_and_fragments.specs.Chain.{firstCallAt, nextCallAt, firstRecordAt, chainFrom, isRecord, fragmentTest, chainFaultAt, linkTest}
-use Rattle.variants_and_fragments.specs.Accepted.{allb}
+use Rattle.variants_and_fragments.specs.Chain.{firstCallAt, nextCallAt, chainFrom, isRecord, fragmentTest, chainFaultAt, linkTest}
+use Rattle.variants_and_fragments.specs.Inner.Chain.{firstRecordAt}
+use Rattle.variants_and_fragments.specs.Inner.Accepted.{allb}
 use Rattle.variants_and_fragments.proofs.Bools.{both}
 
 pub link-end : (c r t v u : ℕ) → t ≡ 0 → true ≡ linkTest c r t v u

@@ -12,7 +12,7 @@ use lib.ListN.{length, getD, length-drop}
 use lib.Seq.{length-take-le, getD-take, getD-drop}
 use lib.Signed.{ltZ}
 use Rattle.variants_and_fragments.specs.declared.Sizes.{Sizes}
-use Rattle.variants_and_fragments.specs.Sums.{DownTo}
+use Rattle.variants_and_fragments.specs.Inner.Sums.{DownTo}
 use Rattle.variants_and_fragments.specs.Case.{Variant, Fragment, alleleCount, alleleOf, usable, variantOf, fragmentOf, noVariant, noFragment}
 use Rattle.variants_and_fragments.specs.Words.{none, natOf, debtOf}
 use Rattle.variants_and_fragments.specs.Layout.{sizesOf, pos0At, depthAt, genotypeAt, alleleCountAt, lengthAt, qualAt, cutoffAt}
@@ -20,7 +20,7 @@ use Rattle.variants_and_fragments.specs.Chain.{strandAt, chainOf}
 use Rattle.variants_and_fragments.specs.Alleles.{allelesLength, allelesStart}
 use Rattle.variants_and_fragments.proofs.AlleleBytes.{off-on, off-le}
 use Rattle.variants_and_fragments.proofs.Tabulated.{table-length}
-use Rattle.variants_and_fragments.specs.Accepted.{CallIn, CaseIn, BasesIn}
+use Rattle.variants_and_fragments.specs.Inner.Accepted.{CallIn, CaseIn, BasesIn}
 use Rattle.variants_and_fragments.specs.Decode.{tabulateFrom, tabulate, alleleStart, alleleAt, variantFrom, callFrom, fragmentFrom, decode}
 
 from-at : {X : Type 0} (g : ℕ → X) (i n k : ℕ) (d : X) → k < n → getD (tabulateFrom g i n) k d ≡ g (i + k)

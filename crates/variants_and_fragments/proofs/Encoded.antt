@@ -12,7 +12,8 @@ use lib.Seq.{getD-drop, drop-drop, drop-at, take-append-seam}
 use Rattle.variants_and_fragments.specs.declared.Sizes.{Sizes}
 use Rattle.variants_and_fragments.specs.Sums.{countOver}
 use Rattle.variants_and_fragments.specs.Words.{word, natOf}
-use Rattle.variants_and_fragments.specs.Case.{Case, Variant, Fragment, Call, alleleCount, alleleOf, variantOf, noVariant, All, end, also}
+use Rattle.variants_and_fragments.specs.Case.{Case, Variant, Fragment, Call, alleleCount, alleleOf, variantOf, noVariant}
+use Rattle.variants_and_fragments.specs.Inner.Case.{All, end, also}
 use Rattle.variants_and_fragments.specs.Layout.{headWords, variantWords, fragmentWords, callWords, pos0Field, depthField, genotypeField, alleleCountField, lengthField, firstField, strandField, variantField, alleleField, qualField, oneMinusQualField, nextField, sizesOf, variantAt, fragmentAt, callAt, lengthAt, nextCallAt}
 use Rattle.variants_and_fragments.specs.Chain.{isRecord, chainFrom, chainOf}
 use Rattle.variants_and_fragments.specs.Alleles.{allelesStart}

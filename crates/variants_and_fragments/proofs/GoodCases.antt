@@ -13,16 +13,18 @@ use mir.Syntax.{w32}
 use mir.Val.{SFits}
 use Rattle.variants_and_fragments.specs.declared.Sizes.{Sizes}
 use Rattle.variants_and_fragments.specs.Sums.{countOver}
-use Rattle.variants_and_fragments.specs.Case.{Case, Call, alleleOf, variantOf, fragmentOf, noFragment, noCall, risingFrom, All, end, also, GoodAllele, GoodVariant, GoodCall, GoodFragment, GoodCase, SmallNumbers}
+use Rattle.variants_and_fragments.specs.Case.{Case, Call, alleleOf, variantOf, fragmentOf, noFragment}
+use Rattle.variants_and_fragments.specs.Inner.Case.{noCall, risingFrom, All, end, also, GoodAllele, GoodVariant, GoodCall, GoodFragment, GoodCase, SmallNumbers}
 use Rattle.variants_and_fragments.specs.Refusals.{done}
-use Rattle.variants_and_fragments.specs.Layout.{pos0Field, depthField, variantAt, alleleCountAt, lengthAt, VariantIn, pos0At, cutoffAt, callVariantAt, callOk}
+use Rattle.variants_and_fragments.specs.Layout.{pos0Field, depthField, variantAt, alleleCountAt, lengthAt, pos0At, cutoffAt, callVariantAt, callOk}
+use Rattle.variants_and_fragments.specs.Inner.Layout.{VariantIn}
 use Rattle.variants_and_fragments.specs.Chain.{firstCallAt, nextCallAt, isRecord, linkOk, chainFrom, chainOf, memb, goodChain}
-use Rattle.variants_and_fragments.specs.Accepted.{allb, CallIn, CaseIn, BasesIn}
+use Rattle.variants_and_fragments.specs.Inner.Accepted.{allb, CallIn, CaseIn, BasesIn}
 use Rattle.variants_and_fragments.proofs.Bools.{both}
 use Rattle.variants_and_fragments.proofs.Records.{call-facts}
 use Rattle.variants_and_fragments.proofs.Accepted.{case-in, bases-in}
 use Rattle.variants_and_fragments.specs.Check.{caseOf}
-use Rattle.variants_and_fragments.specs.ChainCalls.{callId, callsFrom}
+use Rattle.variants_and_fragments.specs.Inner.ChainCalls.{callId, callsFrom}
 use Rattle.variants_and_fragments.specs.Decode.{tabulateFrom, tabulate, alleleStart, callFrom, fragmentFrom, decode}
 use Rattle.variants_and_fragments.proofs.Pigeon.{calls-top}
 use Rattle.variants_and_fragments.proofs.Readings.{nat-top}

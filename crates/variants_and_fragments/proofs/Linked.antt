@@ -15,7 +15,7 @@ use lib.Dec.{leb, ltb}
 use Rattle.variants_and_fragments.specs.declared.Sizes.{Sizes}
 use Rattle.variants_and_fragments.specs.Layout.{callVariantAt, callOk}
 use Rattle.variants_and_fragments.specs.Chain.{firstCallAt, nextCallAt, isRecord, linkTest, linkOk, chainFrom, chainOf, memb, goodChain, reached}
-use Rattle.variants_and_fragments.specs.Accepted.{allb, CallIn, FragmentIn}
+use Rattle.variants_and_fragments.specs.Inner.Accepted.{allb, CallIn, FragmentIn}
 use Rattle.variants_and_fragments.proofs.Bools.{both}
 use Rattle.variants_and_fragments.proofs.Records.{call-facts}
 use Rattle.variants_and_fragments.proofs.Walks.{link-top, chain-on}

@@ -6,7 +6,7 @@ use mathlib.Core.List.{List, [], _∷_, _++_, map}
 use Prim.Native.Nat.{suc, _≤_}
 use native.Mathlib.Omega.{arith}
 use lib.ListN.{length}
-use Rattle.variants_and_fragments.specs.Case.{All, end, also}
+use Rattle.variants_and_fragments.specs.Inner.Case.{All, end, also}
 use Rattle.variants_and_fragments.specs.Pileup.{only}
 
 pub only-in : {X : Type 0} (p : X → Bool) (x : X) (xs : List X) → p x ≡ true → only p (x ∷ xs) ≡ x ∷ only p xs

@@ -13,9 +13,9 @@ use lib.IntN.{ℤ}
 use lib.Dec.{eqb, leb}
 use Rattle.variants_and_fragments.specs.declared.Sizes.{Sizes}
 use Rattle.variants_and_fragments.specs.Chain.{nextCallAt, firstCallAt, isRecord, linkOk, chainFrom, chainOf, memb, pushAll, reached, goodChain}
-use Rattle.variants_and_fragments.specs.Accepted.{CaseIn}
+use Rattle.variants_and_fragments.specs.Inner.Accepted.{CaseIn}
 use Rattle.variants_and_fragments.proofs.Bools.{both, or-off, or-right, not-on}
-use Rattle.variants_and_fragments.specs.ChainCalls.{callsFrom}
+use Rattle.variants_and_fragments.specs.Inner.ChainCalls.{callsFrom}
 
 -- no number comes twice
 unfoldable pub distinct : List ℕ → Bool

@@ -12,9 +12,10 @@ use lib.Dec.{leb, ltb, eqb}
 use Rattle.variants_and_fragments.specs.declared.Sizes.{Sizes}
 use Rattle.variants_and_fragments.specs.Words.{within}
 use Rattle.variants_and_fragments.specs.First.{firstFail, firstFalse}
-use Rattle.variants_and_fragments.specs.Layout.{headWords, maxVariants, maxFragments, maxCalls, maxAlleleLength, lowestQuality, totalWords, sizesOf, cutoffAt, headTests, headFault, Sized, lengthOk, alleleCountAt, lengthAt, allOf, variantTests, variantOk, VariantIn, callVariantAt, calledAlleleAt, qualAt, oneMinusQualAt, callOk}
-use Rattle.variants_and_fragments.specs.Alleles.{VariantsIn}
-use Rattle.variants_and_fragments.specs.Accepted.{CallIn}
+use Rattle.variants_and_fragments.specs.Layout.{headWords, maxVariants, maxFragments, maxCalls, maxAlleleLength, lowestQuality, totalWords, sizesOf, cutoffAt, headTests, headFault, lengthOk, alleleCountAt, lengthAt, allOf, variantTests, variantOk, callVariantAt, calledAlleleAt, qualAt, oneMinusQualAt, callOk}
+use Rattle.variants_and_fragments.specs.Inner.Layout.{Sized, VariantIn}
+use Rattle.variants_and_fragments.specs.Inner.Alleles.{VariantsIn}
+use Rattle.variants_and_fragments.specs.Inner.Accepted.{CallIn}
 use Rattle.variants_and_fragments.proofs.Bools.{both}
 use Rattle.variants_and_fragments.proofs.First.{first-all, false-none}
 use Rattle.variants_and_fragments.proofs.Readings.{quality-debt}

@@ -9,8 +9,8 @@ use native.Mathlib.Numerals.{add-one}
 use native.Mathlib.Omega.{arith}
 use lib.IntN.{ℤ, pos, negℤ, _+ℤ_, +ℤ-idl, +ℤ-idr, +ℤ-assoc, negℤ-+ℤ}
 use lib.ListN.{length, getD}
-use Rattle.variants_and_fragments.specs.Case.{All, end, also}
-use Rattle.variants_and_fragments.specs.Fold.{fold}
+use Rattle.variants_and_fragments.specs.Inner.Case.{All, end, also}
+use Rattle.variants_and_fragments.specs.Inner.Fold.{fold}
 use Rattle.variants_and_fragments.specs.Sums.{sumOver, countOver, sumTo, countTo}
 
 -- ---- of integers

@@ -11,7 +11,8 @@ use lib.IntN.{ℤ}
 use lib.ListN.{length}
 use Rattle.variants_and_fragments.proofs.Bools.{both}
 use Rattle.variants_and_fragments.proofs.Only.{only-length, only-all}
-use Rattle.variants_and_fragments.specs.Case.{Variant, Fragment, Call, usable, risingFrom, rising, All, GoodCall, GoodFragment}
+use Rattle.variants_and_fragments.specs.Case.{Variant, Fragment, Call, usable}
+use Rattle.variants_and_fragments.specs.Inner.Case.{risingFrom, rising, All, GoodCall, GoodFragment}
 use Rattle.variants_and_fragments.specs.Pileup.{only, usableCalls}
 
 -- ---- some of them still rise

@@ -13,7 +13,8 @@ use lib.Seq.{getD-set-same, getD-set-other}
 use lib.IntN.{ℤ}
 use lib.Dec.{eqb}
 use Rattle.variants_and_fragments.specs.declared.Sizes.{Sizes}
-use Rattle.variants_and_fragments.specs.Chain.{nextCallAt, firstRecordAt, Walked, linkTest, linkOk, chainFrom, chainOf, memb, pushAll, reached, goodChain, flag, Marked, markedAt, isReached}
+use Rattle.variants_and_fragments.specs.Chain.{nextCallAt, linkTest, linkOk, chainFrom, chainOf, memb, pushAll, reached, goodChain, isReached}
+use Rattle.variants_and_fragments.specs.Inner.Chain.{firstRecordAt, Walked, flag, Marked, markedAt}
 use Rattle.variants_and_fragments.proofs.Chain.{link-over, first-top, first-chain}
 use Rattle.variants_and_fragments.specs.First.{firstFail}
 use Rattle.variants_and_fragments.proofs.First.{first-cong}

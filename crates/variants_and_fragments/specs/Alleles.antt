@@ -2,13 +2,13 @@
 -- Assumes nothing.
 use mathlib.Core.Bool.{Bool, cond, _||_}
 use mathlib.Core.List.{List}
-use Prim.Native.Nat.{ℕ, zero, suc, _+_, _<_}
+use Prim.Native.Nat.{ℕ, zero, suc, _+_}
 use lib.ListN.{length, getD}
 use lib.IntN.{ℤ}
 use lib.Dec.{eqb, ltb}
 use Rattle.variants_and_fragments.specs.declared.Sizes.{Sizes}
 use Rattle.variants_and_fragments.specs.First.{firstFail}
-use Rattle.variants_and_fragments.specs.Layout.{lengthAt, VariantIn}
+use Rattle.variants_and_fragments.specs.Layout.{lengthAt}
 
 -- how many bytes variant v's alleles have; an absent allele has length 0
 abbrev pub allelesLength : List ℤ → ℕ → ℕ
@@ -37,7 +37,3 @@ allelesFaultAt len all v n = cond (eqb len all) (cond (ltb v n) v (n + 1)) n
 
 abbrev pub allelesFault : List ℤ → Sizes → List ℕ → ℕ
 allelesFault w s b = allelesFaultAt (length b) (allelesStart w (s .n)) (firstFail (allelesOk w b) (s .n)) (s .n)
-
--- each variant record is right
-pub record VariantsIn (w : List ℤ) (s : Sizes) : Type 0 where
-  pub each : (v : ℕ) → v < s .n → VariantIn w v

@@ -1,25 +1,19 @@
 -- 01, section 2 and number 5 of the table: the chains. A fragment's chain starts at its first call and goes on by each call's next;
 -- zero ends it. w is the words, s the sizes; r, t are record numbers from 1.
 -- Assumes nothing.
-use mathlib.Core.Path.{_≡_}
 use mathlib.Core.Bool.{Bool, true, false, not, cond, _&&_, _||_}
 use mathlib.Core.List.{List, [], _∷_}
-use Prim.Native.Nat.{ℕ, zero, suc, _+_, _≤_, _<_}
-use lib.ListN.{length, getD}
+use Prim.Native.Nat.{ℕ, zero, suc, _+_}
 use lib.IntN.{ℤ}
 use lib.Dec.{leb, ltb, eqb}
 use Rattle.variants_and_fragments.specs.declared.Sizes.{Sizes}
 use Rattle.variants_and_fragments.specs.First.{firstFail}
-use Rattle.variants_and_fragments.specs.Layout.{maxCalls, callVariantAt}
+use Rattle.variants_and_fragments.specs.Layout.{callVariantAt}
 pub use Rattle.variants_and_fragments.specs.Layout.{firstCallAt, strandAt, nextCallAt}
 
 -- ---- a chain
 abbrev pub isRecord : Sizes → ℕ → Bool
 isRecord s r = leb 1 r && leb r (s .c)
-
--- where fragment f's chain starts: its first call, and 0 where that is no record (absent, −1, or past C)
-unfoldable pub firstRecordAt : List ℤ → Sizes → ℕ → ℕ
-firstRecordAt w s f = cond (isRecord s (firstCallAt w s f)) (firstCallAt w s f) 0
 
 -- the records from r on, k at most; what is no record ends the chain
 unfoldable pub chainFrom : List ℤ → Sizes → ℕ → ℕ → List ℕ
@@ -82,29 +76,3 @@ abbrev pub chainFault : List ℤ → Sizes → ℕ
 chainFault w s = chainFaultAt (firstFail (fragmentOk w s) (s .f)) (s .f) (firstFail (isReached w s) (s .c)) (s .c)
 
 -- ---- what the check's functions promise. Flags: what stands at x is 1 where x is in l, and 0 elsewhere
-abbrev pub flag : Bool → ℕ
-flag true = 1
-flag false = 0
-
-pub record Marked (seen : List ℕ) (l : List ℕ) : Type 0 where
-  pub long : maxCalls < length seen
-  pub marks : (x : ℕ) → x ≤ maxCalls → getD seen x 0 ≡ flag (memb x l)
-
--- what a walk of fragment f's chain answers, and that the flags then mark its records too
-pub record Walked (w : List ℤ) (s : Sizes) (f : ℕ) (seen : List ℕ) (r : Bool) : Type 0 where
-  pub ok : r ≡ goodChain w s (reached w s f) (chainOf w s f)
-  pub marked : r ≡ true → Marked seen (reached w s (suc f))
-
--- the same of fragment f's test
-pub record FragmentChecked (w : List ℤ) (s : Sizes) (f : ℕ) (seen : List ℕ) (r : Bool) : Type 0 where
-  pub ok : r ≡ fragmentOk w s f
-  pub marked : r ≡ true → Marked seen (reached w s (suc f))
-
--- and of all fragments' tests
-pub record FragmentsChecked (w : List ℤ) (s : Sizes) (seen : List ℕ) (r : ℕ) : Type 0 where
-  pub at : r ≡ firstFail (fragmentOk w s) (s .f)
-  pub marked : r ≡ s .f → Marked seen (reached w s (s .f))
-
--- record i + 1 has its flag
-abbrev pub markedAt : List ℕ → ℕ → Bool
-markedAt seen i = eqb (getD seen (i + 1) 0) 1

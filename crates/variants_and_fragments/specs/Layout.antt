@@ -1,10 +1,9 @@
 -- 01, section 2: the layout of a case, the one place that knows where a word stands; and under the numbers 1, 2 and 4 of
 -- "Refusals by number and place" what is asked of the head, of a variant record and of a call record. w is the words, s the sizes.
 -- Assumes nothing.
-use mathlib.Core.Path.{_≡_}
 use mathlib.Core.Bool.{Bool, true, cond, _&&_}
 use mathlib.Core.List.{List, [], _∷_}
-use Prim.Native.Nat.{ℕ, _+_, _*_, _-_, _≤_, _<_}
+use Prim.Native.Nat.{ℕ, _+_, _*_, _-_}
 use lib.ListN.{length}
 use lib.IntN.{ℤ, pos, negℤ}
 use lib.Signed.{leZ}
@@ -168,13 +167,6 @@ oneMinusQualAt w s r = word w (callAt s r + oneMinusQualField)
 abbrev pub nextCallAt : List ℤ → Sizes → ℕ → ℕ
 nextCallAt w s r = natAt w (callAt s r + nextField)
 
--- the words of w are laid out by s
-pub record Sized (w : List ℤ) (s : Sizes) : Type 0 where
-  pub size : length w ≡ totalWords s
-  pub n-top : s .n ≤ maxVariants
-  pub f-top : s .f ≤ maxFragments
-  pub c-top : s .c ≤ maxCalls
-
 -- ---- 1, the head: words 0 to 3, and at 4 the length
 abbrev pub headTests : List ℤ → List Bool
 headTests w =
@@ -222,21 +214,6 @@ variantTests w v =
 
 unfoldable pub variantOk : List ℤ → ℕ → Bool
 variantOk w v = allOf (variantTests w v)
-
--- what the tests say; the lengths of alleles that are present are at least 1, the others 0
-pub record VariantIn (w : List ℤ) (v : ℕ) : Type 0 where
-  pub pos-in : leZ (pos 0) (pos0WordAt w v) ≡ true
-  pub rises : priorPos0At w v ≤ pos0At w v
-  pub dp-in : leZ (pos 0) (depthWordAt w v) ≡ true
-  pub k-low : 1 ≤ alleleCountAt w v
-  pub k-high : alleleCountAt w v ≤ maxAlleles
-  pub a-in : genotypeAt w v 0 < alleleCountAt w v
-  pub b-in : genotypeAt w v 1 < alleleCountAt w v
-  pub len0 : lengthAt w v 0 ≤ maxAlleleLength
-  pub len1 : lengthAt w v 1 ≤ maxAlleleLength
-  pub len2 : lengthAt w v 2 ≤ maxAlleleLength
-  pub present : (j : ℕ) → j < alleleCountAt w v → 1 ≤ lengthAt w v j
-  pub absent : (j : ℕ) → alleleCountAt w v ≤ j → j < maxAlleles → lengthAt w v j ≡ 0
 
 -- ---- 4, a call record
 -- its variant is one of the case, its allele below that variant's k, and both qualities are in −262144..0

@@ -6,11 +6,9 @@ pub mod First
 pub mod Layout
 pub mod Chain
 pub mod Check
-pub mod Accepted
-pub mod Fold
-pub mod ChainCalls
 pub mod Alleles
 pub mod Written
 pub mod Decode
 pub mod Encode
 pub mod Pileup
+pub mod Inner

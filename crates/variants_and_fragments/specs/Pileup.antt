@@ -4,9 +4,9 @@ use mathlib.Core.Bool.{Bool, not, cond, _&&_}
 use mathlib.Core.List.{List, [], _∷_, _++_, map}
 use Prim.Native.Nat.{ℕ, suc, _+_}
 use lib.Dec.{eqb}
-use lib.IntN.{ℤ, pos}
+use lib.IntN.{ℤ}
 use lib.ListN.{length}
-use Rattle.variants_and_fragments.specs.Case.{Case, Fragment, Call, usable, fragmentOf}
+use Rattle.variants_and_fragments.specs.Case.{Case, Fragment, Call, usable}
 
 -- those of a list of which p holds
 unfoldable pub only : {X : Type 0} → (X → Bool) → List X → List X
@@ -21,10 +21,6 @@ pub record Row : Type 0 where
 abbrev pub rowOf : ℕ → Call → Row
 rowOf f call = record { fragment = f; call = call }
 
--- what stands past the end of a list of rows; nothing reads it
-abbrev pub noRow : Row
-noRow = rowOf 0 (record { variant = 0; allele = 0; qual = pos 0; one-minus-qual = pos 0 })
-
 -- the usable calls of a fragment
 unfoldable pub usableCalls : ℤ → Fragment → List Call
 unfolding only
@@ -37,10 +33,6 @@ rowsFrom cutoff f (x ∷ xs) = map (rowOf f) (usableCalls cutoff x) ++ rowsFrom 
 
 unfoldable pub rowsOf : Case → List Row
 rowsOf case = rowsFrom (case .cutoff) 0 (case .fragments)
-
--- the usable calls of fragment f
-unfoldable pub fragmentRows : Case → ℕ → List Row
-fragmentRows case f = map (rowOf f) (usableCalls (case .cutoff) (fragmentOf case f))
 
 abbrev pub atVariant : ℕ → Row → Bool
 atVariant v row = eqb (row .call .variant) v

@@ -1,11 +1,8 @@
 -- Sums over a list and over the numbers below one, and the range in which log probabilities and their sums lie. Every total of 01's sections 4 and 6 is such a sum.
 -- Assumes nothing.
-use mathlib.Core.Path.{_≡_}
-use mathlib.Core.Bool.{true}
 use mathlib.Core.List.{List, [], _∷_}
 use Prim.Native.Nat.{ℕ, zero, suc, _+_}
-use lib.IntN.{ℤ, pos, negℤ, _+ℤ_}
-use lib.Signed.{leZ}
+use lib.IntN.{ℤ, pos, _+ℤ_}
 
 -- the sum of g x over the elements x of a list
 unfoldable pub sumOver : {X : Type 0} → List X → (X → ℤ) → ℤ
@@ -26,8 +23,3 @@ sumTo (suc n) f = sumTo n f +ℤ f n
 unfoldable pub countTo : ℕ → (ℕ → ℕ) → ℕ
 countTo zero f = 0
 countTo (suc n) f = countTo n f + f n
-
--- z lies in −n..0
-pub record DownTo (n : ℕ) (z : ℤ) : Type 0 where
-  pub low : leZ (negℤ (pos n)) z ≡ true
-  pub high : leZ z (pos 0) ≡ true

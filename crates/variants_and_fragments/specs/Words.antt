@@ -34,6 +34,3 @@ debtOf (negsuc n) = suc n
 -- word i of w, in each reading
 abbrev pub natAt : List ℤ → ℕ → ℕ
 natAt w i = natOf (getD w i (pos 0))
-
-abbrev pub debtAt : List ℤ → ℕ → ℕ
-debtAt w i = debtOf (getD w i (pos 0))

@@ -3,8 +3,9 @@ ghost use mathlib.Core.Path.{_≡_};
 ghost use Prim.Native.Nat.{_+_, _<_, _≤_};
 ghost use lib.ListN.{length};
 ghost use Rattle.variants_and_fragments.specs.First.{firstFail};
-ghost use Rattle.variants_and_fragments.specs.Layout.{Sized};
-ghost use Rattle.variants_and_fragments.specs.Alleles.{allelesLength, allelesStart, isBase, baseOkAt, allelesOk, allelesFault, VariantsIn};
+ghost use Rattle.variants_and_fragments.specs.Inner.Layout.{Sized};
+ghost use Rattle.variants_and_fragments.specs.Alleles.{allelesLength, allelesStart, isBase, baseOkAt, allelesOk, allelesFault};
+ghost use Rattle.variants_and_fragments.specs.Inner.Alleles.{VariantsIn};
 use crate::Sizes;
 use crate::layout::allele_length;
 

@@ -4,10 +4,12 @@ ghost use Prim.Native.Nat.{_+_, _<_, _≤_};
 ghost use lib.ListN.{length};
 ghost use lib.IntN.{pos};
 ghost use lib.Signed.{leZ};
-ghost use Rattle.variants_and_fragments.specs.Words.{natOf, debtOf, word, within, natAt, debtAt};
-ghost use Rattle.variants_and_fragments.specs.Layout.{Sized, sizesOf, lowestQuality, headWords, variantWords, fragmentWords, callWords, totalWords, maxVariants, maxFragments, maxCalls, variantAt, fragmentAt, callAt, cutoffAt, qualAt, oneMinusQualAt, pos0WordAt, depthWordAt, pos0At, depthAt, genotypeAt, alleleCountAt, lengthAt, callVariantAt, calledAlleleAt, firstCallAt, strandAt, nextCallAt};
-ghost use Rattle.variants_and_fragments.specs.Chain.{firstRecordAt};
-ghost use Rattle.variants_and_fragments.specs.Alleles.{VariantsIn};
+ghost use Rattle.variants_and_fragments.specs.Words.{natOf, debtOf, word, within, natAt};
+ghost use Rattle.variants_and_fragments.specs.Inner.Words.{debtAt};
+ghost use Rattle.variants_and_fragments.specs.Layout.{sizesOf, lowestQuality, headWords, variantWords, fragmentWords, callWords, totalWords, maxVariants, maxFragments, maxCalls, variantAt, fragmentAt, callAt, cutoffAt, qualAt, oneMinusQualAt, pos0WordAt, depthWordAt, pos0At, depthAt, genotypeAt, alleleCountAt, lengthAt, callVariantAt, calledAlleleAt, firstCallAt, strandAt, nextCallAt};
+ghost use Rattle.variants_and_fragments.specs.Inner.Layout.{Sized};
+ghost use Rattle.variants_and_fragments.specs.Inner.Chain.{firstRecordAt};
+ghost use Rattle.variants_and_fragments.specs.Inner.Alleles.{VariantsIn};
 ghost use mathlib.Core.Bool.{true};
 use crate::Sizes;
 

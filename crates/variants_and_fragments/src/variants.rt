@@ -2,7 +2,8 @@
 ghost use mathlib.Core.Path.{_≡_};
 ghost use Prim.Native.Nat.{_<_};
 ghost use Rattle.variants_and_fragments.specs.First.{firstFail};
-ghost use Rattle.variants_and_fragments.specs.Layout.{Sized, priorPos0At, lengthOk, variantOk};
+ghost use Rattle.variants_and_fragments.specs.Layout.{priorPos0At, lengthOk, variantOk};
+ghost use Rattle.variants_and_fragments.specs.Inner.Layout.{Sized};
 use crate::Sizes;
 use crate::layout::MAX_ALLELE_LENGTH;
 use crate::layout::MAX_ALLELES;

@@ -19,7 +19,8 @@ use Rattle.genotype_probs.specs.Posteriors.{tableSum, normalized, entryAt, post
 use Rattle.genotype_probs.proofs.AlleleLaws.{nine}
 use Rattle.genotype_probs.proofs.Maxima.{maximum-same, maximum-shifted}
 use Rattle.shuffle.specs.Permutation.{Permutation, times}
-use Rattle.sweeps.specs.Sweeps.{SweepCase, GoodHaps, allele0, allele1, bestPair, visit, sweep}
+use Rattle.sweeps.specs.Sweeps.{SweepCase, allele0, allele1, bestPair, visit, sweep}
+use Rattle.sweeps.specs.Inner.Sweeps.{GoodHaps}
 use Rattle.sweeps.specs.Demand3.{after}
 use Rattle.sweeps.proofs.Basics.{length-put, at0-same, at1-same, at0-other, at1-other}
 use Rattle.with_haplotypes.specs.Finals.{finalOf}

@@ -25,16 +25,18 @@ use Rattle.genotype_probs.specs.Posteriors.{normalized, mirror, isOther, others
 use Rattle.genotype_probs.proofs.AlleleLaws.{nine}
 use Rattle.genotype_probs.proofs.Maxima.{genotype-maximum}
 use Rattle.genotype_probs.specs.declared.Rates.{Rates}
-use Rattle.sweeps.specs.Sweeps.{SweepCase, GoodSweepCase, allele0, likelihood, score}
+use Rattle.sweeps.specs.Sweeps.{SweepCase, allele0, likelihood, score}
+use Rattle.sweeps.specs.Inner.Sweeps.{GoodSweepCase}
 use Rattle.sweeps.specs.Demand3.{Demand3}
-use Rattle.sweeps.specs.Posts.{posts}
+use Rattle.sweeps.specs.Inner.Posts.{posts}
 use Rattle.sweeps.proofs.Basics.{lik-cong}
 use Rattle.sweeps.proofs.Posts.{length-posts}
-use Rattle.with_haplotypes.specs.Finals.{finalOf, finalAt, TablesIn, FinalsWritten}
-use Rattle.likelihoods.specs.Likelihoods.{alleleOn}
-use Rattle.call_genotypes.specs.Runs.{resultOf}
-use Rattle.call_genotypes.specs.Scores.{overFirst, SweepState}
-use Rattle.with_haplotypes.specs.NormalizedPosteriors.{normalizedAt, TablesAt}
+use Rattle.with_haplotypes.specs.Finals.{finalOf}
+use Rattle.with_haplotypes.specs.Inner.Finals.{finalAt, TablesIn, FinalsWritten}
+use Rattle.likelihoods.specs.Inner.Likelihoods.{alleleOn}
+use Rattle.call_genotypes.specs.Inner.Runs.{resultOf}
+use Rattle.call_genotypes.specs.Inner.Scores.{overFirst, SweepState}
+use Rattle.with_haplotypes.specs.Inner.NormalizedPosteriors.{normalizedAt, TablesAt}
 use Rattle.genotype_probs.proofs.SameTables.{genotype-same}
 use Rattle.likelihoods.proofs.HeldCases.{alleles-are}
 use Rattle.with_haplotypes.proofs.NormalizedTables.{normalized-here, normalized-same}
@@ -43,7 +45,7 @@ use Rattle.likelihoods.proofs.SweepCases as cases
 use Rattle.with_haplotypes.specs.declared.RoundAnswer.{RoundAnswer}
 use Rattle.with_haplotypes.specs.declared.RoundSizes.{RoundSizes}
 use Rattle.with_haplotypes.specs.Round.{RunInput, runInput, sweepCase, orderOfSweep, result, returned, haplotypeAt, likelihoodAt, latestScore, posteriors, posteriorAt, final}
-use Rattle.with_haplotypes.specs.Steps.{CaseGiven, OrdersGiven, AlleleCounts, RunMade}
+use Rattle.with_haplotypes.specs.Inner.Steps.{CaseGiven, OrdersGiven, AlleleCounts, RunMade}
 use Rattle.with_haplotypes.proofs.Latest.{posts-latest, posts-past}
 use Rattle.with_haplotypes.proofs.RunLaws.{known, variants-counted, orders-good}
 use Rattle.with_haplotypes.proofs.ScoreBounds.{number-small}

@@ -15,13 +15,14 @@ use lib.Seq.{sets, length-sets}
 use Rattle.steps.proofs.Signed.{cases, by-test}
 use Rattle.variants_and_fragments.proofs.Decoded.{tabulate-length, tabulate-at}
 use Rattle.shuffle.specs.Permutation.{Permutation, member, times}
-use Rattle.sweeps.specs.Sweeps.{SweepCase, GoodSweepCase, score, visit}
+use Rattle.sweeps.specs.Sweeps.{SweepCase, score, visit}
+use Rattle.sweeps.specs.Inner.Sweeps.{GoodSweepCase}
 use Rattle.sweeps.specs.Demand3.{after}
-use Rattle.sweeps.specs.Posts.{recorded, posts}
+use Rattle.sweeps.specs.Inner.Posts.{recorded, posts}
 use Rattle.sweeps.proofs.Basics.{or-l, or-r}
 use Rattle.sweeps.proofs.Posts.{length-posts}
 use Rattle.sweeps.proofs.Visit.{square-nine}
-use Rattle.call_genotypes.specs.Scores.{overFirst}
+use Rattle.call_genotypes.specs.Inner.Scores.{overFirst}
 use Rattle.call_genotypes.proofs.Tables.{sets-before, sets-after, sets-at}
 use Rattle.with_haplotypes.specs.Round.{atVisit}
 

@@ -14,11 +14,13 @@ use Rattle.steps.specs.Logs.{sumExp}
 use Rattle.steps.proofs.Signed.{by-test, zlin, parts-add, parts-minus}
 use Rattle.steps.proofs.Sums.{sum-shift}
 use Rattle.variants_and_fragments.specs.Decode.{tabulateFrom, tabulate}
-use Rattle.variants_and_fragments.specs.Written.{writtenFrom, written}
+use Rattle.variants_and_fragments.specs.Written.{written}
+use Rattle.variants_and_fragments.specs.Inner.Written.{writtenFrom}
 use Rattle.variants_and_fragments.proofs.Written.{written-at, written-length, written-past, from-after}
-use Rattle.genotype_probs.specs.Posteriors.{sumOf, entryAt, rowSum, tableSum, normalized, TableAt}
+use Rattle.genotype_probs.specs.Posteriors.{sumOf, entryAt, rowSum, tableSum, normalized}
+use Rattle.genotype_probs.specs.Inner.Posteriors.{TableAt}
 use Rattle.genotype_probs.proofs.TableSums.{tabulate-cong, place-in}
-use Rattle.with_haplotypes.specs.NormalizedPosteriors.{normalizedAt}
+use Rattle.with_haplotypes.specs.Inner.NormalizedPosteriors.{normalizedAt}
 
 -- past the first n all is as it was
 written-rest : {X : Type 0} (g : ℕ → X) (n m : ℕ) (l : List X) → n ≤ m → drop m (written g n l) ≡ drop m l

@@ -27,7 +27,8 @@ use Rattle.haplotype_assembly.proofs.PhaseAnswers.{faultless}
 use Rattle.shuffle.specs.Answers.{ordersOutcome, firstBadOrder}
 use Rattle.shuffle.specs.Orders.{orderCount}
 use Rattle.shuffle.proofs.GoodOrders.{unless-done, orders-good}
-use Rattle.sweeps.specs.Sweeps.{SweepCase, GoodSweepCase, phasedTotal, sourceTotal}
+use Rattle.sweeps.specs.Sweeps.{SweepCase, phasedTotal, sourceTotal}
+use Rattle.sweeps.specs.Inner.Sweeps.{GoodSweepCase}
 use Rattle.sweeps.proofs.Run.{after-good}
 use Rattle.likelihoods.proofs.SweepCases.{good-sweep-case}
 use Rattle.genotype_probs.specs.Normalized.{firstNotNormal}
@@ -37,7 +38,7 @@ use Rattle.with_haplotypes.specs.declared.RoundSizes.{RoundSizes}
 use Rattle.with_haplotypes.specs.declared.Round.the-variants.{Done, Refused}
 use Rattle.with_haplotypes.specs.Round.{RoundInput, caseOfRound, runOf, sweepCase, orderOfSweep, result, returned, posteriors, latestScore, final}
 use Rattle.with_haplotypes.specs.Promise.{RoundSlices, roundShort, shortOfSlices, limitChecks, roundChecks, roundOutcome, outcomeOf, ToldTotals, pairOn, CalledWithHaplotypes}
-use Rattle.with_haplotypes.specs.Steps.{Admitted, RoundRoom, RoundMade}
+use Rattle.with_haplotypes.specs.Inner.Steps.{Admitted, RoundRoom, RoundMade}
 use Rattle.with_haplotypes.proofs.RunLaws.{known, variants-counted}
 use Rattle.with_haplotypes.proofs.RunLaws as runs
 use Rattle.with_haplotypes.proofs.StartLaws.{start-good}

@@ -10,33 +10,34 @@ use lib.Dec.{eqb}
 use lib.IntN.{ℤ}
 use lib.ListN.{length, getD}
 use Rattle.variants_and_fragments.specs.declared.Sizes.{Sizes}
-use Rattle.variants_and_fragments.specs.Accepted.{CaseIn, allb}
+use Rattle.variants_and_fragments.specs.Inner.Accepted.{CaseIn, allb}
 use Rattle.variants_and_fragments.specs.Written.{written}
 use Rattle.variants_and_fragments.proofs.Accepted.{case-in}
 use Rattle.variants_and_fragments.proofs.Bools.{both}
 use Rattle.variants_and_fragments.proofs.Decoded.{variants-are}
-use Rattle.pileup.specs.Packed.{groupStart}
+use Rattle.pileup.specs.Inner.Packed.{groupStart}
 use Rattle.genotype_probs.specs.declared.Rates.{Rates}
 use Rattle.shuffle.specs.Permutation.{Permutation}
 use Rattle.shuffle.specs.Orders.{orderCount}
-use Rattle.sweeps.specs.Sweeps.{SweepCase, GoodHaps, totalOf, phasedTotal, sourceTotal}
+use Rattle.sweeps.specs.Sweeps.{SweepCase, totalOf, phasedTotal, sourceTotal}
+use Rattle.sweeps.specs.Inner.Sweeps.{GoodHaps}
 use Rattle.sweeps.proofs.Run.{after-good}
-use Rattle.likelihoods.specs.Held.{sweepReads, Held, Liks, Within}
-use Rattle.likelihoods.specs.Likelihoods.{CallsIn, EndsIn, flagged, likelihoodAt}
-use Rattle.likelihoods.specs.Totals.{heldCase, standingTotal, PriorsIn}
+use Rattle.likelihoods.specs.Inner.Held.{sweepReads, Held, Liks, Within}
+use Rattle.likelihoods.specs.Inner.Likelihoods.{CallsIn, EndsIn, flagged, likelihoodAt}
+use Rattle.likelihoods.specs.Inner.Totals.{heldCase, standingTotal, PriorsIn}
 use Rattle.likelihoods.proofs.CallsHeld.{calls-in, ends-in-order}
 use Rattle.likelihoods.proofs.HeldCases.{counted, held, frags-counted}
 use Rattle.likelihoods.proofs.LikelihoodsHeld.{liks-held}
 use Rattle.likelihoods.proofs.TotalsHeld.{priors-in, standing-total-held, source-total-held}
 use Rattle.call_genotypes.specs.declared.run.Plan.{Plan}
 use Rattle.call_genotypes.specs.declared.run.RunAnswer.{RunAnswer}
-use Rattle.call_genotypes.specs.Scores.{SweepState, sweepState}
-use Rattle.call_genotypes.specs.Runs.{orderOf, RunStart, Ran}
+use Rattle.call_genotypes.specs.Inner.Scores.{SweepState, sweepState}
+use Rattle.call_genotypes.specs.Inner.Runs.{orderOf, RunStart, Ran}
 use Rattle.call_genotypes.proofs.Linked.{lik-within}
 use Rattle.with_haplotypes.specs.declared.RoundAnswer.{RoundAnswer}
 use Rattle.with_haplotypes.specs.declared.RoundSizes.{RoundSizes}
 use Rattle.with_haplotypes.specs.Round.{RunInput, runInput, sweepCase, orderOfSweep, result}
-use Rattle.with_haplotypes.specs.Steps.{CaseGiven, OrdersGiven, Scratch, ScratchRoom, Prepared, RunGiven, SomePhased, RunMade, RunPromise, PreparedRun, PreparedPromise}
+use Rattle.with_haplotypes.specs.Inner.Steps.{CaseGiven, OrdersGiven, Scratch, ScratchRoom, Prepared, RunGiven, SomePhased, RunMade, RunPromise, PreparedRun, PreparedPromise}
 use Rattle.with_haplotypes.proofs.OrdersHeld.{order-good}
 
 -- each of a list of ones is 1

@@ -12,12 +12,14 @@ use lib.ListN.{length}
 use Rattle.steps.proofs.Signed.{zlin, up-pos, dn-pos, neg-up, neg-dn, natAbs-parts, parts-add, parts-minus}
 use Rattle.steps.proofs.AddExp.{add-least, add-below}
 use Rattle.variants_and_fragments.specs.declared.Sizes.{Sizes}
-use Rattle.variants_and_fragments.specs.Case.{Case, Variant, Fragment, Call, variantOf, alleleOf, rising, All, GoodCase, GoodFragment}
+use Rattle.variants_and_fragments.specs.Case.{Case, Variant, Fragment, Call, variantOf, alleleOf}
+use Rattle.variants_and_fragments.specs.Inner.Case.{rising, All, GoodCase, GoodFragment}
 use Rattle.variants_and_fragments.specs.Check.{caseOf}
 use Rattle.variants_and_fragments.specs.Refusals.{done}
 use Rattle.variants_and_fragments.specs.Decode.{decode}
 use Rattle.variants_and_fragments.specs.Pileup.{usableCalls}
-use Rattle.variants_and_fragments.specs.Sums.{sumOver, countOver, DownTo, sumTo}
+use Rattle.variants_and_fragments.specs.Sums.{sumOver, countOver, sumTo}
+use Rattle.variants_and_fragments.specs.Inner.Sums.{DownTo}
 use Rattle.variants_and_fragments.proofs.Alls.{all-imp, all-map}
 use Rattle.variants_and_fragments.proofs.Bounds.{down-low, down-high, down-in, down-zero, down-more, down-add, down-sum, calls-sum}
 use Rattle.variants_and_fragments.proofs.GoodCases.{good-case}
@@ -28,9 +30,10 @@ use Rattle.genotype_probs.specs.Priors.{getPrior}
 use Rattle.genotype_probs.proofs.ListLaws.{down-abs}
 use Rattle.genotype_probs.proofs.PriorBounds.{Down, prior-down}
 use Rattle.genotype_probs.proofs.RateLaws.{rates-in}
-use Rattle.sweeps.specs.Sweeps.{SweepCase, allele0, allele1, putPair, likelihood, hasCall, perCall, readShare, withOwn, scoreWith, score, totalOf, mixOf}
+use Rattle.sweeps.specs.Sweeps.{SweepCase, allele0, allele1, putPair, likelihood, perCall, readShare, withOwn, scoreWith, score, totalOf, mixOf}
+use Rattle.sweeps.specs.Inner.Sweeps.{hasCall}
 use Rattle.sweeps.proofs.Basics.{one-call}
-use Rattle.likelihoods.specs.Likelihoods.{callShare}
+use Rattle.likelihoods.specs.Inner.Likelihoods.{callShare}
 use Rattle.likelihoods.specs.SweepCaseOf.{sweepCaseOf}
 use Rattle.likelihoods.proofs.SweepCases.{likelihood-sum, cond-down, share-down, variants-are, mix-is}
 

@@ -13,16 +13,16 @@ use Rattle.variants_and_fragments.specs.Written.{written}
 use Rattle.variants_and_fragments.proofs.GoodCases.{good-case}
 use Rattle.variants_and_fragments.proofs.Written.{written-at, written-length, written-past}
 use Rattle.haplotype_assembly.specs.Phase.{flagOf, phasedFlags, startHaplotypes}
-use Rattle.haplotype_assembly.specs.PhaseRead.{startAt, flagsAt}
+use Rattle.haplotype_assembly.specs.Inner.PhaseRead.{startAt, flagsAt}
 use Rattle.haplotype_assembly.proofs.Decodes.{count-is, start-is, flag-is}
 use Rattle.haplotype_assembly.proofs.Start.{start-length, start-written, start-first-below, start-second-below}
-use Rattle.sweeps.specs.Sweeps.{GoodHaps}
+use Rattle.sweeps.specs.Inner.Sweeps.{GoodHaps}
 use Rattle.likelihoods.specs.SweepCaseOf.{sweepCaseOf}
-use Rattle.call_genotypes.specs.Scores.{SweepState, sweepState}
+use Rattle.call_genotypes.specs.Inner.Scores.{SweepState, sweepState}
 use Rattle.with_haplotypes.specs.declared.RoundAnswer.{RoundAnswer}
 use Rattle.with_haplotypes.specs.declared.RoundSizes.{RoundSizes}
 use Rattle.with_haplotypes.specs.Round.{runInput, RoundInput, caseOfRound, runOf, sweepCase}
-use Rattle.with_haplotypes.specs.Steps.{Admitted, AlleleCounts, RunGiven, RunMade}
+use Rattle.with_haplotypes.specs.Inner.Steps.{Admitted, AlleleCounts, RunGiven, RunMade}
 
 -- a written slice is as long as it was
 pub as-long : {X : Type 0} (g : ℕ → X) (n : ℕ) (l l' : List X) → l' ≡ written g n l → length l' ≡ length l

@@ -1,5 +1,4 @@
 pub mod Round
 pub mod Promise
-pub mod Steps
 pub mod Finals
-pub mod NormalizedPosteriors
+pub mod Inner

@@ -3,7 +3,7 @@ ghost use mathlib.Core.Path.{_≡_};
 ghost use Prim.Native.Nat.{_*_, _≤_};
 ghost use lib.ListN.{length};
 ghost use Rattle.with_haplotypes.specs.Round.{roundInput, runOf};
-ghost use Rattle.with_haplotypes.specs.Steps.{Admitted, RoundRoom, RoundMade};
+ghost use Rattle.with_haplotypes.specs.Inner.Steps.{Admitted, RoundRoom, RoundMade};
 ghost use Rattle.with_haplotypes.specs.Promise.{roundSlices};
 use crate::RoundAnswer;
 use crate::RoundSizes;

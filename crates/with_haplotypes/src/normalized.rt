@@ -3,7 +3,7 @@ ghost use mathlib.Core.Path.{_≡_};
 ghost use Prim.Native.Nat.{_*_};
 ghost use Rattle.steps.specs.Table.{knots};
 ghost use Rattle.variants_and_fragments.specs.Written.{written};
-ghost use Rattle.with_haplotypes.specs.NormalizedPosteriors.{normalizedAt, TablesAt};
+ghost use Rattle.with_haplotypes.specs.Inner.NormalizedPosteriors.{normalizedAt, TablesAt};
 use genotype_probs::posteriors;
 
 // Normalizes the scores of each of n variants, in nine places a variant, with zeros past its k × k. At the loop's head those of the first v

@@ -8,13 +8,13 @@ use native.Mathlib.Omega.{arith}
 use borrow.Author.Needs.{needs}
 use denote.Ref.{now}
 use Rattle.variants_and_fragments.specs.declared.Sizes.{Sizes}
-use Rattle.variants_and_fragments.specs.Accepted.{CaseIn}
+use Rattle.variants_and_fragments.specs.Inner.Accepted.{CaseIn}
 use Rattle.variants_and_fragments.specs.Check.{caseOf}
 use Rattle.variants_and_fragments.specs.Decode.{decode}
-use Rattle.variants_and_fragments.specs.Pileup.{fragmentRows}
+use Rattle.variants_and_fragments.specs.Inner.Pileup.{fragmentRows}
 use Rattle.variants_and_fragments.specs.Refusals.{done}
-use Rattle.pileup.specs.Packed.{Grouped}
-use Rattle.haplotype_assembly.specs.LinesRead.{LinesGiven}
+use Rattle.pileup.specs.Inner.Packed.{Grouped}
+use Rattle.haplotype_assembly.specs.Inner.LinesRead.{LinesGiven}
 use Rattle.haplotype_assembly.proofs.BufferAnswers.{buffer-case, buffer-short, buffer-done}
 use Rattle.haplotype_assembly.proofs.Decodes.{accepted-in}
 use Rattle.haplotype_assembly.proofs.LinesDecoded.{given}

@@ -17,9 +17,9 @@ use Rattle.steps.specs.Phred.{phredOf, capped}
 use Rattle.steps.proofs.Signed.{read-small}
 use Rattle.variants_and_fragments.specs.Layout.{alleleCountAt}
 use Rattle.genotype_probs.specs.declared.posteriors.GenotypePost.{GenotypePost}
-use Rattle.genotype_probs.specs.Posteriors.{TableAt}
+use Rattle.genotype_probs.specs.Inner.Posteriors.{TableAt}
 use Rattle.no_haplotypes.specs.NoHaplotypes.{calledFrom}
-use Rattle.no_haplotypes.specs.Calling.{PileHeld}
+use Rattle.no_haplotypes.specs.Inner.Calling.{PileHeld}
 use Rattle.no_haplotypes.proofs.CallLaws.{made-table, maximum-low, maximum-small, variant-called}
 use borrow.Author.Needs.{needs}
 use Rattle.no_haplotypes.proofs.call_variant.Statement.{statement}

@@ -1,7 +1,7 @@
 -- `check_orders` meets its contract, one law a return. Assumes nothing.
 use native.Mathlib.Omega.{arith}
 use borrow.Author.Needs.{needs}
-use Rattle.shuffle.specs.Answers.{checkedAs}
+use Rattle.shuffle.specs.Inner.Answers.{checkedAs}
 use Rattle.shuffle.proofs.Slices.{count-fills}
 use Rattle.shuffle.proofs.Outcomes.{no-orders, bad-order, good-orders}
 use Rattle.shuffle.proofs.check_orders.Statement.{statement}

@@ -7,7 +7,7 @@ use native.Mathlib.Nat.{le-refl}
 use denote.Ref.{now}
 use Rattle.variants_and_fragments.specs.Layout.{pos0At}
 use Rattle.var_filter.specs.Filter.{strong}
-use Rattle.var_filter.specs.FilterWindow.{WindowAt}
+use Rattle.var_filter.specs.Inner.FilterWindow.{WindowAt}
 use Rattle.var_filter.proofs.Windows.{ahead-top, window-strong, window-weak}
 use Rattle.var_filter.proofs.extend_window.Statement.{statement}
 use Rattle.var_filter.proofs.extend_window.Tie as tie

@@ -9,8 +9,10 @@ use denote.Ref.{now}
 use lib.IntN.{ℤ}
 use Rattle.variants_and_fragments.specs.declared.Sizes.{Sizes}
 use Rattle.variants_and_fragments.specs.Refusals.{Outcome, refused, done, stop}
-use Rattle.variants_and_fragments.specs.Layout.{Sized, headFault}
-use Rattle.variants_and_fragments.specs.Alleles.{allelesFault, VariantsIn}
+use Rattle.variants_and_fragments.specs.Layout.{headFault}
+use Rattle.variants_and_fragments.specs.Inner.Layout.{Sized}
+use Rattle.variants_and_fragments.specs.Alleles.{allelesFault}
+use Rattle.variants_and_fragments.specs.Inner.Alleles.{VariantsIn}
 use Rattle.variants_and_fragments.specs.Chain.{chainFault}
 use Rattle.variants_and_fragments.specs.Check.{variantFault, callFault, caseOf, outcomeOf}
 use Rattle.variants_and_fragments.proofs.Outcomes.{stop-at, stop-on}

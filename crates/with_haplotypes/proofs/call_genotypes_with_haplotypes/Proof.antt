@@ -7,13 +7,13 @@ use borrow.Author.Needs.{needs}
 use denote.Ref.{now}
 use lib.ListN.{length}
 use Rattle.variants_and_fragments.specs.declared.Sizes.{Sizes}
-use Rattle.variants_and_fragments.specs.Accepted.{CaseIn}
+use Rattle.variants_and_fragments.specs.Inner.Accepted.{CaseIn}
 use Rattle.variants_and_fragments.specs.Check.{caseOf}
 use Rattle.variants_and_fragments.specs.Refusals.{Outcome, done}
 use Rattle.variants_and_fragments.proofs.Accepted.{case-in}
 use Rattle.haplotype_assembly.proofs.PhaseAnswers.{case-accepted, case-refused}
 use Rattle.with_haplotypes.specs.Promise.{roundShort, roundChecks}
-use Rattle.with_haplotypes.specs.Steps.{checkedAs}
+use Rattle.with_haplotypes.specs.Inner.Steps.{checkedAs}
 use Rattle.with_haplotypes.proofs.RoundAnswers.{admits, answer-case, answer-checks, answer-done}
 use Rattle.with_haplotypes.proofs.call_genotypes_with_haplotypes.Statement.{statement}
 use Rattle.with_haplotypes.proofs.call_genotypes_with_haplotypes.Tie as tie

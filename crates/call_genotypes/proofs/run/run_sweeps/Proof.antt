@@ -6,9 +6,9 @@ use borrow.Author.Needs.{needs}
 use borrow.Author.Tests.{not-true, not-false}
 use lib.ListN.{length}
 use Rattle.sweeps.specs.Sweeps.{SweepCase}
-use Rattle.likelihoods.specs.Held.{sweepReads}
-use Rattle.call_genotypes.specs.Scores.{sweepState}
-use Rattle.call_genotypes.specs.Runs.{orderOf, RunStart}
+use Rattle.likelihoods.specs.Inner.Held.{sweepReads}
+use Rattle.call_genotypes.specs.Inner.Scores.{sweepState}
+use Rattle.call_genotypes.specs.Inner.Runs.{orderOf, RunStart}
 use Rattle.call_genotypes.proofs.Sweeping.{SameLengths}
 use Rattle.call_genotypes.proofs.Running.{Running, end-fits, running-start, running-sweep, running-step, run-settles, run-out}
 use Rattle.call_genotypes.proofs.run.run_sweeps.Statement.{statement}

@@ -9,7 +9,7 @@ use lib.IntN.{ℤ, pos, natAbs, _+ℤ_}
 use mir.Syntax.{w64}
 use mir.Val.{toZ, ofZ}
 use Rattle.steps.proofs.Signed.{read-small}
-use Rattle.call_genotypes.specs.Scores.{valueOf}
+use Rattle.call_genotypes.specs.Inner.Scores.{valueOf}
 use Rattle.call_genotypes.proofs.Fours.{four-added}
 use borrow.Author.Needs.{needs}
 use Rattle.call_genotypes.proofs.score.add_four.Statement.{statement}

@@ -10,8 +10,8 @@ use mir.Val.{SFits, toZ, ofZ}
 use mir.Facts.{toZ-ofZ}
 use Rattle.steps.proofs.Signed.{read-back}
 use Rattle.variants_and_fragments.specs.Pileup.{Row}
-use Rattle.pileup.specs.Packed.{rowFrom}
-use Rattle.call_genotypes.specs.Scores.{rowGap, rowMixes}
+use Rattle.pileup.specs.Inner.Packed.{rowFrom}
+use Rattle.call_genotypes.specs.Inner.Scores.{rowGap, rowMixes}
 use Rattle.call_genotypes.proofs.Sizes.{distance-size}
 use Rattle.call_genotypes.proofs.score.call_mixes.Statement.{statement}
 use Rattle.call_genotypes.proofs.score.call_mixes.Tie as tie

@@ -9,7 +9,7 @@ use mir.Syntax.{w64}
 use mir.Val.{toZ, ofZ}
 use mathlib.Core.Logic.{⊎-elim}
 use Rattle.steps.proofs.Signed.{read-small, sfits, add-abs, minus-abs, by-test, true-lt, false-lt}
-use Rattle.call_genotypes.specs.Scores.{onePlus}
+use Rattle.call_genotypes.specs.Inner.Scores.{onePlus}
 use Rattle.call_genotypes.proofs.Far.{far-low, far-high, above-here, above-add, above-less, below-here, below-add, below-less}
 use Rattle.call_genotypes.proofs.Sizes.{either-size, mix-values}
 use Rattle.call_genotypes.proofs.score.far_mixes.Statement.{statement}

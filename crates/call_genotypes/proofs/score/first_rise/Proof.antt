@@ -8,7 +8,7 @@ use lib.ListN.{getD}
 use lib.IntN.{ℤ, pos, natAbs, _-ℤ_}
 use mir.Syntax.{w64}
 use Rattle.steps.proofs.Signed.{minus-fits, minus-read}
-use Rattle.call_genotypes.specs.Scores.{sumsAt, riseOf}
+use Rattle.call_genotypes.specs.Inner.Scores.{sumsAt, riseOf}
 use Rattle.call_genotypes.proofs.Sizes.{first-rise-size}
 use Rattle.call_genotypes.proofs.score.first_rise.Statement.{statement}
 use Rattle.call_genotypes.proofs.score.first_rise.Tie as tie

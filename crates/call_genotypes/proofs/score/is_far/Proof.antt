@@ -1,6 +1,6 @@
 -- `call_genotypes::score::is_far` meets its contract: the second test decides where the first fails. Assumes nothing.
 use mir.Facts.{toZ-ofZ}
-use Rattle.call_genotypes.specs.Scores.{isFar}
+use Rattle.call_genotypes.specs.Inner.Scores.{isFar}
 use Rattle.call_genotypes.proofs.score.is_far.Statement.{statement}
 use Rattle.call_genotypes.proofs.score.is_far.Tie as tie
 

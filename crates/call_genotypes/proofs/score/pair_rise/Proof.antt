@@ -8,7 +8,7 @@ use lib.ListN.{getD}
 use lib.IntN.{pos, natAbs}
 use mir.Syntax.{w64}
 use Rattle.steps.proofs.Signed.{plus-fits, plus-read, read-small}
-use Rattle.call_genotypes.specs.Scores.{riseOf}
+use Rattle.call_genotypes.specs.Inner.Scores.{riseOf}
 use Rattle.call_genotypes.proofs.score.pair_rise.Statement.{statement}
 use Rattle.call_genotypes.proofs.score.pair_rise.Tie as tie
 

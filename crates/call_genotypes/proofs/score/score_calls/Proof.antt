@@ -5,8 +5,8 @@ use native.Mathlib.Omega.{arith}
 use borrow.Author.Needs.{needs}
 use lib.IntN.{natAbs}
 use Rattle.variants_and_fragments.specs.Pileup.{Row}
-use Rattle.pileup.specs.Packed.{rowFrom, rowAt}
-use Rattle.call_genotypes.specs.Scores.{rowMixes, valueOf, RowFits}
+use Rattle.pileup.specs.Inner.Packed.{rowFrom, rowAt}
+use Rattle.call_genotypes.specs.Inner.Scores.{rowMixes, valueOf, RowFits}
 use Rattle.call_genotypes.proofs.Sizes.{row-size}
 use Rattle.call_genotypes.proofs.Fours.{Summing, summing-start, summing-step, summing-end}
 use Rattle.call_genotypes.proofs.score.score_calls.Statement.{statement}

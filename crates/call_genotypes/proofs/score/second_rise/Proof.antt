@@ -8,7 +8,7 @@ use lib.IntN.{ℤ, pos, natAbs, _+ℤ_, _-ℤ_}
 use mir.Syntax.{w64}
 use mir.Val.{toZ, ofZ}
 use Rattle.steps.proofs.Signed.{minus-fits, minus-read, read-small, sfits}
-use Rattle.call_genotypes.specs.Scores.{riseOf}
+use Rattle.call_genotypes.specs.Inner.Scores.{riseOf}
 use Rattle.call_genotypes.proofs.Sizes.{second-rise-size}
 use Rattle.call_genotypes.proofs.score.second_rise.Statement.{statement}
 use Rattle.call_genotypes.proofs.score.second_rise.Tie as tie

@@ -12,7 +12,7 @@ use mir.Facts.{toZ-ofZ}
 use Rattle.steps.proofs.Signed.{read-back}
 use Rattle.genotype_probs.proofs.AlleleLaws.{nine}
 use Rattle.genotype_probs.proofs.Pairs.{pair-div, pair-mod, first-in}
-use Rattle.call_genotypes.specs.Scores.{pairRise, scoresOf, riseOf}
+use Rattle.call_genotypes.specs.Inner.Scores.{pairRise, scoresOf, riseOf}
 use Rattle.call_genotypes.proofs.Written.{Writing, writing-start, writing-row, writing-place, writing-end}
 use Rattle.call_genotypes.proofs.score.write_scores.Statement.{statement}
 use Rattle.call_genotypes.proofs.score.write_scores.Tie as tie

@@ -9,7 +9,7 @@ use mir.Syntax.{w64}
 use mir.Val.{toZ, ofZ}
 use Rattle.steps.proofs.Signed.{sfits, read-small}
 use Rattle.variants_and_fragments.specs.Case.{Call}
-use Rattle.pileup.specs.Packed.{rowFrom}
+use Rattle.pileup.specs.Inner.Packed.{rowFrom}
 use Rattle.sweeps.specs.Sweeps.{callTerm}
 use Rattle.call_genotypes.proofs.Sizes.{change-size}
 use Rattle.call_genotypes.proofs.visit.change.Statement.{statement}

@@ -9,9 +9,9 @@ use mir.Syntax.{w64}
 use mir.Val.{toZ, ofZ}
 use Rattle.steps.proofs.Signed.{read-back}
 use Rattle.variants_and_fragments.specs.Pileup.{Row}
-use Rattle.pileup.specs.Packed.{rowFrom, rowAt}
+use Rattle.pileup.specs.Inner.Packed.{rowFrom, rowAt}
 use Rattle.sweeps.specs.Sweeps.{callTerm}
-use Rattle.call_genotypes.specs.Scores.{RowFits}
+use Rattle.call_genotypes.specs.Inner.Scores.{RowFits}
 use Rattle.call_genotypes.proofs.Sizes.{qual-size, other-size, row-change-size}
 use Rattle.call_genotypes.proofs.Moving.{Moving, moving-start, moving-step, moving-end}
 use Rattle.call_genotypes.proofs.visit.move_liks.Statement.{statement}

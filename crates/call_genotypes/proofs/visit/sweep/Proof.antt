@@ -5,9 +5,9 @@ use native.Mathlib.Omega.{arith}
 use borrow.Author.Needs.{needs}
 use lib.ListN.{length}
 use Rattle.sweeps.specs.Sweeps.{SweepCase}
-use Rattle.likelihoods.specs.Held.{sweepReads}
-use Rattle.call_genotypes.specs.Scores.{sweepState}
-use Rattle.call_genotypes.specs.Visits.{SweepStart}
+use Rattle.likelihoods.specs.Inner.Held.{sweepReads}
+use Rattle.call_genotypes.specs.Inner.Scores.{sweepState}
+use Rattle.call_genotypes.specs.Inner.Visits.{SweepStart}
 use Rattle.call_genotypes.proofs.Sweeping.{SameLengths, Sweeping, sweeping-start, sweeping-visit, sweeping-changed, sweeping-same, sweeping-end}
 use Rattle.call_genotypes.proofs.visit.sweep.Statement.{statement}
 use Rattle.call_genotypes.proofs.visit.sweep.Tie as tie

@@ -9,7 +9,7 @@ use Rattle.variants_and_fragments.specs.Decode.{decode}
 use Rattle.variants_and_fragments.specs.Written.{written}
 use Rattle.variants_and_fragments.proofs.Written.{written-same}
 use Rattle.genotype_probs.specs.Priors.{priorAt}
-use Rattle.genotype_probs.specs.PriorTable.{priorTable, tablePriorAt}
+use Rattle.genotype_probs.specs.Inner.PriorTable.{priorTable, tablePriorAt}
 use Rattle.genotype_probs.proofs.AcceptedPriors.{table-in, alleles-in}
 use Rattle.genotype_probs.proofs.HeldPriors.{places-hold}
 use borrow.Author.Needs.{needs}

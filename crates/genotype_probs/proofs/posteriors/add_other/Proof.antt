@@ -4,7 +4,8 @@ use mathlib.Core.Path.{_≡_, ap, _∙_}
 use native.Mathlib.Omega.{arith}
 use mir.Syntax.{w64}
 use mir.Facts.{toZ-ofZ}
-use Rattle.steps.specs.Logs.{lnAddExp, steps, logOf, size}
+use Rattle.steps.specs.Logs.{lnAddExp, steps}
+use Rattle.steps.specs.Inner.Logs.{logOf, size}
 use Rattle.steps.proofs.Marks.{of-small, size-steps}
 use Rattle.steps.proofs.Signed.{read-back}
 use Rattle.genotype_probs.proofs.FinalLaws.{not-itself, not-mirror, an-other}

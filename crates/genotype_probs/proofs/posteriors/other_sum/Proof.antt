@@ -9,7 +9,7 @@ use lib.ListN.{length, drop, getD}
 use lib.Seq.{getD-drop}
 use mir.Syntax.{w64}
 use mir.Val.{toZ, ofZ}
-use Rattle.steps.specs.Logs.{logOf}
+use Rattle.steps.specs.Inner.Logs.{logOf}
 use Rattle.steps.proofs.Marks.{of-least}
 use Rattle.steps.proofs.Signed.{read-back, read-small}
 use Rattle.genotype_probs.proofs.AlleleLaws.{nine}

@@ -12,9 +12,9 @@ use mir.Syntax.{w64}
 use mir.Val.{toZ, ofZ}
 use Rattle.steps.proofs.Signed.{read-back}
 use Rattle.variants_and_fragments.specs.Decode.{variantFrom}
-use Rattle.variants_and_fragments.specs.Written.{writtenFrom}
+use Rattle.variants_and_fragments.specs.Inner.Written.{writtenFrom}
 use Rattle.variants_and_fragments.proofs.Written.{from-on, from-length, from-join}
-use Rattle.genotype_probs.specs.PriorTable.{tablePriors}
+use Rattle.genotype_probs.specs.Inner.PriorTable.{tablePriors}
 use Rattle.genotype_probs.proofs.AlleleLaws.{nine, place-is, past-places}
 use Rattle.genotype_probs.proofs.Pairs.{NextPair, pair-start, pair-div, pair-mod, first-in, row-on, place-on}
 use Rattle.genotype_probs.proofs.priors.get_all_priors.Statement.{statement}

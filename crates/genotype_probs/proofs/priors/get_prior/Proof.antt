@@ -9,7 +9,7 @@ use mir.Syntax.{w64}
 use Rattle.steps.proofs.Signed.{read-back}
 use Rattle.genotype_probs.specs.Letters.{baseNumber}
 use Rattle.genotype_probs.specs.Priors.{baseAt, compared}
-use Rattle.genotype_probs.specs.PriorTable.{numberedBase, numbered}
+use Rattle.genotype_probs.specs.Inner.PriorTable.{numberedBase, numbered}
 use Rattle.genotype_probs.proofs.Numbers.{base-low}
 use Rattle.genotype_probs.proofs.Comparisons.{Lettered, lettered, lookup-is}
 use Rattle.genotype_probs.proofs.priors.get_prior.Statement.{statement}

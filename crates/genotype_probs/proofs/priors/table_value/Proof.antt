@@ -12,7 +12,7 @@ use lib.ListN.{getD}
 use mir.Syntax.{w64}
 use Rattle.steps.proofs.Signed.{plus-fits, plus-read}
 use Rattle.genotype_probs.specs.Priors.{lnHalf}
-use Rattle.genotype_probs.specs.PriorTable.{tableValue}
+use Rattle.genotype_probs.specs.Inner.PriorTable.{tableValue}
 use Rattle.genotype_probs.proofs.priors.table_value.Statement.{statement}
 use Rattle.genotype_probs.proofs.priors.table_value.Tie as tie
 

@@ -10,9 +10,10 @@ use Rattle.variants_and_fragments.specs.Layout.{sizesOf}
 use Rattle.variants_and_fragments.specs.Alleles.{allelesStart}
 use Rattle.variants_and_fragments.proofs.AlleleBytes.{off-on}
 use Rattle.variants_and_fragments.specs.Decode.{variantFrom, decode}
-use Rattle.variants_and_fragments.specs.Written.{writtenFrom, written}
+use Rattle.variants_and_fragments.specs.Written.{written}
+use Rattle.variants_and_fragments.specs.Inner.Written.{writtenFrom}
 use Rattle.variants_and_fragments.proofs.Written.{written-length, from-after}
-use Rattle.genotype_probs.specs.PriorTable.{tablePriors, tablePriorAt}
+use Rattle.genotype_probs.specs.Inner.PriorTable.{tablePriors, tablePriorAt}
 use Rattle.genotype_probs.proofs.AlleleLaws.{start-top, element-is}
 use Rattle.genotype_probs.proofs.priors.write_priors.Statement.{statement}
 use Rattle.genotype_probs.proofs.priors.write_priors.Tie as tie

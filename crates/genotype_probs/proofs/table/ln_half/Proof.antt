@@ -5,7 +5,7 @@ use mathlib.Core.Logic.{inl}
 use borrow.Author.Needs.{needs}
 use mir.Syntax.{w64}
 use mir.Val.{toZ, ofZ}
-use Rattle.steps.specs.Probs.{lnOf}
+use Rattle.steps.specs.Inner.Probs.{lnOf}
 use Rattle.steps.proofs.Probs.{ln-half}
 use Rattle.genotype_probs.proofs.table.ln_half.Statement.{statement}
 use Rattle.genotype_probs.proofs.table.ln_half.Tie as tie

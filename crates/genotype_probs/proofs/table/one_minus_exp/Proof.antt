@@ -8,7 +8,7 @@ use lib.IntN.{ℤ, pos, natAbs}
 use lib.Signed.{leZ, ltZ}
 use mir.Syntax.{w64}
 use mir.Facts.{toZ-ofZ}
-use Rattle.steps.specs.Logs.{logOf, size}
+use Rattle.steps.specs.Inner.Logs.{logOf, size}
 use Rattle.steps.proofs.Signed.{read-back, zlin}
 use Rattle.steps.proofs.Marks.{no-mark, size-of}
 use Rattle.genotype_probs.proofs.RateLaws.{one-minus-is}

@@ -9,7 +9,7 @@ use mir.Facts.{toZ-ofZ}
 use Rattle.steps.proofs.Signed.{plus-fits, plus-read, read-back}
 use Rattle.genotype_probs.specs.Rates.{homSnv, hetSnv, homIndel, hetIndel}
 use Rattle.genotype_probs.specs.Priors.{haploid}
-use Rattle.genotype_probs.specs.PriorTable.{changeAt}
+use Rattle.genotype_probs.specs.Inner.PriorTable.{changeAt}
 use Rattle.genotype_probs.proofs.RateLaws.{rate-size, rate-read, RatesIn, rates-in}
 use Rattle.genotype_probs.proofs.PriorBounds.{haploid-down}
 use Rattle.genotype_probs.proofs.Entries.{haploid-is, entry-same, entry-two}

@@ -11,7 +11,7 @@ use mir.Facts.{toZ-ofZ}
 use Rattle.steps.proofs.Signed.{read-back}
 use Rattle.variants_and_fragments.specs.Written.{written}
 use Rattle.variants_and_fragments.proofs.Written.{written-on, written-length, written-all}
-use Rattle.genotype_probs.specs.PriorTable.{tableEntry, priorTable}
+use Rattle.genotype_probs.specs.Inner.PriorTable.{tableEntry, priorTable}
 use Rattle.genotype_probs.proofs.table.write_table.Statement.{statement}
 use Rattle.genotype_probs.proofs.table.write_table.Tie as tie
 

@@ -9,9 +9,9 @@ use native.Mathlib.Omega.{arith}
 use borrow.Author.Needs.{needs}
 use denote.Ref.{now}
 use Rattle.variants_and_fragments.specs.Case.{Call}
-use Rattle.pileup.specs.Packed.{RowIn, rowFrom}
+use Rattle.pileup.specs.Inner.Packed.{RowIn, rowFrom}
 use Rattle.haplotype_assembly.specs.Lines.{digit, blockStart, alleleBytes}
-use Rattle.haplotype_assembly.specs.LinesRead.{shownAt}
+use Rattle.haplotype_assembly.specs.Inner.LinesRead.{shownAt}
 use Rattle.haplotype_assembly.proofs.Gathered.{Gathered, gather-start, gather-as, gather-length, gather-room, gather-on, gather-end}
 use Rattle.haplotype_assembly.proofs.Pieces.{alleles-on}
 use Rattle.haplotype_assembly.proofs.Shown.{read-in, shown-on, shown-skip, shown-end}

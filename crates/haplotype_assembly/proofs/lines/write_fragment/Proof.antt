@@ -8,10 +8,10 @@ use borrow.Author.Tests.{not-true, not-false}
 use denote.Ref.{now}
 use lib.ListN.{length, getD}
 use Rattle.variants_and_fragments.specs.Case.{Fragment}
-use Rattle.pileup.specs.Packed.{RowsIn}
+use Rattle.pileup.specs.Inner.Packed.{RowsIn}
 use Rattle.haplotype_assembly.specs.declared.lines.Head.{Head}
 use Rattle.haplotype_assembly.specs.Lines.{hasLine}
-use Rattle.haplotype_assembly.specs.LinesRead.{shownAt, shownFragment, Tallied, fragmentLine, lineWith}
+use Rattle.haplotype_assembly.specs.Inner.LinesRead.{shownAt, shownFragment, Tallied, fragmentLine, lineWith}
 use Rattle.haplotype_assembly.proofs.Pieces.{line-none, one-none, line-some, one-some}
 use Rattle.haplotype_assembly.proofs.Stores.{put-none, put-as}
 use Rattle.haplotype_assembly.proofs.lines.write_fragment.Statement.{statement}

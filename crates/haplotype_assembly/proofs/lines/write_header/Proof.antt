@@ -5,7 +5,7 @@ use Prim.Native.Nat.{_+_}
 use native.Mathlib.Omega.{arith}
 use borrow.Author.Needs.{needs}
 use lib.ListN.{length-set}
-use Rattle.haplotype_assembly.specs.LinesRead.{headerOf}
+use Rattle.haplotype_assembly.specs.Inner.LinesRead.{headerOf}
 use Rattle.haplotype_assembly.proofs.Pieces.{header-length}
 use Rattle.haplotype_assembly.proofs.Stores.{put-end, put-one, put-on, put-length}
 use Rattle.haplotype_assembly.proofs.lines.write_header.Statement.{statement}

@@ -8,7 +8,7 @@ use denote.Ref.{now}
 use lib.ListN.{length, length-set}
 use Rattle.variants_and_fragments.specs.Case.{Call}
 use Rattle.haplotype_assembly.specs.Lines.{alleleBytes, callQuality}
-use Rattle.haplotype_assembly.specs.LinesRead.{shownAt, headerOf, lineWith}
+use Rattle.haplotype_assembly.specs.Inner.LinesRead.{shownAt, headerOf, lineWith}
 use Rattle.haplotype_assembly.proofs.Pieces.{line-length}
 use Rattle.haplotype_assembly.proofs.Stores.{put-one, put-on, put-length}
 use Rattle.haplotype_assembly.proofs.lines.write_line.Statement.{statement}

@@ -7,7 +7,7 @@ use native.Mathlib.Omega.{arith}
 use denote.Ref.{now}
 use Rattle.variants_and_fragments.specs.Case.{Fragment}
 use Rattle.variants_and_fragments.specs.Decode.{tabulateFrom}
-use Rattle.haplotype_assembly.specs.LinesRead.{shownFragment, shownFragments, fragmentLine, hasOne, linesOver}
+use Rattle.haplotype_assembly.specs.Inner.LinesRead.{shownFragment, shownFragments, fragmentLine, hasOne, linesOver}
 use Rattle.haplotype_assembly.proofs.Cited.{table-start}
 use Rattle.haplotype_assembly.proofs.Counting.{lines-on, lines-end}
 use Rattle.haplotype_assembly.proofs.Gathered.{Gathered, gather-start, gather-as, gather-length, gather-room, gather-on, gather-end}

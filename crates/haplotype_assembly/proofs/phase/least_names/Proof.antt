@@ -5,7 +5,7 @@ use Prim.Native.Nat.{ℕ, _≤_, _-_}
 use native.Mathlib.Numerals.{add-one}
 use native.Mathlib.Omega.{arith}
 use denote.Ref.{now}
-use Rattle.haplotype_assembly.specs.PhaseRead.{NamedTo}
+use Rattle.haplotype_assembly.specs.Inner.PhaseRead.{NamedTo}
 use Rattle.haplotype_assembly.proofs.phase.least_names.Statement.{statement}
 use Rattle.haplotype_assembly.proofs.phase.least_names.Tie as tie
 

@@ -1,7 +1,7 @@
 -- `phase::phased_flag` meets its contract: the test is the phased rule with the byte.
 -- Assumes nothing.
 use borrow.Author.Needs.{needs}
-use Rattle.haplotype_assembly.specs.PhaseRead.{phasedAt}
+use Rattle.haplotype_assembly.specs.Inner.PhaseRead.{phasedAt}
 use Rattle.haplotype_assembly.proofs.phase.phased_flag.Statement.{statement}
 use Rattle.haplotype_assembly.proofs.phase.phased_flag.Tie as tie
 

@@ -2,7 +2,7 @@
 -- Assumes nothing.
 use borrow.Author.Needs.{needs}
 use Rattle.haplotype_assembly.specs.Phase.{phasedTest}
-use Rattle.haplotype_assembly.specs.PhaseRead.{ruleAt}
+use Rattle.haplotype_assembly.specs.Inner.PhaseRead.{ruleAt}
 use Rattle.haplotype_assembly.proofs.phase.phased_rule.Statement.{statement}
 use Rattle.haplotype_assembly.proofs.phase.phased_rule.Tie as tie
 

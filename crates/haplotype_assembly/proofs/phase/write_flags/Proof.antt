@@ -5,7 +5,7 @@ use Prim.Native.Nat.{_≤_, _-_}
 use native.Mathlib.Omega.{arith}
 use borrow.Author.Needs.{needs}
 use Rattle.variants_and_fragments.specs.Written.{written}
-use Rattle.haplotype_assembly.specs.PhaseRead.{flagsAt}
+use Rattle.haplotype_assembly.specs.Inner.PhaseRead.{flagsAt}
 use Rattle.haplotype_assembly.proofs.Cited.{written-on}
 use Rattle.haplotype_assembly.proofs.Writes.{same-room, all-written}
 use Rattle.haplotype_assembly.proofs.phase.write_flags.Statement.{statement}

@@ -6,7 +6,7 @@ use native.Mathlib.Omega.{arith}
 use borrow.Author.Needs.{needs}
 use lib.ListN.{length-set}
 use Rattle.variants_and_fragments.specs.Written.{written}
-use Rattle.haplotype_assembly.specs.PhaseRead.{startAt}
+use Rattle.haplotype_assembly.specs.Inner.PhaseRead.{startAt}
 use Rattle.haplotype_assembly.proofs.Pairs.{pair-on}
 use Rattle.haplotype_assembly.proofs.Writes.{same-room, all-written}
 use Rattle.haplotype_assembly.proofs.phase.write_haplotypes.Statement.{statement}

@@ -8,7 +8,7 @@ use borrow.Author.Tests.{not-true, not-false}
 use denote.Ref.{now}
 use lib.ListN.{length}
 use Rattle.variants_and_fragments.specs.Case.{Fragment}
-use Rattle.haplotype_assembly.specs.LinesRead.{shownFragment, Tallied, headAt, lineWith}
+use Rattle.haplotype_assembly.specs.Inner.LinesRead.{shownFragment, Tallied, headAt, lineWith}
 use Rattle.haplotype_assembly.proofs.Pieces.{line-none, one-none, line-some, one-some, line-count, line-top}
 use Rattle.haplotype_assembly.proofs.tally.count_fragment.Statement.{statement}
 use Rattle.haplotype_assembly.proofs.tally.count_fragment.Tie as tie

@@ -2,7 +2,7 @@
 -- Assumes nothing.
 use Prim.Native.Nat.{_-_}
 use native.Mathlib.Omega.{arith}
-use Rattle.haplotype_assembly.specs.LinesRead.{shownFragment}
+use Rattle.haplotype_assembly.specs.Inner.LinesRead.{shownFragment}
 use Rattle.haplotype_assembly.proofs.Counting.{CountedTo, counted-start, counted-on, counted-end}
 use Rattle.haplotype_assembly.proofs.tally.count_lines.Statement.{statement}
 use Rattle.haplotype_assembly.proofs.tally.count_lines.Tie as tie

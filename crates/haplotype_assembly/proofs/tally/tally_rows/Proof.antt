@@ -6,7 +6,7 @@ use Prim.Native.Nat.{_-_, _<_}
 use native.Mathlib.Omega.{arith}
 use borrow.Author.Needs.{needs}
 use denote.Ref.{now}
-use Rattle.pileup.specs.Packed.{RowIn, rowFrom}
+use Rattle.pileup.specs.Inner.Packed.{RowIn, rowFrom}
 use Rattle.haplotype_assembly.proofs.Shown.{read-in, shown-on, shown-skip}
 use Rattle.haplotype_assembly.proofs.Tallies.{Tallying, tallying-start, tallying-small, tallying-on, tallying-skip, tallying-end}
 use Rattle.haplotype_assembly.proofs.tally.tally_rows.Statement.{statement}

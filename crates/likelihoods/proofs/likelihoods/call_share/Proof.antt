@@ -13,7 +13,7 @@ use Rattle.steps.proofs.Signed.{read-back, read-small}
 use Rattle.variants_and_fragments.specs.Case.{Call}
 use Rattle.pileup.specs.declared.row.Row.{Row}
 use Rattle.sweeps.specs.Sweeps.{callTerm}
-use Rattle.likelihoods.specs.Likelihoods.{callAt, alleleOn}
+use Rattle.likelihoods.specs.Inner.Likelihoods.{callAt, alleleOn}
 use Rattle.likelihoods.proofs.CallShares.{term-small, term-of, share-flagged, share-unflagged}
 use Rattle.likelihoods.proofs.likelihoods.call_share.Statement.{statement}
 use Rattle.likelihoods.proofs.likelihoods.call_share.Tie as tie

@@ -9,10 +9,10 @@ use lib.ListN.{length, getD, length-set}
 use mir.Syntax.{w64}
 use mir.Val.{toZ, ofZ}
 use Rattle.steps.proofs.Signed.{read-small}
-use Rattle.pileup.specs.Packed.{groupStart}
+use Rattle.pileup.specs.Inner.Packed.{groupStart}
 use Rattle.variants_and_fragments.specs.Written.{written}
 use Rattle.variants_and_fragments.proofs.Written.{written-on, written-length}
-use Rattle.likelihoods.specs.Likelihoods.{likelihoodAt}
+use Rattle.likelihoods.specs.Inner.Likelihoods.{likelihoodAt}
 use Rattle.likelihoods.proofs.CallShares.{likelihood-first, likelihood-second, start-zero, start-next, ends-within, calls-fewer}
 use Rattle.likelihoods.proofs.likelihoods.write_likelihoods.Statement.{statement}
 use Rattle.likelihoods.proofs.likelihoods.write_likelihoods.Tie as tie

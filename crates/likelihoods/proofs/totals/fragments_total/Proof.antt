@@ -10,10 +10,10 @@ use lib.ListN.{getD}
 use mir.Syntax.{w64}
 use mir.Val.{toZ, ofZ}
 use Rattle.steps.proofs.Signed.{read-back, read-small}
-use Rattle.pileup.specs.Packed.{groupStart}
+use Rattle.pileup.specs.Inner.Packed.{groupStart}
 use Rattle.sweeps.specs.Sweeps.{likelihood}
-use Rattle.likelihoods.specs.Likelihoods.{callsOf, flagged, alleleOn}
-use Rattle.likelihoods.specs.Totals.{fragmentShare}
+use Rattle.likelihoods.specs.Inner.Likelihoods.{callsOf, flagged, alleleOn}
+use Rattle.likelihoods.specs.Inner.Totals.{fragmentShare}
 use Rattle.likelihoods.proofs.RunningSums.{Running, running-start, running-more, running-end, added-fits, added-read}
 use Rattle.likelihoods.proofs.CallShares.{start-zero, start-next, ends-within, calls-fewer}
 use Rattle.likelihoods.proofs.TotalParts.{mix-small}

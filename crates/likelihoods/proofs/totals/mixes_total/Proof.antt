@@ -9,7 +9,7 @@ use lib.ListN.{getD}
 use mir.Syntax.{w64}
 use mir.Val.{toZ, ofZ}
 use Rattle.steps.proofs.Signed.{read-back, read-small}
-use Rattle.likelihoods.specs.Totals.{standingShare}
+use Rattle.likelihoods.specs.Inner.Totals.{standingShare}
 use Rattle.likelihoods.proofs.RunningSums.{Running, running-start, running-more, running-end, added-fits, added-read}
 use Rattle.likelihoods.proofs.TotalParts.{mix-small}
 use Rattle.likelihoods.proofs.totals.mixes_total.Statement.{statement}

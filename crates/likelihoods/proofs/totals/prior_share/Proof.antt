@@ -11,7 +11,7 @@ use mir.Syntax.{w64}
 use mir.Val.{toZ, ofZ}
 use Rattle.steps.proofs.Signed.{read-small}
 use Rattle.sweeps.specs.Sweeps.{allele0, allele1}
-use Rattle.likelihoods.specs.Totals.{pairPrior}
+use Rattle.likelihoods.specs.Inner.Totals.{pairPrior}
 use Rattle.likelihoods.proofs.TotalParts.{share-flagged, share-unflagged}
 use Rattle.likelihoods.proofs.totals.prior_share.Statement.{statement}
 use Rattle.likelihoods.proofs.totals.prior_share.Tie as tie

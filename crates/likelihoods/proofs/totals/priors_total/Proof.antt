@@ -8,7 +8,7 @@ use lib.IntN.{ℤ, natAbs}
 use mir.Syntax.{w64}
 use mir.Val.{toZ, ofZ}
 use Rattle.steps.proofs.Signed.{read-back}
-use Rattle.likelihoods.specs.Totals.{priorShare}
+use Rattle.likelihoods.specs.Inner.Totals.{priorShare}
 use Rattle.likelihoods.proofs.RunningSums.{Running, running-start, running-more, running-end, added-fits, added-read}
 use Rattle.likelihoods.proofs.TotalParts.{priors-fewer}
 use Rattle.likelihoods.proofs.totals.priors_total.Statement.{statement}

@@ -7,7 +7,7 @@ use borrow.Author.Needs.{needs}
 use lib.IntN.{ℤ, natAbs}
 use mir.Syntax.{w64}
 use Rattle.steps.proofs.Signed.{plus-fits, plus-read}
-use Rattle.likelihoods.specs.Totals.{standingTotal}
+use Rattle.likelihoods.specs.Inner.Totals.{standingTotal}
 use Rattle.likelihoods.proofs.TotalParts.{same-sum}
 use Rattle.likelihoods.proofs.totals.standing_total.Statement.{statement}
 use Rattle.likelihoods.proofs.totals.standing_total.Tie as tie

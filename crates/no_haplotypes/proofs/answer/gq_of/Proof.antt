@@ -5,7 +5,8 @@ use native.Mathlib.Omega.{arith}
 use mir.Syntax.{w64}
 use mir.Val.{toZ, ofZ}
 use mir.Facts.{toZ-ofZ}
-use Rattle.steps.specs.Logs.{Log, steps, logOf, size}
+use Rattle.steps.specs.Logs.{Log, steps}
+use Rattle.steps.specs.Inner.Logs.{logOf, size}
 use Rattle.steps.specs.OneMinus.{lnOneMinusExp}
 use Rattle.steps.specs.Phred.{phredOf, capped}
 use Rattle.steps.proofs.Marks.{of-small, size-steps}

@@ -9,7 +9,8 @@ use lib.ListN.{getD, drop}
 use lib.Seq.{getD-drop}
 use mir.Syntax.{w64}
 use mir.Val.{toZ, ofZ}
-use Rattle.steps.specs.Logs.{Log, steps, logOf, size}
+use Rattle.steps.specs.Logs.{Log, steps}
+use Rattle.steps.specs.Inner.Logs.{logOf, size}
 use Rattle.steps.specs.Phred.{phredOf, capped}
 use Rattle.steps.proofs.Marks.{of-small, size-steps}
 use Rattle.steps.proofs.Signed.{read-small}

@@ -8,9 +8,9 @@ use lib.IntN.{pos}
 use lib.ListN.{length, getD}
 use mir.Syntax.{w32}
 use Rattle.steps.proofs.Signed.{read-back}
-use Rattle.variants_and_fragments.specs.Written.{writtenFrom}
+use Rattle.variants_and_fragments.specs.Inner.Written.{writtenFrom}
 use Rattle.variants_and_fragments.proofs.Written.{from-on, from-length}
-use Rattle.no_haplotypes.specs.Calling.{answerValues}
+use Rattle.no_haplotypes.specs.Inner.Calling.{answerValues}
 use Rattle.no_haplotypes.proofs.answer.write_answer.Statement.{statement}
 use Rattle.no_haplotypes.proofs.answer.write_answer.Tie as tie
 

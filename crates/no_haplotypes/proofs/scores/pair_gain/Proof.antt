@@ -10,7 +10,7 @@ use lib.ListN.{getD}
 use mir.Syntax.{w64}
 use mir.Val.{SFits, toZ, ofZ}
 use Rattle.steps.proofs.Signed.{add-abs, plus-fits, plus-read, read-small, sfits}
-use Rattle.no_haplotypes.specs.Tally.{pairGain}
+use Rattle.no_haplotypes.specs.Inner.Tally.{pairGain}
 use borrow.Author.Needs.{needs}
 use Rattle.no_haplotypes.proofs.scores.pair_gain.Statement.{statement}
 use Rattle.no_haplotypes.proofs.scores.pair_gain.Tie as tie

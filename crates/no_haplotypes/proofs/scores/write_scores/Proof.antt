@@ -12,9 +12,9 @@ use mir.Syntax.{w64}
 use mir.Val.{toZ, ofZ}
 use mir.Facts.{toZ-ofZ}
 use Rattle.steps.proofs.Signed.{read-back, read-small}
-use Rattle.variants_and_fragments.specs.Written.{writtenFrom}
+use Rattle.variants_and_fragments.specs.Inner.Written.{writtenFrom}
 use Rattle.variants_and_fragments.proofs.Written.{from-on, from-length, from-past}
-use Rattle.no_haplotypes.specs.Tally.{gained}
+use Rattle.no_haplotypes.specs.Inner.Tally.{gained}
 use Rattle.no_haplotypes.proofs.scores.write_scores.Statement.{statement}
 use Rattle.no_haplotypes.proofs.scores.write_scores.Tie as tie
 

@@ -14,9 +14,9 @@ use Rattle.steps.proofs.Signed.{minus-fits, minus-read, read-small}
 use Rattle.variants_and_fragments.specs.Layout.{strandAt}
 use Rattle.variants_and_fragments.specs.Pileup.{Row}
 use Rattle.pileup.specs.declared.row.Row.{Row as RowHeld}
-use Rattle.pileup.specs.Packed.{rowAt, RowIn}
+use Rattle.pileup.specs.Inner.Packed.{rowAt, RowIn}
 use Rattle.no_haplotypes.specs.NoHaplotypes.{mixed}
-use Rattle.no_haplotypes.specs.Tally.{bothGain, oneGain, countPlace, added}
+use Rattle.no_haplotypes.specs.Inner.Tally.{bothGain, oneGain, countPlace, added}
 use Rattle.no_haplotypes.proofs.TallyLaws.{qual-small, other-small, both-small, one-small}
 use borrow.Author.Needs.{needs}
 use Rattle.no_haplotypes.proofs.tally.add_call.Statement.{statement}

@@ -8,8 +8,8 @@ use lib.IntN.{natAbs, _+ℤ_}
 use mir.Syntax.{w64}
 use mir.Val.{toZ, ofZ}
 use Rattle.steps.proofs.Signed.{read-back, read-small, sfits, add-abs}
-use Rattle.pileup.specs.Packed.{rowAt, rowsAt, RowIn}
-use Rattle.no_haplotypes.specs.Tally.{Tallied, SumsIn}
+use Rattle.pileup.specs.Inner.Packed.{rowAt, rowsAt, RowIn}
+use Rattle.no_haplotypes.specs.Inner.Tally.{Tallied, SumsIn}
 use Rattle.no_haplotypes.proofs.TallyLaws.{rows-none, rows-more, tallied-start, tallied-on, qual-small, sums-in, counts-in}
 use Rattle.no_haplotypes.proofs.tally.tally.Statement.{statement}
 use Rattle.no_haplotypes.proofs.tally.tally.Tie as tie

@@ -49,8 +49,8 @@ use Rattle.variants_and_fragments.specs.declared.Sizes.{Sizes}
 use Rattle.pileup.specs.declared.reader.CallRead.{CallRead}
 use Rattle.pileup.specs.declared.reader.CallStep.{CallStep}
 use Rattle.pileup.specs.declared.reader.ChainReader.{ChainReader}
-use Rattle.variants_and_fragments.specs.Layout.{Sized}
-use Rattle.pileup.specs.Reader.{readAt, nextAt, readerAt, movedOn}
+use Rattle.variants_and_fragments.specs.Inner.Layout.{Sized}
+use Rattle.pileup.specs.Inner.Reader.{readAt, nextAt, readerAt, movedOn}
 use Rattle.pileup.proofs.CallReads.{stepped, step-made}
 use Rattle.pileup.proofs.LentReader as lent
 use Rattle.variants_and_fragments.proofs.Sizes as Z

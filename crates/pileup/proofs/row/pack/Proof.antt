@@ -5,7 +5,7 @@ use mir.Facts.{toZ-ofZ}
 use mir.Syntax.{w64}
 use mir.Val.{SFits}
 use borrow.Author.Needs.{needs}
-use Rattle.pileup.specs.Packed.{packed}
+use Rattle.pileup.specs.Inner.Packed.{packed}
 use Rattle.pileup.proofs.row.pack.Statement.{statement}
 use Rattle.pileup.proofs.row.pack.Tie as tie
 

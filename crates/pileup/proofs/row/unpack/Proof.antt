@@ -4,7 +4,7 @@ use mathlib.Core.Path.{refl}
 use mir.Facts.{toZ-ofZ}
 use mir.Syntax.{w64}
 use borrow.Author.Needs.{needs, sfits-of}
-use Rattle.pileup.specs.Packed.{unpacked}
+use Rattle.pileup.specs.Inner.Packed.{unpacked}
 use Rattle.pileup.proofs.row.unpack.Statement.{statement}
 use Rattle.pileup.proofs.row.unpack.Tie as tie
 

@@ -1,6 +1,6 @@
 -- `input::read_token` is safe and ends. The measure is how far the step is from the end of what may be read. Assumes nothing.
 use borrow.Author.Needs.{needs}
-use Rattle.protocol.specs.Input.{ahead}
+use Rattle.protocol.specs.Inner.Input.{ahead}
 use Rattle.protocol.proofs.Reading.{step-falls}
 use Rattle.protocol.proofs.input.read_token.Statement.{statement}
 use Rattle.protocol.proofs.input.read_token.Tie as tie

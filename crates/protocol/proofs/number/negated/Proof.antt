@@ -1,6 +1,6 @@
 -- `number::negated` meets its contract: −value fits at 64 bits and then at 32. Assumes nothing.
 use borrow.Author.Needs.{needs}
-use Rattle.protocol.specs.State.{withSign}
+use Rattle.protocol.specs.Inner.State.{withSign}
 use Rattle.protocol.proofs.Signs.{fits64, fits32, negative}
 use Rattle.protocol.proofs.number.negated.Statement.{statement}
 use Rattle.protocol.proofs.number.negated.Tie as tie

@@ -3,7 +3,7 @@
 use mathlib.Core.Path.{ap, sym}
 use mathlib.Core.Bool.{Bool, cond}
 use lib.IntN.{negsuc}
-use Rattle.steps.specs.Probs.{half, lnOf}
+use Rattle.steps.specs.Inner.Probs.{half, lnOf}
 use Rattle.steps.proofs.LogProb.from_prob.Statement.{statement}
 use Rattle.steps.proofs.LogProb.from_prob.Tie as tie
 

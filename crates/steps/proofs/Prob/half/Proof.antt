@@ -1,7 +1,7 @@
 -- `steps::Prob::half` meets its contract.
 -- Assumes nothing.
 use mathlib.Core.Path.{refl}
-use Rattle.steps.specs.Probs as spec
+use Rattle.steps.specs.Inner.Probs as spec
 use Rattle.steps.proofs.Prob.half.Statement.{statement}
 use Rattle.steps.proofs.Prob.half.Tie as tie
 

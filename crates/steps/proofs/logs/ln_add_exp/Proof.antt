@@ -9,7 +9,8 @@ use lib.IntN.{natAbs}
 use mir.Syntax.{w64}
 use mir.Val.{toZ, ofZ}
 use mir.Facts.{toZ-ofZ}
-use Rattle.steps.specs.Logs.{addExp, isMark, logOf}
+use Rattle.steps.specs.Logs.{addExp}
+use Rattle.steps.specs.Inner.Logs.{isMark, logOf}
 use Rattle.steps.proofs.AddExp.{add-size}
 use Rattle.steps.proofs.Marks.{of-mark, of-steps, of-small, add-mark, add-to-mark, add-steps, size-of}
 use Rattle.steps.proofs.Signed.{read-back}

@@ -11,7 +11,7 @@ use lib.Signed.{leZ, ltZ}
 use mir.Syntax.{w64}
 use mir.Val.{toZ, ofZ}
 use mir.Facts.{toZ-ofZ}
-use Rattle.steps.specs.Logs.{isMark, logOf}
+use Rattle.steps.specs.Inner.Logs.{isMark, logOf}
 use Rattle.steps.specs.OneMinus.{lnOneMinusExp}
 use Rattle.steps.proofs.Marks.{of-small, of-least, size-of}
 use Rattle.steps.proofs.Marks as marks

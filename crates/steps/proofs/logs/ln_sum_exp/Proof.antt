@@ -11,7 +11,8 @@ use lib.ListN.{length, drop, getD}
 use mir.Syntax.{w64}
 use mir.Val.{toZ, ofZ}
 use mir.Facts.{toZ-ofZ}
-use Rattle.steps.specs.Logs.{lnAddExp, lnSumFrom, lnSumExp, isMark, logOf, size}
+use Rattle.steps.specs.Logs.{lnAddExp, lnSumFrom, lnSumExp}
+use Rattle.steps.specs.Inner.Logs.{isMark, logOf, size}
 use Rattle.steps.proofs.Marks.{size-fits, log-size}
 use Rattle.steps.proofs.Signed.{read-back}
 use Rattle.steps.proofs.Sums.{sum-next, sum-end}

@@ -11,7 +11,7 @@ use lib.ListN.{getD}
 use mir.Syntax.{w64}
 use mir.Val.{SFits, toZ, ofZ}
 use mir.Facts.{toZ-ofZ}
-use Rattle.steps.specs.Lines.{Holds}
+use Rattle.steps.specs.Inner.Lines.{Holds}
 use Rattle.steps.proofs.Signed.{sfits, read-small, times-abs, add-abs, plus-fits, plus-read}
 use Rattle.steps.proofs.one_plus.ln_one_plus_exp.Statement.{statement}
 use Rattle.steps.proofs.one_plus.ln_one_plus_exp.Tie as tie

@@ -9,7 +9,8 @@ use lib.IntN.{ℤ, negℤ, natAbs}
 use lib.Ieee.{binary64, mul, ofInt, ofBits, div}
 use mir.Syntax.{w64}
 use mir.Val.{toZ, ofZ}
-use Rattle.steps.specs.Logs.{mark, steps, isMark}
+use Rattle.steps.specs.Logs.{mark, steps}
+use Rattle.steps.specs.Inner.Logs.{isMark}
 use Rattle.steps.specs.Phred.{phredOf, scale, maxVcfQual}
 use Rattle.steps.proofs.Casts.{neg-fits, neg-float, neg-read}
 use Rattle.steps.proofs.Marks.{of-mark, of-steps, size-of}

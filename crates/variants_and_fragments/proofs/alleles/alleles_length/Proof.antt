@@ -1,7 +1,7 @@
 -- `alleles::alleles_length` meets its contract: each length is at most 64, so the sum does not wrap.
 -- Assumes nothing.
 use native.Mathlib.Omega.{arith}
-use Rattle.variants_and_fragments.specs.Layout.{VariantIn}
+use Rattle.variants_and_fragments.specs.Inner.Layout.{VariantIn}
 use borrow.Author.Needs.{needs}
 use Rattle.variants_and_fragments.proofs.alleles.alleles_length.Statement.{statement}
 use Rattle.variants_and_fragments.proofs.alleles.alleles_length.Tie as tie

@@ -10,7 +10,8 @@ use Prim.Native.Nat.{ℕ, _≤_, _<_, _-_}
 use native.Mathlib.Omega.{arith}
 use lib.ListN.{length}
 use Rattle.variants_and_fragments.proofs.First.{first-at, first-end}
-use Rattle.variants_and_fragments.specs.Chain.{fragmentOk, reached, Marked}
+use Rattle.variants_and_fragments.specs.Chain.{fragmentOk, reached}
+use Rattle.variants_and_fragments.specs.Inner.Chain.{Marked}
 use borrow.Author.Needs.{needs}
 use Rattle.variants_and_fragments.proofs.chains.first_bad_fragment.Statement.{statement}
 use Rattle.variants_and_fragments.proofs.chains.first_bad_fragment.Tie as tie

@@ -7,7 +7,7 @@ use mathlib.Core.Bool.{true}
 use Prim.Native.Nat.{ℕ, _≤_, _<_, _-_}
 use native.Mathlib.Omega.{arith}
 use Rattle.variants_and_fragments.proofs.First.{first-at, first-end}
-use Rattle.variants_and_fragments.specs.Chain.{markedAt}
+use Rattle.variants_and_fragments.specs.Inner.Chain.{markedAt}
 use borrow.Author.Needs.{needs}
 use Rattle.variants_and_fragments.proofs.chains.first_unreached.Statement.{statement}
 use Rattle.variants_and_fragments.proofs.chains.first_unreached.Tie as tie

@@ -6,7 +6,8 @@ use Prim.Native.Nat.{ℕ, _+_, _-_}
 use borrow.Author.Tests.{not-true, not-false}
 use lib.ListN.{length, set, length-set}
 use mathlib.Core.Bool.{true, false}
-use Rattle.variants_and_fragments.specs.Chain.{nextCallAt, linkOk, Walked}
+use Rattle.variants_and_fragments.specs.Chain.{nextCallAt, linkOk}
+use Rattle.variants_and_fragments.specs.Inner.Chain.{Walked}
 use Rattle.variants_and_fragments.proofs.Walks.{Walking, walk-start, walk-end, walk-out, walk-hit, walk-link, walk-on}
 use borrow.Author.Needs.{needs}
 use Rattle.variants_and_fragments.proofs.chains.walk_chain.Statement.{statement}

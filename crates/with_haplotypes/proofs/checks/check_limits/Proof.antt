@@ -2,7 +2,7 @@
 -- Assumes nothing.
 use mathlib.Core.Path.{_≡_}
 use native.Mathlib.Omega.{arith}
-use Rattle.with_haplotypes.specs.Steps.{checkedAs}
+use Rattle.with_haplotypes.specs.Inner.Steps.{checkedAs}
 use Rattle.with_haplotypes.proofs.CheckLaws.{limit-low, limit-high, slice-short, limits-good}
 use Rattle.with_haplotypes.proofs.checks.check_limits.Statement.{statement}
 use Rattle.with_haplotypes.proofs.checks.check_limits.Tie as tie

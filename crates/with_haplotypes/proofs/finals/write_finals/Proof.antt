@@ -8,7 +8,8 @@ use lib.Ieee.{Float}
 use lib.ListN.{length, drop}
 use Rattle.variants_and_fragments.specs.Written.{written}
 use Rattle.variants_and_fragments.proofs.Written.{written-on, written-length}
-use Rattle.with_haplotypes.specs.Finals.{finalOf, finalAt, FinalsWritten}
+use Rattle.with_haplotypes.specs.Finals.{finalOf}
+use Rattle.with_haplotypes.specs.Inner.Finals.{finalAt, FinalsWritten}
 use Rattle.with_haplotypes.specs.declared.finals.FinalAnswer.{FinalAnswer}
 use Rattle.with_haplotypes.proofs.finals.write_finals.Statement.{statement}
 use Rattle.with_haplotypes.proofs.finals.write_finals.Tie as tie

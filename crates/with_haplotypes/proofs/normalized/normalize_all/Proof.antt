@@ -5,7 +5,7 @@ use Prim.Native.Nat.{ℕ, _*_, _-_, _≤_}
 use native.Mathlib.Omega.{arith}
 use denote.Ref.{now}
 use Rattle.variants_and_fragments.specs.Written.{written}
-use Rattle.with_haplotypes.specs.NormalizedPosteriors.{normalizedAt}
+use Rattle.with_haplotypes.specs.Inner.NormalizedPosteriors.{normalizedAt}
 use Rattle.with_haplotypes.proofs.NormalizedTables.{as-long, table-kept, normalized-on}
 use Rattle.with_haplotypes.proofs.normalized.normalize_all.Statement.{statement}
 use Rattle.with_haplotypes.proofs.normalized.normalize_all.Tie as tie

@@ -1,7 +1,7 @@
 -- `run::ones` meets its contract: the list computes.
 -- Assumes nothing.
 use mathlib.Core.Path.{refl}
-use Rattle.variants_and_fragments.specs.Accepted.{allb}
+use Rattle.variants_and_fragments.specs.Inner.Accepted.{allb}
 use Rattle.with_haplotypes.proofs.run.ones.Statement.{statement}
 use Rattle.with_haplotypes.proofs.run.ones.Tie as tie
 

@@ -52,8 +52,8 @@ use denote.Exit.{yes}
 use Rattle.variants_and_fragments.specs.declared.Sizes.{Sizes}
 use Rattle.pileup.specs.declared.reader.CallStep.{CallStep}
 use Rattle.pileup.specs.declared.reader.ChainReader.{ChainReader}
-use Rattle.variants_and_fragments.specs.Layout.{Sized}
-use Rattle.pileup.specs.Reader.{stepAt}
+use Rattle.variants_and_fragments.specs.Inner.Layout.{Sized}
+use Rattle.pileup.specs.Inner.Reader.{stepAt}
 use Rattle.pileup.proofs.CallReads.{step-parts}
 use Rattle.variants_and_fragments.proofs.Sizes as Z
 use Rattle.variants_and_fragments.proofs.Sizes.Laws as Z′

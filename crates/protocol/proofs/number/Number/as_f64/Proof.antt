@@ -1,7 +1,7 @@
 -- `Number::as_f64` meets its contract, by the laws for all unsigned types: the f64 of the pattern. Assumes nothing.
 use mathlib.Core.Path.{ap, _∙_}
 use borrow.Author.Needs.{needs}
-use Rattle.protocol.specs.State.{f64In}
+use Rattle.protocol.specs.Inner.State.{f64In}
 use Rattle.protocol.specs.declared.number.ReadF64.the-variants.{Value}
 use Rattle.protocol.proofs.Readings.{natural-value, natural-none}
 use Rattle.protocol.proofs.number.Number.as_f64.Statement.{statement}

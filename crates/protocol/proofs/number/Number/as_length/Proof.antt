@@ -1,6 +1,6 @@
 -- `Number::as_length` meets its contract, by the laws for all unsigned types: a u64 is below 2^64. Assumes nothing.
 use borrow.Author.Needs.{needs}
-use Rattle.protocol.specs.State.{lengthIn}
+use Rattle.protocol.specs.Inner.State.{lengthIn}
 use Rattle.protocol.proofs.Readings.{natural-value, natural-none}
 use Rattle.protocol.proofs.number.Number.as_length.Statement.{statement}
 use Rattle.protocol.proofs.number.Number.as_length.Tie as tie

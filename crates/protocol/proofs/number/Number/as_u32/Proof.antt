@@ -1,6 +1,6 @@
 -- `Number::as_u32` meets its contract, by the laws for all unsigned types. Assumes nothing.
 use borrow.Author.Needs.{needs}
-use Rattle.protocol.specs.State.{u32In}
+use Rattle.protocol.specs.Inner.State.{u32In}
 use Rattle.protocol.proofs.Readings.{natural-value, natural-none, natural-large}
 use Rattle.protocol.proofs.number.Number.as_u32.Statement.{statement}
 use Rattle.protocol.proofs.number.Number.as_u32.Tie as tie

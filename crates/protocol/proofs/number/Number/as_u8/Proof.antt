@@ -1,6 +1,6 @@
 -- `Number::as_u8` meets its contract, by the laws for all unsigned types. Assumes nothing.
 use borrow.Author.Needs.{needs}
-use Rattle.protocol.specs.State.{u8In}
+use Rattle.protocol.specs.Inner.State.{u8In}
 use Rattle.protocol.proofs.Readings.{natural-value, natural-none, natural-large}
 use Rattle.protocol.proofs.number.Number.as_u8.Statement.{statement}
 use Rattle.protocol.proofs.number.Number.as_u8.Tie as tie

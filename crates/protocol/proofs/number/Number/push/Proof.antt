@@ -1,7 +1,7 @@
 -- `Number::push` meets its contract: each way is a case of `pushed`. Assumes nothing.
 use mathlib.Core.Path.{sym, _∙_}
 use borrow.Author.Needs.{needs}
-use Rattle.protocol.specs.State.{pushed}
+use Rattle.protocol.specs.Inner.State.{pushed}
 use Rattle.protocol.proofs.number.Number.push.Statement.{statement}
 use Rattle.protocol.proofs.number.Number.push.Tie as tie
 

@@ -1,7 +1,7 @@
 -- `Number::sign` meets its contract: the test is that of `signed`. Assumes nothing.
 use mathlib.Core.Path.{_∙_}
 use borrow.Author.Needs.{needs}
-use Rattle.protocol.specs.State.{signed}
+use Rattle.protocol.specs.Inner.State.{signed}
 use Rattle.protocol.proofs.number.Number.sign.Statement.{statement}
 use Rattle.protocol.proofs.number.Number.sign.Tie as tie
 

@@ -14,7 +14,7 @@ use Rattle.variants_and_fragments.specs.Decode.{tabulate}
 use Rattle.variants_and_fragments.specs.Layout.{strandAt, alleleCountAt}
 use Rattle.variants_and_fragments.specs.Pileup.{Row, only}
 use Rattle.variants_and_fragments.specs.Sums.{sumOver}
-use Rattle.pileup.specs.Packed.{rowsAt, RowsIn}
+use Rattle.pileup.specs.Inner.Packed.{rowsAt, RowsIn}
 use Rattle.genotype_probs.specs.Posteriors.{normalized}
 use Rattle.no_haplotypes.specs.declared.tally.Pile.{Pile}
 use Rattle.no_haplotypes.specs.NoHaplotypes.{mixed, callScore}

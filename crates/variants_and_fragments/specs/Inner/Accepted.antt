@@ -8,9 +8,11 @@ use lib.ListN.{length, getD}
 use lib.IntN.{ℤ, pos}
 use Rattle.variants_and_fragments.specs.declared.Sizes.{Sizes}
 use Rattle.variants_and_fragments.specs.Words.{within, debtOf}
-use Rattle.variants_and_fragments.specs.Layout.{Sized, sizesOf, cutoffAt, lowestQuality, alleleCountAt, callVariantAt, calledAlleleAt, qualAt, oneMinusQualAt, callOk}
+use Rattle.variants_and_fragments.specs.Layout.{sizesOf, cutoffAt, lowestQuality, alleleCountAt, callVariantAt, calledAlleleAt, qualAt, oneMinusQualAt, callOk}
+use Rattle.variants_and_fragments.specs.Inner.Layout.{Sized}
 use Rattle.variants_and_fragments.specs.Chain.{firstCallAt, strandAt, chainOf, goodChain, reached}
-use Rattle.variants_and_fragments.specs.Alleles.{VariantsIn, allelesStart, isBase}
+use Rattle.variants_and_fragments.specs.Alleles.{allelesStart, isBase}
+use Rattle.variants_and_fragments.specs.Inner.Alleles.{VariantsIn}
 
 -- p holds of each
 unfoldable pub allb : {X : Type 0} → (X → Bool) → List X → Bool

@@ -11,18 +11,20 @@ use Rattle.variants_and_fragments.specs.Check.{caseOf}
 use Rattle.variants_and_fragments.specs.Decode.{decode}
 use Rattle.variants_and_fragments.specs.Layout.{alleleCountAt}
 use Rattle.variants_and_fragments.specs.Written.{written}
-use Rattle.pileup.specs.Rows.{RowsMade}
-use Rattle.pileup.specs.Piles.{PilesMade}
+use Rattle.pileup.specs.Inner.Rows.{RowsMade}
+use Rattle.pileup.specs.Inner.Piles.{PilesMade}
 use Rattle.genotype_probs.specs.declared.Rates.{Rates}
 use Rattle.genotype_probs.specs.Rates.{ratesFault}
 use Rattle.genotype_probs.specs.Priors.{priorAt}
-use Rattle.shuffle.specs.Orders.{orderCount, GoodOrders}
-use Rattle.sweeps.specs.Sweeps.{GoodHaps, phasedTotal, sourceTotal}
+use Rattle.shuffle.specs.Orders.{orderCount}
+use Rattle.shuffle.specs.Inner.Orders.{GoodOrders}
+use Rattle.sweeps.specs.Sweeps.{phasedTotal, sourceTotal}
+use Rattle.sweeps.specs.Inner.Sweeps.{GoodHaps}
 use Rattle.sweeps.specs.Demand3.{Demand3}
-use Rattle.sweeps.specs.Posts.{posts}
-use Rattle.likelihoods.specs.Held.{Liks}
-use Rattle.call_genotypes.specs.Scores.{overFirst, SweepState}
-use Rattle.call_genotypes.specs.Runs.{resultOf}
+use Rattle.sweeps.specs.Inner.Posts.{posts}
+use Rattle.likelihoods.specs.Inner.Held.{Liks}
+use Rattle.call_genotypes.specs.Inner.Scores.{overFirst, SweepState}
+use Rattle.call_genotypes.specs.Inner.Runs.{resultOf}
 use Rattle.with_haplotypes.specs.declared.RoundAnswer.{RoundAnswer}
 use Rattle.with_haplotypes.specs.declared.RoundSizes.{RoundSizes}
 use Rattle.with_haplotypes.specs.declared.checks.RoundChecked.{RoundChecked}

@@ -9,7 +9,7 @@ use lib.IntN.{ℤ, pos, natAbs}
 use lib.ListN.{length, getD}
 use Rattle.variants_and_fragments.specs.Case.{Call}
 use Rattle.variants_and_fragments.specs.Pileup.{Row}
-use Rattle.pileup.specs.Packed.{rowAt, rowsAt, groupStart}
+use Rattle.pileup.specs.Inner.Packed.{rowAt, rowsAt, groupStart}
 use Rattle.sweeps.specs.Sweeps.{callTerm, likelihood}
 use Rattle.likelihoods.specs.declared.likelihoods.ReadLikelihoods.{ReadLikelihoods}
 

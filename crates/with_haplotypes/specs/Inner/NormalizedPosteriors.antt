@@ -3,7 +3,8 @@ use mathlib.Core.List.{List}
 use Prim.Native.Nat.{ℕ, _*_, _/_, _%_, _≤_, _<_}
 use lib.IntN.{ℤ}
 use lib.ListN.{length, getD, drop}
-use Rattle.genotype_probs.specs.Posteriors.{normalized, TableAt}
+use Rattle.genotype_probs.specs.Posteriors.{normalized}
+use Rattle.genotype_probs.specs.Inner.Posteriors.{TableAt}
 
 -- element e of the posteriors, nine places a variant: of a variant's k × k scores, normalised, then zeros
 unfoldable pub normalizedAt : List ℕ → List ℤ → ℕ → ℤ

@@ -6,8 +6,9 @@ use Prim.Native.Nat.{ℕ, _≤_, _<_}
 use lib.IntN.{ℤ, pos, natAbs}
 use lib.ListN.{length, getD}
 use Rattle.variants_and_fragments.specs.declared.Sizes.{Sizes}
-use Rattle.variants_and_fragments.specs.Layout.{Sized}
-use Rattle.variants_and_fragments.specs.Alleles.{VariantsIn, allelesStart}
+use Rattle.variants_and_fragments.specs.Inner.Layout.{Sized}
+use Rattle.variants_and_fragments.specs.Alleles.{allelesStart}
+use Rattle.variants_and_fragments.specs.Inner.Alleles.{VariantsIn}
 
 -- a table of 144 entries, each at most 2^20 steps from 0
 pub record TableIn (table : List ℤ) : Type 0 where

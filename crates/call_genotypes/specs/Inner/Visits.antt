@@ -9,13 +9,14 @@ use lib.IntN.{ℤ, pos, _+ℤ_, _-ℤ_}
 use Rattle.variants_and_fragments.specs.Pileup.{Row}
 use Rattle.variants_and_fragments.specs.Sums.{sumOver}
 use Rattle.genotype_probs.specs.Posteriors.{firstMaximum}
-use Rattle.sweeps.specs.Sweeps.{SweepCase, GoodHaps, putPair, sameHaps, callTerm, visit, sweep}
+use Rattle.sweeps.specs.Sweeps.{SweepCase, putPair, sameHaps, callTerm, visit, sweep}
+use Rattle.sweeps.specs.Inner.Sweeps.{GoodHaps}
 use Rattle.shuffle.specs.Permutation.{allBelow}
-use Rattle.sweeps.specs.Incremental.{changed}
-use Rattle.sweeps.specs.Posts.{recorded}
-use Rattle.likelihoods.specs.Held.{SweepReads, sweepReads, Held, Liks, Within}
+use Rattle.sweeps.specs.Inner.Incremental.{changed}
+use Rattle.sweeps.specs.Inner.Posts.{recorded}
+use Rattle.likelihoods.specs.Inner.Held.{SweepReads, sweepReads, Held, Liks, Within}
 use Rattle.call_genotypes.specs.declared.score.Pair.{Pair}
-use Rattle.call_genotypes.specs.Scores.{overFirst, SweepState, Standing, VisitStart, scoredAt}
+use Rattle.call_genotypes.specs.Inner.Scores.{overFirst, SweepState, Standing, VisitStart, scoredAt}
 
 -- ---- the best pair
 -- the number of v's first pair with the greatest score, k by k scores standing at 9 × v

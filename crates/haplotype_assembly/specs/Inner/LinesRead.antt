@@ -10,16 +10,16 @@ use lib.IntN.{ℤ}
 use lib.ListN.{length, getD}
 use lib.Seq.{sets}
 use Rattle.variants_and_fragments.specs.declared.Sizes.{Sizes}
-use Rattle.variants_and_fragments.specs.Accepted.{CaseIn}
+use Rattle.variants_and_fragments.specs.Inner.Accepted.{CaseIn}
 use Rattle.variants_and_fragments.specs.Chain.{strandAt}
 use Rattle.variants_and_fragments.specs.Case.{Fragment, Call}
 use Rattle.variants_and_fragments.specs.Decode.{tabulate}
 use Rattle.variants_and_fragments.specs.Pileup.{Row}
-use Rattle.pileup.specs.Packed.{rowsAt, RowsIn, groupStart}
+use Rattle.pileup.specs.Inner.Packed.{rowsAt, RowsIn, groupStart}
 use Rattle.haplotype_assembly.specs.declared.tally.Tally.{Tally}
 use Rattle.haplotype_assembly.specs.declared.tally.Counted.{Counted}
 use Rattle.haplotype_assembly.specs.declared.lines.Head.{Head}
-use Rattle.haplotype_assembly.specs.PhaseRead.{ruleAt}
+use Rattle.haplotype_assembly.specs.Inner.PhaseRead.{ruleAt}
 use Rattle.haplotype_assembly.specs.Lines.{space, colon, decimal, blocks, blockStart, alleleBytes, callQuality, strandByte, hasLine}
 
 -- bytes stored one after the other from `at` on, the rest of the slice as before; `end` is the place after them

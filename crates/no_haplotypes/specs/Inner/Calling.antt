@@ -9,19 +9,20 @@ use lib.Ieee.{Float}
 use lib.IntN.{ℤ, pos, natAbs}
 use lib.ListN.{length, getD, set, drop}
 use Rattle.variants_and_fragments.specs.declared.Sizes.{Sizes}
-use Rattle.variants_and_fragments.specs.Accepted.{CaseIn}
-use Rattle.variants_and_fragments.specs.Case.{All}
+use Rattle.variants_and_fragments.specs.Inner.Accepted.{CaseIn}
+use Rattle.variants_and_fragments.specs.Inner.Case.{All}
 use Rattle.variants_and_fragments.specs.Decode.{decode}
 use Rattle.variants_and_fragments.specs.Layout.{alleleCountAt}
 use Rattle.variants_and_fragments.specs.Pileup.{pileOf, ambiguousCount}
-use Rattle.variants_and_fragments.specs.Written.{writtenFrom, written}
-use Rattle.pileup.specs.Packed.{RowIn, groupStart}
-use Rattle.pileup.specs.Piles.{PilesMade}
+use Rattle.variants_and_fragments.specs.Written.{written}
+use Rattle.variants_and_fragments.specs.Inner.Written.{writtenFrom}
+use Rattle.pileup.specs.Inner.Packed.{RowIn, groupStart}
+use Rattle.pileup.specs.Inner.Piles.{PilesMade}
 use Rattle.genotype_probs.specs.declared.posteriors.Genotype.{Genotype}
 use Rattle.genotype_probs.specs.declared.Rates.{Rates}
 use Rattle.no_haplotypes.specs.declared.tally.Pile.{Pile}
 use Rattle.no_haplotypes.specs.NoHaplotypes.{callsAt, answerFrom, qualFrom, gqFrom, answerAt, qualAt, gqAt}
-use Rattle.no_haplotypes.specs.Tally.{pileRows, PileIn, CountsIn, posteriorsFrom}
+use Rattle.no_haplotypes.specs.Inner.Tally.{pileRows, PileIn, CountsIn, posteriorsFrom}
 
 -- ---- the piles
 

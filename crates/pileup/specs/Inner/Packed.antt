@@ -8,8 +8,9 @@ use lib.IntN.{ℤ, pos, negℤ, _-ℤ_}
 use lib.ListN.{length, getD}
 use lib.Seq.{slice}
 use Rattle.variants_and_fragments.specs.Words.{debtOf}
-use Rattle.variants_and_fragments.specs.Sums.{DownTo}
-use Rattle.variants_and_fragments.specs.Case.{Call, Fragment, usable, All}
+use Rattle.variants_and_fragments.specs.Inner.Sums.{DownTo}
+use Rattle.variants_and_fragments.specs.Case.{Call, Fragment, usable}
+use Rattle.variants_and_fragments.specs.Inner.Case.{All}
 use Rattle.variants_and_fragments.specs.Decode.{tabulateFrom}
 use Rattle.variants_and_fragments.specs.Pileup.{Row, rowOf}
 use Rattle.pileup.specs.declared.row.Row.{Row as RowHeld}

@@ -8,11 +8,11 @@ use Rattle.shuffle.specs.Permutation.{Permutation}
 use Rattle.shuffle.specs.Orders.{orderAt}
 use Rattle.sweeps.specs.Sweeps.{SweepCase, RunResult, run}
 use Rattle.sweeps.specs.Demand3.{Demand3}
-use Rattle.sweeps.specs.Posts.{posts}
-use Rattle.likelihoods.specs.Held.{SweepReads, Liks}
+use Rattle.sweeps.specs.Inner.Posts.{posts}
+use Rattle.likelihoods.specs.Inner.Held.{SweepReads, Liks}
 use Rattle.call_genotypes.specs.declared.run.Plan.{Plan}
 use Rattle.call_genotypes.specs.declared.run.RunAnswer.{RunAnswer}
-use Rattle.call_genotypes.specs.Scores.{overFirst, SweepState, Standing}
+use Rattle.call_genotypes.specs.Inner.Scores.{overFirst, SweepState, Standing}
 
 -- sweep s (from 0) uses lent order s mod m, of m orders of n entries each
 unfoldable pub orderOf : List ℕ → ℕ → ℕ → ℕ → List ℕ

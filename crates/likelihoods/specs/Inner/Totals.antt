@@ -8,7 +8,7 @@ use lib.ListN.{length, getD}
 use Rattle.variants_and_fragments.specs.Decode.{tabulate}
 use Rattle.variants_and_fragments.specs.Sums.{sumTo}
 use Rattle.sweeps.specs.Sweeps.{SweepCase, allele0, allele1, likelihood, mixOf}
-use Rattle.likelihoods.specs.Likelihoods.{callsOf, flagged, alleleOn}
+use Rattle.likelihoods.specs.Inner.Likelihoods.{callsOf, flagged, alleleOn}
 
 -- the prior of the pair (i, j) at v, 9 places per variant
 unfoldable pub pairPrior : List ℕ → List ℤ → ℕ → ℕ → ℕ → ℤ

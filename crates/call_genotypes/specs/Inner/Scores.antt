@@ -11,12 +11,13 @@ use lib.Signed.{ltZ}
 use Rattle.steps.specs.Logs.{addExp}
 use Rattle.variants_and_fragments.specs.Pileup.{Row}
 use Rattle.variants_and_fragments.specs.Decode.{tabulate}
-use Rattle.sweeps.specs.Sweeps.{SweepCase, GoodHaps, allele0, allele1, score}
-use Rattle.sweeps.specs.Incremental.{alleleSum}
+use Rattle.sweeps.specs.Sweeps.{SweepCase, allele0, allele1, score}
+use Rattle.sweeps.specs.Inner.Sweeps.{GoodHaps}
+use Rattle.sweeps.specs.Inner.Incremental.{alleleSum}
 use Rattle.call_genotypes.specs.declared.score.Mixes.{Mixes}
 use Rattle.call_genotypes.specs.declared.score.Pair.{Pair}
-use Rattle.pileup.specs.Packed.{RowIn, RowsIn}
-use Rattle.likelihoods.specs.Held.{SweepReads, Held, Liks, Within}
+use Rattle.pileup.specs.Inner.Packed.{RowIn, RowsIn}
+use Rattle.likelihoods.specs.Inner.Held.{SweepReads, Held, Liks, Within}
 
 -- the pair that stands at v
 abbrev pub pairAt : List ℕ → ℕ → Pair

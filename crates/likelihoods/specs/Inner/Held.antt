@@ -7,10 +7,11 @@ use Prim.Native.Nat.{ℕ, _+_, _*_, _/_, _%_, _^_, _<_, _≤_}
 use lib.ListN.{length, getD}
 use lib.IntN.{ℤ, pos, natAbs}
 use mathlib.Core.Bool.{Bool}
-use Rattle.pileup.specs.Packed.{Grouped}
-use Rattle.variants_and_fragments.specs.Sums.{DownTo}
-use Rattle.sweeps.specs.Sweeps.{SweepCase, GoodSweepCase, allele0, allele1, likelihood, mixOf}
-use Rattle.sweeps.specs.Incremental.{pileupFrom}
+use Rattle.pileup.specs.Inner.Packed.{Grouped}
+use Rattle.variants_and_fragments.specs.Inner.Sums.{DownTo}
+use Rattle.sweeps.specs.Sweeps.{SweepCase, allele0, allele1, likelihood, mixOf}
+use Rattle.sweeps.specs.Inner.Sweeps.{GoodSweepCase}
+use Rattle.sweeps.specs.Inner.Incremental.{pileupFrom}
 
 -- what the sweeps read: each variant's number of alleles, its flag (1 where it is phased), its nine priors, and the piles
 pub record SweepReads : Type 0 where

@@ -1,0 +1,3 @@
+pub mod Scores
+pub mod Visits
+pub mod Runs

@@ -1,0 +1,3 @@
+pub mod PriorTable
+pub mod PriorInputs
+pub mod Posteriors

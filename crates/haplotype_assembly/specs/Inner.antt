@@ -1,0 +1,2 @@
+pub mod PhaseRead
+pub mod LinesRead

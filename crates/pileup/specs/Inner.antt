@@ -1,0 +1,4 @@
+pub mod Packed
+pub mod Reader
+pub mod Rows
+pub mod Piles

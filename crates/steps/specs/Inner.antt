@@ -1,0 +1,4 @@
+pub mod Table
+pub mod Logs
+pub mod Lines
+pub mod Probs

@@ -1,0 +1,11 @@
+pub mod Sums
+pub mod Case
+pub mod Words
+pub mod Layout
+pub mod Chain
+pub mod Accepted
+pub mod Fold
+pub mod ChainCalls
+pub mod Alleles
+pub mod Written
+pub mod Pileup

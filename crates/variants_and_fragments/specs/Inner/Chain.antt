@@ -1,0 +1,44 @@
+-- Chains as the check walks them: which records are marked, and what a walk and the check of a fragment leave. Assumes nothing.
+use mathlib.Core.Path.{_≡_}
+use mathlib.Core.Bool.{Bool, true, false, cond}
+use mathlib.Core.List.{List}
+use Prim.Native.Nat.{ℕ, suc, _+_, _≤_, _<_}
+use lib.ListN.{length, getD}
+use lib.IntN.{ℤ}
+use lib.Dec.{eqb}
+use Rattle.variants_and_fragments.specs.declared.Sizes.{Sizes}
+use Rattle.variants_and_fragments.specs.First.{firstFail}
+use Rattle.variants_and_fragments.specs.Layout.{maxCalls}
+use Rattle.variants_and_fragments.specs.Layout.{firstCallAt}
+use Rattle.variants_and_fragments.specs.Chain.{isRecord, chainOf, memb, reached, goodChain, fragmentOk}
+
+-- where fragment f's chain starts: its first call, and 0 where that is no record (absent, −1, or past C)
+unfoldable pub firstRecordAt : List ℤ → Sizes → ℕ → ℕ
+firstRecordAt w s f = cond (isRecord s (firstCallAt w s f)) (firstCallAt w s f) 0
+
+abbrev pub flag : Bool → ℕ
+flag true = 1
+flag false = 0
+
+pub record Marked (seen : List ℕ) (l : List ℕ) : Type 0 where
+  pub long : maxCalls < length seen
+  pub marks : (x : ℕ) → x ≤ maxCalls → getD seen x 0 ≡ flag (memb x l)
+
+-- what a walk of fragment f's chain answers, and that the flags then mark its records too
+pub record Walked (w : List ℤ) (s : Sizes) (f : ℕ) (seen : List ℕ) (r : Bool) : Type 0 where
+  pub ok : r ≡ goodChain w s (reached w s f) (chainOf w s f)
+  pub marked : r ≡ true → Marked seen (reached w s (suc f))
+
+-- the same of fragment f's test
+pub record FragmentChecked (w : List ℤ) (s : Sizes) (f : ℕ) (seen : List ℕ) (r : Bool) : Type 0 where
+  pub ok : r ≡ fragmentOk w s f
+  pub marked : r ≡ true → Marked seen (reached w s (suc f))
+
+-- and of all fragments' tests
+pub record FragmentsChecked (w : List ℤ) (s : Sizes) (seen : List ℕ) (r : ℕ) : Type 0 where
+  pub at : r ≡ firstFail (fragmentOk w s) (s .f)
+  pub marked : r ≡ s .f → Marked seen (reached w s (s .f))
+
+-- record i + 1 has its flag
+abbrev pub markedAt : List ℕ → ℕ → Bool
+markedAt seen i = eqb (getD seen (i + 1) 0) 1
