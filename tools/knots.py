@@ -1,5 +1,6 @@
 #!/usr/bin/env python3
-"""Write the knots of document 01, section 1: crates/steps/specs/Table.antt and crates/steps/src/knots.rt.
+"""Write the knots of document 01, section 1: crates/steps/specs/Table.antt, crates/steps/src/knots.rt, and e(k) of each in
+crates/steps/specs/Inner/Table.antt.
 
 Run at the repository's root. e(k) is the greatest e with e^128 * 2^k <= 2^5120; T[k] is the greatest t
 with 2^(t + 163840) <= (2^40 + e(k))^4096.
@@ -7,14 +8,18 @@ with 2^(t + 163840) <= (2^40 + e(k))^4096.
 
 LAST = 1664
 
-SPEC = """-- Written by tools/knots.py. The knots T[0] to T[1664] of document 01, section 1, and e(k) for each, the witness of its rule.
--- `Knots.antt` has the rule. Assumes nothing.
+SPEC = """-- Written by tools/knots.py. The knots T[0] to T[1664] of document 01, section 1. `Knots.antt` has their rule. Assumes nothing.
 use mathlib.Core.List.{List, [], _∷_}
 use Prim.Native.Nat.{ℕ}
 
 unfoldable pub knots : List ℕ
 knots =
     %s ∷ []
+"""
+
+ROOTS = """-- Written by tools/knots.py. e(k) for each knot T[k], the witness of its rule. Assumes nothing.
+use mathlib.Core.List.{List, [], _∷_}
+use Prim.Native.Nat.{ℕ}
 
 unfoldable pub roots : List ℕ
 roots =
@@ -60,7 +65,9 @@ def table():
 def main():
     roots, knots = table()
     with open("crates/steps/specs/Table.antt", "w", encoding="utf-8") as spec:
-        spec.write(SPEC % (rows(knots, 16), rows(roots, 8)))
+        spec.write(SPEC % rows(knots, 16))
+    with open("crates/steps/specs/Inner/Table.antt", "w", encoding="utf-8") as spec:
+        spec.write(ROOTS % rows(roots, 8))
     with open("crates/steps/src/knots.rt", "w", encoding="utf-8") as code:
         code.write(CODE % "".join("    %d,\n" % t for t in knots))
 

@@ -1,5 +1,4 @@
--- Written by tools/knots.py. The knots T[0] to T[1664] of document 01, section 1, and e(k) for each, the witness of its rule.
--- `Knots.antt` has the rule. Assumes nothing.
+-- Written by tools/knots.py. The knots T[0] to T[1664] of document 01, section 1. `Knots.antt` has their rule. Assumes nothing.
 use mathlib.Core.List.{List, [], _∷_}
 use Prim.Native.Nat.{ℕ}
 

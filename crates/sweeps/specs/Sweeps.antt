@@ -123,5 +123,3 @@ module _ (C : SweepCase) where
 
   unfoldable pub phasedCount : ℕ
   phasedCount = countTo (C .n) (λ w. cond (C .phased w) 1 0)
-
--- ---- what an accepted run has: its case and its haplotypes; each of its orders is a `Permutation` (shuffle)

@@ -41,7 +41,7 @@ alleleCount variant = length (variant .alleles)
 unfoldable pub usable : ℤ → Fragment → Call → Bool
 usable cutoff fragment call = ltZ (call .qual) cutoff
 
--- what stands past the end of a list of variants, fragments or calls; nothing reads it
+-- what stands past the end of a list of variants or fragments; nothing reads it
 abbrev pub noVariant : Variant
 noVariant = record { pos0 = 0; dp = 0; genotype0 = 0; genotype1 = 0; alleles = [] }
 
@@ -61,5 +61,3 @@ alleleOf variant j = getD (variant .alleles) j []
 -- the number of calls of all fragments together
 abbrev pub callCount : Case → ℕ
 callCount case = countOver (case .fragments) (λ fragment. length (fragment .calls))
-
--- ---- what section 2 says of a case, piece by piece

@@ -74,5 +74,3 @@ chainFaultAt p n i c = cond (ltb p n) p (cond (ltb i c) n (n + 1))
 
 abbrev pub chainFault : List ℤ → Sizes → ℕ
 chainFault w s = chainFaultAt (firstFail (fragmentOk w s) (s .f)) (s .f) (firstFail (isReached w s) (s .c)) (s .c)
-
--- ---- what the check's functions promise. Flags: what stands at x is 1 where x is in l, and 0 elsewhere

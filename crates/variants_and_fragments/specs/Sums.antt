@@ -1,4 +1,4 @@
--- Sums over a list and over the numbers below one, and the range in which log probabilities and their sums lie. Every total of 01's sections 4 and 6 is such a sum.
+-- Sums over a list and over the numbers below one. Every total of 01's sections 4 and 6 is such a sum.
 -- Assumes nothing.
 use mathlib.Core.List.{List, [], _∷_}
 use Prim.Native.Nat.{ℕ, zero, suc, _+_}

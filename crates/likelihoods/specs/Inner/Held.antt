@@ -1,12 +1,11 @@
 -- What the lent slices hold of a case of the sweeps: alleles, phased variants, priors, the pile of each variant, haplotypes and likelihoods.
 -- Assumes nothing.
 use mathlib.Core.Path.{_≡_}
-use mathlib.Core.Bool.{cond}
+use mathlib.Core.Bool.{cond, Bool}
 use mathlib.Core.List.{List, []}
 use Prim.Native.Nat.{ℕ, _+_, _*_, _/_, _%_, _^_, _<_, _≤_}
 use lib.ListN.{length, getD}
 use lib.IntN.{ℤ, pos, natAbs}
-use mathlib.Core.Bool.{Bool}
 use Rattle.pileup.specs.Inner.Packed.{Grouped}
 use Rattle.variants_and_fragments.specs.Inner.Sums.{DownTo}
 use Rattle.sweeps.specs.Sweeps.{SweepCase, allele0, allele1, likelihood, mixOf}

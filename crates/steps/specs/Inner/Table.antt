@@ -1,4 +1,4 @@
--- The roots e(k) of the knots' rule, one per knot. Assumes nothing.
+-- Written by tools/knots.py. e(k) for each knot T[k], the witness of its rule. Assumes nothing.
 use mathlib.Core.List.{List, [], _∷_}
 use Prim.Native.Nat.{ℕ}
 

@@ -10,10 +10,12 @@ use Rattle.variants_and_fragments.specs.Inner.Case.{rising}
 use Rattle.variants_and_fragments.specs.Inner.Accepted.{allb}
 use Rattle.sweeps.specs.Sweeps.{SweepCase, allele0, allele1}
 
+-- whether a fragment has a call at v
 unfoldable pub hasCall : ℕ → List Call → Bool
 hasCall v [] = false
 hasCall v (c ∷ cs) = eqb (c .variant) v || hasCall v cs
 
+-- what the case of an accepted run has, and its haplotypes; each of its orders is a `Permutation` (shuffle)
 pub record GoodSweepCase (C : SweepCase) : Type 0 where
   pub some-allele : (v : ℕ) → v < C .n → 1 ≤ C .k v
   pub three-alleles : (v : ℕ) → v < C .n → C .k v ≤ 3

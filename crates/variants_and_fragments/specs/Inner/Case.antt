@@ -10,6 +10,7 @@ use Rattle.variants_and_fragments.specs.Alleles.{isBase}
 use Rattle.variants_and_fragments.specs.Inner.Sums.{DownTo}
 use Rattle.variants_and_fragments.specs.Case.{Variant, Call, Fragment, Case, alleleCount, noVariant, variantOf, alleleOf, callCount}
 
+-- what stands past the end of a list of calls; nothing reads it
 abbrev pub noCall : Call
 noCall = record { variant = 0; allele = 0; qual = pos 0; one-minus-qual = pos 0 }
 

@@ -8,14 +8,14 @@ use lib.IntN.{ℤ}
 use lib.Dec.{eqb}
 use Rattle.variants_and_fragments.specs.declared.Sizes.{Sizes}
 use Rattle.variants_and_fragments.specs.First.{firstFail}
-use Rattle.variants_and_fragments.specs.Layout.{maxCalls}
-use Rattle.variants_and_fragments.specs.Layout.{firstCallAt}
+use Rattle.variants_and_fragments.specs.Layout.{maxCalls, firstCallAt}
 use Rattle.variants_and_fragments.specs.Chain.{isRecord, chainOf, memb, reached, goodChain, fragmentOk}
 
 -- where fragment f's chain starts: its first call, and 0 where that is no record (absent, −1, or past C)
 unfoldable pub firstRecordAt : List ℤ → Sizes → ℕ → ℕ
 firstRecordAt w s f = cond (isRecord s (firstCallAt w s f)) (firstCallAt w s f) 0
 
+-- flags: what stands at x is 1 where x is in l, and 0 elsewhere
 abbrev pub flag : Bool → ℕ
 flag true = 1
 flag false = 0
