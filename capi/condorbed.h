@@ -57,14 +57,14 @@ typedef struct {
     size_t place;
 } condorbed_answer;
 
-/* Where done, N, F, C and how far the cutoff lies below 0; else zeros. */
+/* Where done, N, F, C and the cutoff; else zeros. */
 typedef struct {
     size_t number;
     size_t place;
     size_t n;
     size_t f;
     size_t c;
-    size_t cut;
+    int32_t cutoff;
 } condorbed_check_answer;
 
 /* Where done, how many bytes and lines were written; else zeros. */

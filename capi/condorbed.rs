@@ -21,13 +21,13 @@ impl fmt::Display for Refused {
 
 impl std::error::Error for Refused {}
 
-/// N, F, C, and how far the cutoff lies below 0.
+/// N, F, C and the cutoff.
 #[derive(Clone, Copy, Debug, PartialEq, Eq)]
 pub struct Sizes {
     pub n: usize,
     pub f: usize,
     pub c: usize,
-    pub cut: usize,
+    pub cutoff: i32,
 }
 
 /// How many bytes and lines were written.
@@ -72,7 +72,7 @@ pub struct DensityParameters {
 /// The check of a case, which every other operation makes as well: numbers 1 to 5.
 pub fn check_case(words: &[i32], bases: &[u8]) -> Result<Sizes, Refused> {
     let a = unsafe { c::condorbed_check_case(words.as_ptr(), words.len(), bases.as_ptr(), bases.len()) };
-    result(a.number, a.place, Sizes { n: a.n, f: a.f, c: a.c, cut: a.cut })
+    result(a.number, a.place, Sizes { n: a.n, f: a.f, c: a.c, cutoff: a.cutoff })
 }
 
 /// Writes N filters.
@@ -221,7 +221,7 @@ mod c {
         pub n: usize,
         pub f: usize,
         pub c: usize,
-        pub cut: usize,
+        pub cutoff: i32,
     }
 
     #[repr(C)]

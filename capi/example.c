@@ -41,10 +41,10 @@ static void check_case(void)
 {
     condorbed_check_answer a = condorbed_check_case(CASE);
     first_line("check_case", a.number, a.place);
-    printf("%zu %zu %zu %zu\n", a.n, a.f, a.c, a.cut);
+    printf("%zu %zu %zu %ld\n", a.n, a.f, a.c, (long)a.cutoff);
     a = condorbed_check_case(words, LEN(words) - 1, bases, LEN(bases)); /* a word is missing */
     first_line("check_case", a.number, a.place);
-    printf("%zu %zu %zu %zu\n", a.n, a.f, a.c, a.cut);
+    printf("%zu %zu %zu %ld\n", a.n, a.f, a.c, (long)a.cutoff);
 }
 
 static void var_filter(void)

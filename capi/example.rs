@@ -40,7 +40,7 @@ fn check_case() {
     // the second time a word is missing
     for words in [WORDS, &WORDS[..WORDS.len() - 1]] {
         let sizes = first_line("check_case", condorbed::check_case(words, BASES));
-        line(&sizes.map_or([0; 4], |s| [s.n, s.f, s.c, s.cut]));
+        line(&sizes.map_or([0; 4], |s| [s.n as i64, s.f as i64, s.c as i64, s.cutoff as i64]));
     }
 }
 

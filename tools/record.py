@@ -22,6 +22,10 @@ HEADER = """# Written by tools/record.py: %d requests and one that cannot be rea
 # for refusals, check and orders.
 """
 
+# The request that cannot be read, up to the number that does not fit its type and from it on; it is the fifth token.
+UNREADABLE = ("# an integer that does not fit its type ends the program\ncheck 4 0 0\n  # a comment is no token\n  ",
+              "2147483648 0 0\ncheck 4 0 0 0 0 0\n")
+
 
 class Record:
     """The requests with their notes, in order."""
@@ -462,12 +466,12 @@ def main():
     entries = recorded()
     requests = [e for e in entries if isinstance(e, Request)]
     replies, asked = answers(requests)
+    text = HEADER % (len(requests), asked) + "".join(e.text() if isinstance(e, Request) else e for e in entries)
+    text += UNREADABLE[0]
     with open("crates/condorbed/stdin", "w") as out:
-        out.write(HEADER % (len(requests), asked))
-        out.writelines(e.text() if isinstance(e, Request) else e for e in entries)
-        out.write("# an integer that does not fit its type ends the program\ncheck 1 2147483648 0\ncheck 4 0 0 0 0 0\n")
+        out.write(text + UNREADABLE[1])
     with open("crates/condorbed/stdout", "w") as out:
-        out.write("".join(replies) + "unreadable\n")
+        out.write("".join(replies) + "unreadable %d 5 number\n" % (1 + text.count("\n")))
     print("%d requests, %d answered by the oracle" % (len(requests), asked))
 
 

@@ -51,10 +51,7 @@ class Module:
     def __init__(self, file):
         self.file = file
         self.lines = open(file, encoding="utf-8").read().split("\n")
-        self.uses, self.aliases, self.definitions = imports(self.lines), {}, {}
-        for line in self.lines:
-            if ALIAS.match(line):
-                self.aliases[ALIAS.match(line).group(2)] = ALIAS.match(line).group(1)
+        self.uses, self.aliases, self.definitions = imports(self.lines), aliases(self.lines), {}
         heads = self.heads()
         for number, (at, name, kind) in enumerate(heads):
             end = heads[number + 1][0] if number + 1 < len(heads) else len(self.lines)
@@ -114,6 +111,11 @@ def imports(lines):
     return found
 
 
+def aliases(lines):
+    """The modules that these lines give a name, each with its path."""
+    return {match.group(2): match.group(1) for match in map(ALIAS.match, lines) if match}
+
+
 class Specs:
     def __init__(self, root="."):
         self.root, self.modules = root, {}
@@ -137,10 +139,14 @@ class Specs:
         module = self.modules[key]
         if word in module.definitions:
             return key, word
-        if word in module.uses:
-            return self.find(*module.uses[word])
+        return self.brought(module.uses, module.aliases, word)
+
+    def brought(self, uses, named, word):
+        """What a word means by imports: a name, or a module's alias and a name there."""
+        if word in uses:
+            return self.find(*uses[word])
         alias, _, rest = word.partition(".")
-        return self.find(module.aliases[alias], rest) if alias in module.aliases and rest else None
+        return self.find(named[alias], rest) if alias in named and rest else None
 
     def promises(self):
         """What the promises of the public operations and of the static library name."""
@@ -149,12 +155,11 @@ class Specs:
             files[file] = re.findall(r'extern "C" fn (\w+)', open(file, encoding="utf-8").read())
         for file, names in files.items():
             text = open(file, encoding="utf-8").read()
-            brought = imports(text.split("\n"))
+            uses, named = imports(text.split("\n")), aliases(text.split("\n"))
             for name in names:
                 contract = re.search(r"fn %s\b.*?\n\{" % name, text, re.S).group(0)
                 for word in words(re.findall(r"ensures \{.*\}", contract)):
-                    if word in brought:
-                        yield self.find(*brought[word])
+                    yield self.brought(uses, named, word)
 
     def sentences(self):
         """What docs/TRUST.md names as a sentence: a name and its file of specs, in a column of a table."""

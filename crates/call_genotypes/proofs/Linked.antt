@@ -18,7 +18,8 @@ use Rattle.pileup.specs.Inner.Packed.{RowsIn, rowsAt, groupStart}
 use Rattle.pileup.proofs.Groups.{group-rows, group-in}
 use Rattle.genotype_probs.proofs.ListLaws.{down-abs}
 use Rattle.genotype_probs.proofs.TableSums.{tabulate-cong, pair-in, place-in}
-use Rattle.sweeps.specs.Sweeps.{SweepCase, allele0, allele1, score, scoreWith, mixOf}
+use Rattle.sweeps.specs.Sweeps.{SweepCase, allele0, allele1, score, scoreWith}
+use Rattle.steps.specs.Logs.{mixOf}
 use Rattle.sweeps.specs.Inner.Incremental.{pileupFrom, share, whichValue, rowValue}
 use Rattle.sweeps.proofs.Basics.{sumOver-cong}
 use Rattle.sweeps.proofs.Scored.{score-pileup}

@@ -10,7 +10,8 @@ use lib.IntN.{ℤ, pos, _+ℤ_, _-ℤ_, _*ℤ_, zero-*ℤ}
 use Rattle.steps.proofs.Signed.{zlin, up-pos, dn-pos, parts-add, parts-minus}
 use Rattle.variants_and_fragments.specs.Case.{Call}
 use Rattle.variants_and_fragments.specs.Pileup.{Row}
-use Rattle.sweeps.specs.Sweeps.{callTerm, mixOf}
+use Rattle.sweeps.specs.Sweeps.{callTerm}
+use Rattle.steps.specs.Logs.{mixOf}
 use Rattle.sweeps.specs.Inner.Incremental.{without, fourValue}
 use Rattle.call_genotypes.specs.Inner.Scores.{onePlus, mixValue, rowGap, rowMixes, riseOf, turn}
 use Rattle.likelihoods.proofs.TotalParts.{mixed-from}

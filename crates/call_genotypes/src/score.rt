@@ -14,6 +14,7 @@ ghost use Rattle.call_genotypes.specs.Inner.Scores.{pairAt, valueOf, mix
 use pileup::piles::group_start;
 use pileup::row::Row;
 use pileup::row::unpack;
+use steps::LogProb;
 use steps::one_plus::ln_one_plus_exp;
 
 // A variant's alleles on the two haplotypes.
@@ -74,19 +75,19 @@ fn mixes_of(t: &[u32; 6420], d: i64, g: i64) -> Mixes
 }
 
 // How far o is above q.
-fn gap(q: i64, o: i64) -> i64
-    requires { ⌜ DownTo 262144 q × DownTo 262144 o ⌝ }
-    ensures { λ r. ⌜ (r ≡ o -ℤ q) × (natAbs r ≤ 262144) ⌝ }
+fn gap(q: LogProb, o: LogProb) -> i64
+    requires { ⌜ DownTo 262144 (q .0) × DownTo 262144 (o .0) ⌝ }
+    ensures { λ r. ⌜ (r ≡ o .0 -ℤ q .0) × (natAbs r ≤ 262144) ⌝ }
 {
-    o - q
+    o.0 - q.0
 }
 
 // The likelihood at i.
-fn likelihood_at(lik: &[i64], i: usize) -> i64
+fn likelihood_at(lik: &[i64], i: usize) -> LogProb
     requires { ⌜ i < length (now lik) ⌝ }
-    ensures { λ r. ⌜ r ≡ getD (now (lik .entry)) i (pos 0) ⌝ }
+    ensures { λ r. ⌜ r .0 ≡ getD (now (lik .entry)) i (pos 0) ⌝ }
 {
-    lik[i]
+    LogProb(lik[i])
 }
 
 // How far the distance of a read's likelihoods moves when the own terms of a call of allele x are taken away: `turns` says how often, and
@@ -99,11 +100,11 @@ fn turned(turns: &[i64; 4], x: usize, g: i64) -> i64
 }
 
 // How far l is above b, and y more.
-fn distance(l: i64, b: i64, y: i64) -> i64
-    requires { ⌜ (natAbs l ≤ 2 ^ 32) × (natAbs b ≤ 2 ^ 32) × (natAbs y ≤ 2 ^ 19) ⌝ }
-    ensures { λ r. ⌜ r ≡ (l -ℤ b) +ℤ y ⌝ }
+fn distance(l: LogProb, b: LogProb, y: i64) -> i64
+    requires { ⌜ (natAbs (l .0) ≤ 2 ^ 32) × (natAbs (b .0) ≤ 2 ^ 32) × (natAbs y ≤ 2 ^ 19) ⌝ }
+    ensures { λ r. ⌜ r ≡ (l .0 -ℤ b .0) +ℤ y ⌝ }
 {
-    l - b + y
+    l.0 - b.0 + y
 }
 
 // The four numbers of a row's call.
@@ -214,12 +215,12 @@ fn below_first(pri: &[i64], acc: &[i64; 12], v: usize) -> i64
 }
 
 // The score of (i, j), whose prior stands at `at`.
-fn pair_score(pri: &[i64], acc: &[i64; 12], base: i64, at: usize, i: usize, j: usize) -> i64
+fn pair_score(pri: &[i64], acc: &[i64; 12], base: i64, at: usize, i: usize, j: usize) -> LogProb
     requires { ⌜ (at < length (now pri)) × (natAbs (getD (now pri) at (pos 0)) ≤ 2 ^ 21) × (natAbs base ≤ 2 ^ 53) × (i < 3) × (j < 3) ⌝ }
     requires { ⌜ Within (2 ^ 50) (now acc) ⌝ }
-    ensures { λ r. ⌜ r ≡ (getD (now (pri .entry)) at (pos 0) +ℤ base) +ℤ pairRise (now (acc .entry)) i j ⌝ }
+    ensures { λ r. ⌜ r .0 ≡ (getD (now (pri .entry)) at (pos 0) +ℤ base) +ℤ pairRise (now (acc .entry)) i j ⌝ }
 {
-    pri[at] + base + pair_rise(acc, i, j)
+    LogProb(pri[at] + base + pair_rise(acc, i, j))
 }
 
 // Writes the k by k scores at 9 * v, row after row. At the loop's head p of them are written, and (i, j) is the next pair.
@@ -233,7 +234,8 @@ fn write_scores(pri: &[i64], post: &mut [i64], acc: &[i64; 12], base: i64, v: us
     let mut i = 0;
     let mut j = 0;
     while p < kk {
-        post[9 * v + p] = pair_score(pri, acc, base, 9 * v + p, i, j);
+        let score = pair_score(pri, acc, base, 9 * v + p, i, j).0;
+        post[9 * v + p] = score;
         p += 1;
         j += 1;
         if j == k {

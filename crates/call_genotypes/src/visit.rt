@@ -21,7 +21,7 @@ use pileup::row::unpack;
 
 // What a row's call adds to a likelihood when its variant's allele goes from old to new.
 fn change(row: Row, old: usize, new: usize) -> i64
-    requires { ⌜ (natAbs (row .qual) ≤ 2 ^ 18) × (natAbs (row .«one_minus_qual») ≤ 2 ^ 18) ⌝ }
+    requires { ⌜ (natAbs (row .qual .0) ≤ 2 ^ 18) × (natAbs (row .«one_minus_qual» .0) ≤ 2 ^ 18) ⌝ }
     ensures { λ r. ⌜ r ≡ callTerm (rowFrom row .call) new -ℤ callTerm (rowFrom row .call) old ⌝ }
 {
     let gained = if row.allele == new {
@@ -34,7 +34,7 @@ fn change(row: Row, old: usize, new: usize) -> i64
     } else {
         row.qual
     };
-    gained - lost
+    gained.0 - lost.0
 }
 
 // Adds y to the likelihood at i.

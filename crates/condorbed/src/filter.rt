@@ -9,8 +9,9 @@ use protocol::Buffer;
 use protocol::input;
 use protocol::input::Reader;
 use protocol::output;
+use steps::PHREDProb;
 use var_filter::DensityParameters;
-use var_filter::Filtered;
+use variants_and_fragments::Answered;
 
 // The answer to the request once its case is read; the reader after it, which failed where the request is unreadable.
 pub fn answer(
@@ -69,7 +70,7 @@ fn read_limits(input: &mut Buffer, reader: Reader, filters: &[u8]) -> Limits
     let density = DensityParameters {
         n: count.value,
         len: dist.value,
-        gq: qual.value,
+        gq: PHREDProb(qual.value),
     };
     Limits {
         density,
@@ -91,8 +92,8 @@ fn call(
 ) {
     let answer = var_filter::var_filter(words, bases, quals, density, max_depth, filters);
     let first = match answer {
-        Filtered::Done => done(output),
-        Filtered::Refused(r) => refused(output, r),
+        Answered::Done => done(output),
+        Answered::Refused(r) => refused(output, r),
     };
     let used = output::line_u8(output, first, filters);
     output::flush(output, used);

@@ -6,6 +6,7 @@ use haplotype_assembly::Buffered;
 use protocol::Buffer;
 use protocol::input;
 use protocol::input::Reader;
+use protocol::input::Reason;
 use protocol::output;
 
 // The answer to the request once its case is read; the reader after it, which failed where the request is unreadable.
@@ -43,7 +44,7 @@ fn read_flag(input: &mut Buffer, reader: Reader) -> FlagPart {
     if value > 1 {
         return FlagPart {
             set: false,
-            reader: after.fail(),
+            reader: after.fail(Reason::Number),
         };
     }
     FlagPart {

@@ -6,11 +6,11 @@ use crate::arrays;
 use crate::parts::read_qualities;
 use crate::parts::read_rates;
 use genotype_probs::Rates;
-use no_haplotypes::Called;
 use protocol::Buffer;
 use protocol::input;
 use protocol::input::Reader;
 use protocol::output;
+use variants_and_fragments::Answered;
 
 // The answer to the request once its case is read; the reader after it, which failed where the request is unreadable.
 pub fn answer(
@@ -67,8 +67,8 @@ fn call(
         gqs,
     );
     let mut used = match answer {
-        Called::Done => done(output),
-        Called::Refused(r) => refused(output, r),
+        Answered::Done => done(output),
+        Answered::Refused(r) => refused(output, r),
     };
     used = output::line_i32(output, used, variants);
     used = output::line_f64(output, used, quals);

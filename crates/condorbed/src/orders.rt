@@ -7,7 +7,7 @@ use protocol::Buffer;
 use protocol::input;
 use protocol::input::Reader;
 use protocol::output;
-use shuffle::Ordered;
+use variants_and_fragments::Answered;
 
 // The answer to the request once its case is read; the reader after it, which failed where the request is unreadable.
 pub fn answer(
@@ -33,8 +33,8 @@ pub fn answer(
 // Calls the operation and prints its answer.
 fn call(output: &mut Buffer, words: &[i32], bases: &[u8], seed: u64, orders: &mut [u32]) {
     let first = match shuffle::sweep_orders(words, bases, seed, orders) {
-        Ordered::Done => done(output),
-        Ordered::Refused(r) => refused(output, r),
+        Answered::Done => done(output),
+        Answered::Refused(r) => refused(output, r),
     };
     let used = output::line_u32(output, first, orders);
     output::flush(output, used);

@@ -5,11 +5,11 @@ use crate::answers::refused;
 use crate::answers::unreadable;
 use crate::arrays;
 use crate::parts::read_phase;
-use haplotype_assembly::Phased;
 use protocol::Buffer;
 use protocol::input;
 use protocol::input::Reader;
 use protocol::output;
+use variants_and_fragments::Answered;
 
 // The answer to the request once its case is read; the reader after it, which failed where the request is unreadable.
 pub fn answer(
@@ -115,8 +115,8 @@ fn call(
         names,
     );
     let mut used = match answer {
-        Phased::Done => done(output),
-        Phased::Refused(r) => refused(output, r),
+        Answered::Done => done(output),
+        Answered::Refused(r) => refused(output, r),
     };
     used = output::line_u8(output, used, haplotypes);
     used = output::line_u8(output, used, phased);

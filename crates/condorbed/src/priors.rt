@@ -4,12 +4,12 @@ use crate::answers::refused;
 use crate::answers::unreadable;
 use crate::arrays;
 use crate::parts::read_rates;
-use genotype_probs::Priored;
 use genotype_probs::Rates;
 use protocol::Buffer;
 use protocol::input;
 use protocol::input::Reader;
 use protocol::output;
+use variants_and_fragments::Answered;
 
 // The answer to the request once its case is read; the reader after it, which failed where the request is unreadable.
 pub fn answer(
@@ -36,8 +36,8 @@ pub fn answer(
 // Calls the operation and prints its answer.
 fn call(output: &mut Buffer, words: &[i32], bases: &[u8], rates: Rates, priors: &mut [i64]) {
     let first = match genotype_probs::genotype_priors(words, bases, rates, priors) {
-        Priored::Done => done(output),
-        Priored::Refused(r) => refused(output, r),
+        Answered::Done => done(output),
+        Answered::Refused(r) => refused(output, r),
     };
     let used = output::line_i64(output, first, priors);
     output::flush(output, used);

@@ -21,6 +21,7 @@ use crate::run;
 use protocol::Buffer;
 use protocol::input;
 use protocol::input::Reader;
+use protocol::input::Reason;
 
 // The operations that a request can ask for.
 pub enum Operation {
@@ -104,9 +105,9 @@ fn answer(
     bases: &mut [u8],
 ) -> Reader {
     match asked {
-        Asked::End => reader.fail(),
+        Asked::End => reader.fail(Reason::End),
         Asked::For(operation) => answer_case(operation, input, reader, output, words, bases),
-        Asked::Unknown => unreadable(output, reader),
+        Asked::Unknown => unreadable(output, reader.fail(Reason::Request)),
     }
 }
 

@@ -245,11 +245,11 @@ fn done_with(output: &mut Buffer, x: RoundAnswer) -> usize {
     let mut used = output::text(output, 0, b"done ");
     used = output::natural(output, used, x.sweeps as u64);
     used = settled_word(output, used, x.settled);
-    used = output::integer(output, used, x.start);
+    used = output::integer(output, used, x.start.0);
     used = output::byte(output, used, b' ');
-    used = output::integer(output, used, x.end);
+    used = output::integer(output, used, x.end.0);
     used = output::byte(output, used, b' ');
-    used = output::integer(output, used, x.source);
+    used = output::integer(output, used, x.source.0);
     output::byte(output, used, b'\n')
 }
 

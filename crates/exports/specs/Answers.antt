@@ -20,36 +20,32 @@ use Rattle.exports.specs.declared.answers.RoundAnswer.{RoundAnswer}
 unfoldable pub readAs : {X : Type 0} → ℕ → ℕ → X → Outcome X
 readAs number place values = cond (eqb number 0) (done values) (refused number place)
 
--- with values that stand elsewhere, in a lent slice
-unfoldable pub readWith : {X : Type 0} → X → Answer → Outcome X
-readWith values a = readAs (a .number) (a .place) values
-
 -- with no values
-abbrev pub readAnswer : Answer → Outcome Unit
-readAnswer = readWith tt
+unfoldable pub readAnswer : Answer → Outcome Unit
+readAnswer a = readAs (a .number) (a .place) tt
 
 unfoldable pub readCheck : CheckAnswer → Outcome Sizes
-readCheck a = readAs (a .number) (a .place) (record { n = a .n; f = a .f; c = a .c; cut = a .cut })
+readCheck a = readAs (a .number) (a .place) (record { n = a .n; f = a .f; c = a .c; cutoff = a .cutoff })
 
 unfoldable pub readFlist : FlistAnswer → Outcome Amount
 readFlist a = readAs (a .number) (a .place) (record { bytes = a .bytes; lines = a .lines })
 
 unfoldable pub readRound : RoundAnswer → Outcome operation-round.RoundAnswer
 readRound a =
-    readAs (a .number) (a .place) (record { sweeps = a .sweeps; settled = a .settled; start = a .start; end = a .end; source = a .source })
+    readAs (a .number) (a .place) (record { sweeps = a .sweeps; settled = a .settled; start = record { 0 = a .start }; end = record { 0 = a .end }; source = record { 0 = a .source } })
 
 -- ---- the numbers of an outcome; those that it does not speak of are 0
 
 abbrev pub answerOf : ℕ → ℕ → Answer
 answerOf number place = record { number = number; place = place }
 
-unfoldable pub numbersOf : {X : Type 0} → Outcome X → Answer
+unfoldable pub numbersOf : Outcome Unit → Answer
 numbersOf (refused n p) = answerOf n p
 numbersOf (done values) = answerOf 0 0
 
 unfoldable pub checkNumbers : Outcome Sizes → CheckAnswer
-checkNumbers (refused n p) = record { number = n; place = p; n = 0; f = 0; c = 0; cut = 0 }
-checkNumbers (done s) = record { number = 0; place = 0; n = s .n; f = s .f; c = s .c; cut = s .cut }
+checkNumbers (refused n p) = record { number = n; place = p; n = 0; f = 0; c = 0; cutoff = pos 0 }
+checkNumbers (done s) = record { number = 0; place = 0; n = s .n; f = s .f; c = s .c; cutoff = s .cutoff }
 
 unfoldable pub flistNumbers : Outcome Amount → FlistAnswer
 flistNumbers (refused n p) = record { number = n; place = p; bytes = 0; lines = 0 }
@@ -58,11 +54,12 @@ flistNumbers (done x) = record { number = 0; place = 0; bytes = x .bytes; lines 
 unfoldable pub roundNumbers : Outcome operation-round.RoundAnswer → RoundAnswer
 roundNumbers (refused n p) = record { number = n; place = p; sweeps = 0; settled = false; start = pos 0; end = pos 0; source = pos 0 }
 roundNumbers (done x) =
-    record { number = 0; place = 0; sweeps = x .sweeps; settled = x .settled; start = x .start; end = x .end; source = x .source }
+    record { number = 0; place = 0; sweeps = x .sweeps; settled = x .settled; start = x .start .0; end = x .end .0; source = x .source .0 }
 
 -- ---- what is promised of an answer
 
--- the numbers a are those of the outcome, and are read as it
-pub record Numbers {X N : Type 0} (read : N → Outcome X) (numbers : Outcome X → N) (outcome : Outcome X) (a : N) : Type 0 where
-  pub reads : read a ≡ outcome
-  pub exact : a ≡ numbers outcome
+-- the answer a, read as an outcome, is as the operation promises; and a has exactly that outcome's numbers, so that a field that it does not
+-- speak of is 0
+pub record Exported {X N : Type 0} (read : N → Outcome X) (numbers : Outcome X → N) (Promised : Outcome X → Type 0) (a : N) : Type 0 where
+  pub promise : Promised (read a)
+  pub exact : a ≡ numbers (read a)

@@ -21,4 +21,4 @@ ratesOf r = record {
 }
 
 abbrev pub densityOf : DensityParameters → operation-density.DensityParameters
-densityOf d = record { n = d .n; len = d .len; gq = d .gq }
+densityOf d = record { n = d .n; len = d .len; gq = record { 0 = d .gq } }

@@ -21,7 +21,7 @@ pub struct CheckAnswer {
     pub n: usize,
     pub f: usize,
     pub c: usize,
-    pub cut: usize,
+    pub cutoff: i32,
 }
 
 // The answer of the fragment lines: where done, how many bytes and lines were written; else these are 0.

@@ -18,7 +18,7 @@ pub extern "C" fn condorbed_check_case(words: &[i32], bases: &[u8]) -> CheckAnsw
             n: s.n,
             f: s.f,
             c: s.c,
-            cut: s.cut,
+            cutoff: s.cutoff,
         },
         Checked::Refused(x) => CheckAnswer {
             number: number(x),
@@ -26,7 +26,7 @@ pub extern "C" fn condorbed_check_case(words: &[i32], bases: &[u8]) -> CheckAnsw
             n: 0,
             f: 0,
             c: 0,
-            cut: 0,
+            cutoff: 0,
         },
     }
 }

@@ -5,8 +5,8 @@ use crate::answers::done;
 use crate::answers::refused;
 use crate::inputs::DensityParameters;
 use crate::inputs::density_of;
-use var_filter::Filtered;
 use var_filter::var_filter;
+use variants_and_fragments::Answered;
 
 // `var_filter`.
 #[no_mangle]
@@ -21,7 +21,7 @@ pub extern "C" fn condorbed_var_filter(
     ensures { λ a. ⌜ VarFilter (now (words .entry)) (now (bases .entry)) (now (quals .entry)) density «max_depth» (now (filters .entry)) a (now (filters .exit)) ⌝ }
 {
     match var_filter(words, bases, quals, density_of(density), max_depth, filters) {
-        Filtered::Done => done(),
-        Filtered::Refused(x) => refused(x),
+        Answered::Done => done(),
+        Answered::Refused(x) => refused(x),
     }
 }

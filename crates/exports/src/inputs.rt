@@ -2,6 +2,7 @@
 ghost use mathlib.Core.Path.{_≡_};
 ghost use Rattle.exports.specs.Inputs.{ratesOf, densityOf};
 use steps::LogProb;
+use steps::PHREDProb;
 
 // The rates from which the priors are made, in steps.
 #[repr(C)]
@@ -43,6 +44,6 @@ pub fn density_of(d: DensityParameters) -> var_filter::DensityParameters
     var_filter::DensityParameters {
         n: d.n,
         len: d.len,
-        gq: d.gq,
+        gq: PHREDProb(d.gq),
     }
 }

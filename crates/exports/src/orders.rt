@@ -3,8 +3,8 @@ ghost use Rattle.exports.specs.Promises.{SweepOrders};
 use crate::answers::Answer;
 use crate::answers::done;
 use crate::answers::refused;
-use shuffle::Ordered;
 use shuffle::sweep_orders;
+use variants_and_fragments::Answered;
 
 // `sweep_orders`.
 #[no_mangle]
@@ -17,7 +17,7 @@ pub extern "C" fn condorbed_sweep_orders(
     ensures { λ a. ⌜ SweepOrders (now (words .entry)) (now (bases .entry)) seed (now (orders .entry)) a (now (orders .exit)) ⌝ }
 {
     match sweep_orders(words, bases, seed, orders) {
-        Ordered::Done => done(),
-        Ordered::Refused(x) => refused(x),
+        Answered::Done => done(),
+        Answered::Refused(x) => refused(x),
     }
 }

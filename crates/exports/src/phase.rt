@@ -1,10 +1,11 @@
 // The given phase of a case.
+ghost use Rattle.haplotype_assembly.specs.GivenPhase.{phaseSlices};
 ghost use Rattle.exports.specs.Promises.{GivenPhase};
 use crate::answers::Answer;
 use crate::answers::done;
 use crate::answers::refused;
-use haplotype_assembly::Phased;
 use haplotype_assembly::given_phase;
+use variants_and_fragments::Answered;
 
 // `given_phase`.
 #[no_mangle]
@@ -17,10 +18,10 @@ pub extern "C" fn condorbed_given_phase(
     phased: &mut [u8],
     names: &mut [u32],
 ) -> Answer
-    ensures { λ a. ⌜ GivenPhase (now (words .entry)) (now (bases .entry)) (now (phase .entry)) (now (sets .entry)) (now (haplotypes .entry)) (now (phased .entry)) (now (names .entry)) a (now (haplotypes .exit)) (now (phased .exit)) (now (names .exit)) ⌝ }
+    ensures { λ a. ⌜ GivenPhase (now (words .entry)) (now (bases .entry)) (now (phase .entry)) (now (sets .entry)) (phaseSlices (now (haplotypes .entry)) (now (phased .entry)) (now (names .entry))) a (phaseSlices (now (haplotypes .exit)) (now (phased .exit)) (now (names .exit))) ⌝ }
 {
     match given_phase(words, bases, phase, sets, haplotypes, phased, names) {
-        Phased::Done => done(),
-        Phased::Refused(x) => refused(x),
+        Answered::Done => done(),
+        Answered::Refused(x) => refused(x),
     }
 }

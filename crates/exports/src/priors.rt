@@ -5,8 +5,8 @@ use crate::answers::done;
 use crate::answers::refused;
 use crate::inputs::Rates;
 use crate::inputs::rates_of;
-use genotype_probs::Priored;
 use genotype_probs::genotype_priors;
+use variants_and_fragments::Answered;
 
 // `genotype_priors`.
 #[no_mangle]
@@ -19,7 +19,7 @@ pub extern "C" fn condorbed_genotype_priors(
     ensures { λ a. ⌜ GenotypePriors (now (words .entry)) (now (bases .entry)) rates (now (priors .entry)) a (now (priors .exit)) ⌝ }
 {
     match genotype_priors(words, bases, rates_of(rates), priors) {
-        Priored::Done => done(),
-        Priored::Refused(x) => refused(x),
+        Answered::Done => done(),
+        Answered::Refused(x) => refused(x),
     }
 }

@@ -48,9 +48,9 @@ pub extern "C" fn condorbed_call_genotypes_with_haplotypes(
             place: 0,
             sweeps: r.sweeps,
             settled: r.settled,
-            start: r.start,
-            end: r.end,
-            source: r.source,
+            start: r.start.0,
+            end: r.end.0,
+            source: r.source.0,
         },
         Round::Refused(x) => RoundAnswer {
             number: number(x),

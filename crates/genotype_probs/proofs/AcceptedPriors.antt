@@ -11,7 +11,7 @@ use Rattle.variants_and_fragments.proofs.Decoded.{tabulate-length, tabulate-at}
 use Rattle.genotype_probs.specs.declared.Rates.{Rates}
 use Rattle.genotype_probs.specs.Inner.PriorInputs.{AllelesIn, TableIn}
 use Rattle.genotype_probs.specs.Inner.PriorTable.{tableEntry, priorTable}
-use Rattle.genotype_probs.specs.Rates.{ratesFault}
+use Rattle.genotype_probs.specs.Inner.Rates.{ratesFault}
 use Rattle.genotype_probs.proofs.PriorBounds.{diploid-down}
 use Rattle.genotype_probs.proofs.RateLaws.{rates-in, fault-top}
 

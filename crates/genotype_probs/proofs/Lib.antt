@@ -8,7 +8,6 @@ pub mod Entries
 pub mod AlleleLaws
 pub mod Maxima
 pub mod TableSums
-pub mod Outcomes
 pub mod Samples
 pub mod AcceptedPriors
 pub mod FinalLaws

@@ -1,19 +1,24 @@
 -- Number 12 is never given: the sum of row sums of a normalised table is 0.
 -- Assumes nothing.
-use mathlib.Core.Path.{_≡_, refl, sym, ap}
+use mathlib.Core.Path.{_≡_, refl, ap}
 use mathlib.Core.List.{List}
 use Prim.Native.Nat.{ℕ, _*_, _≤_, _<_}
 use lib.IntN.{ℤ, pos}
 use lib.ListN.{getD}
+use native.Mathlib.Omega.{arith}
+use Rattle.variants_and_fragments.specs.First.{firstFail}
+use Rattle.variants_and_fragments.specs.Refusals.{Outcome, each}
 use Rattle.variants_and_fragments.proofs.First.{first-end}
-use Rattle.genotype_probs.specs.Posteriors.{tableSum, normalized}
+use Rattle.variants_and_fragments.proofs.Outcomes.{each-on}
+use Rattle.genotype_probs.specs.Posteriors.{normalized}
 use Rattle.genotype_probs.proofs.TableSums.{normal-sum}
-use Rattle.genotype_probs.specs.Normalized.{isZero, firstNotNormal}
+use Rattle.genotype_probs.specs.Normalized.{isZero, isNormal}
 
--- there is none among n variants, each of which has an allele and in its k × k places a normalised table
-pub none-not-normal : (tableOf scoresOf : ℕ → List ℤ) (count : ℕ → ℕ) (n : ℕ) → ((v : ℕ) → v < n → 1 ≤ count v) → ((v : ℕ) → v < n → (p : ℕ) → p < count v * count v → getD (tableOf v) p (pos 0) ≡ normalized (scoresOf v) (count v) p) → firstNotNormal tableOf count n ≡ n
-unfolding firstNotNormal
-none-not-normal tableOf scoresOf count n low each =
-    sym (first-end (λ v. isZero (tableSum (tableOf v) (count v))) n n
-    (λ v h. ap isZero (normal-sum (scoresOf v) (tableOf v) (count v) (low v h) (each v h)))
-    refl)
+-- of n variants, each with an allele and in its k × k places a normalised table, number 12 refuses none
+pub all-normal : {X : Type 0} (tableOf scoresOf : ℕ → List ℤ) (count : ℕ → ℕ) (n : ℕ) (rest : Outcome X) → ((v : ℕ) → v < n → 1 ≤ count v) → ((v : ℕ) → v < n → (p : ℕ) → p < count v * count v → getD (tableOf v) p (pos 0) ≡ normalized (scoresOf v) (count v) p) → rest ≡ each 12 (isNormal tableOf count) 0 n rest
+unfolding isNormal firstFail
+all-normal tableOf scoresOf count n rest low held =
+    let end : n ≡ firstFail (isNormal tableOf count) n = first-end (isNormal tableOf count) n n
+    (λ v h. ap isZero (normal-sum (scoresOf v) (tableOf v) (count v) (low v h) (held v h)))
+    refl in
+    each-on 12 (isNormal tableOf count) 0 n rest (omega (arith, end))

@@ -5,7 +5,7 @@ use native.Mathlib.Omega.{arith}
 use lib.IntN.{natAbs}
 use Rattle.variants_and_fragments.specs.Case.{Variant, alleleOf}
 use Rattle.genotype_probs.specs.declared.Rates.{Rates}
-use Rattle.genotype_probs.specs.Rates.{ratesFault}
+use Rattle.genotype_probs.specs.Inner.Rates.{ratesFault}
 use Rattle.genotype_probs.specs.Priors.{getPrior}
 use Rattle.genotype_probs.proofs.RateLaws.{rates-in}
 use Rattle.genotype_probs.proofs.PriorBounds.{prior-down}

@@ -3,7 +3,7 @@
 use mathlib.Core.Path.{_≡_, refl, sym, ap, _∙_}
 use mathlib.Core.Bool.{true, false}
 use mathlib.Core.List.{[], _∷_, map}
-use Prim.Native.Nat.{ℕ, suc, _+_, _-_, _≤_, _<_, _^_}
+use Prim.Native.Nat.{ℕ, zero, suc, _+_, _-_, _≤_, _<_, _^_}
 use native.Mathlib.Numerals.{add-one}
 use native.Mathlib.Omega.{arith}
 use borrow.Author.Tests.{leb-true}
@@ -22,19 +22,23 @@ use Rattle.steps.proofs.Marks.{of-small, log-injective}
 use Rattle.steps.proofs.Sums.{sum-steps}
 use Rattle.steps.proofs.OneMinus.{search-least, lowest-of, of-below, down-le}
 use Rattle.variants_and_fragments.specs.First.{firstFailFrom, firstFail}
+use Rattle.variants_and_fragments.specs.Refusals.{Outcome, refused, done, each}
 use Rattle.variants_and_fragments.proofs.First.{first-all, first-le}
+use Rattle.variants_and_fragments.proofs.Outcomes.{each-on, each-at, each-past}
 use Rattle.genotype_probs.specs.declared.Rates.{Rates}
-use Rattle.genotype_probs.specs.Rates.{homSnv, hetSnv, homIndel, hetIndel, tsRate, tvRate, rateOk, rateSum, rateTests, ratesFault}
+use Rattle.variants_and_fragments.specs.Words.{within}
+use Rattle.genotype_probs.specs.Rates.{homSnv, hetSnv, homIndel, hetIndel, tsRate, tvRate, rateOk, rateSum, rateTests, rateTest}
+use Rattle.genotype_probs.specs.Inner.Rates.{ratesFault}
 use Rattle.genotype_probs.specs.Priors.{finite, oneMinusExp}
 
 -- ---- one rate
 pub rate-size : (z : ℤ) → rateOk z ≡ true → natAbs z ≤ 262144
-unfolding rateOk
+unfolding rateOk within
 rate-size (pos n) t = true-false t refl
 rate-size (negsuc n) t = by-test (leb n 262143) (λ h. omega (arith, leb-true n 262143 h)) (λ h. true-false t (rw h))
 
 pub rate-below : (z : ℤ) → rateOk z ≡ true → ltZ z (pos 0) ≡ true
-unfolding rateOk
+unfolding rateOk within
 rate-below (pos n) t = true-false t refl
 rate-below (negsuc n) t = refl
 
@@ -53,9 +57,9 @@ pub record RatesIn (rates : Rates) : Type 0 where
   pub sum-below : ltZ (rateSum rates) (pos 0) ≡ true
 
 pub rates-in : (rates : Rates) → ratesFault rates ≡ 7 → RatesIn rates
-unfolding ratesFault rateTests
+unfolding ratesFault rateTest rateTests
 rates-in rates e =
-    let all = first-all (λ i. getD (rateTests rates) i true) 7 (omega (arith, e)) in
+    let all = first-all (rateTest rates) 7 (omega (arith, e)) in
     record {
       hom-snv = all 0 (omega arith);
       het-snv = all 1 (omega arith);
@@ -68,22 +72,36 @@ rates-in rates e =
 
 pub fault-top : (rates : Rates) → ratesFault rates ≤ 7
 unfolding ratesFault
-fault-top rates = first-le (λ i. getD (rateTests rates) i true) 7
+fault-top rates = first-le (rateTest rates) 7
+
+-- ---- number 6: where the rates are accepted, and where not
+module _ {X : Type 0} (rates : Rates) (rest : Outcome X) where
+  pub rates-on : ratesFault rates ≡ 7 → rest ≡ each 6 (rateTest rates) 0 7 rest
+  unfolding ratesFault firstFail
+  rates-on e = each-on 6 (rateTest rates) 0 7 rest (omega (arith, e))
+
+  pub rates-at : ratesFault rates < 7 → refused 6 (ratesFault rates) ≡ each 6 (rateTest rates) 0 7 rest
+  unfolding ratesFault firstFail
+  rates-at h = each-at 6 (rateTest rates) 0 7 rest h
+
+  pub rates-past : (x : X) → each 6 (rateTest rates) 0 7 rest ≡ done x → (ratesFault rates ≡ 7) × (rest ≡ done x)
+  unfolding ratesFault firstFail
+  rates-past x e = let p = each-past 6 (rateTest rates) 0 7 rest x e in (omega (arith, p .0, fault-top rates), p .1)
 
 -- ---- the tests one after the other: the place among those from i on
 pub faultFrom : Rates → ℕ → ℕ
-faultFrom rates i = firstFailFrom (λ j. getD (rateTests rates) j true) i (7 - i)
+faultFrom rates i = firstFailFrom (rateTest rates) i (7 - i)
 
 pub fault-from : (rates : Rates) → ratesFault rates ≡ faultFrom rates 0
 unfolding ratesFault firstFail faultFrom
 fault-from rates = refl
 
 pub fault-past : (rates : Rates) (i : ℕ) → i < 7 → getD (rateTests rates) i true ≡ true → faultFrom rates i ≡ faultFrom rates (i + 1)
-unfolding faultFrom firstFailFrom
+unfolding faultFrom firstFailFrom rateTest
 fault-past rates i h e = let k : 7 - i ≡ suc (7 - (i + 1)) = omega arith in rw (k, e, add-one)
 
 pub fault-here : (rates : Rates) (i : ℕ) → i < 7 → getD (rateTests rates) i true ≡ false → faultFrom rates i ≡ i
-unfolding faultFrom firstFailFrom
+unfolding faultFrom firstFailFrom rateTest
 fault-here rates i h e = let k : 7 - i ≡ suc (7 - (i + 1)) = omega arith in rw (k, e)
 
 -- all hold
@@ -95,6 +113,14 @@ fault-none rates = refl
 pub rate-sum : (rates : Rates) → lnSumExp (map steps (homSnv rates ∷ hetSnv rates ∷ homIndel rates ∷ hetIndel rates ∷ [])) ≡ steps (rateSum rates)
 unfolding rateSum
 rate-sum rates = sum-steps (homSnv rates) (hetSnv rates ∷ homIndel rates ∷ hetIndel rates ∷ [])
+
+-- each of four is small
+pub four-small : (n : ℕ) (a b c d : ℤ) → natAbs a ≤ n → natAbs b ≤ n → natAbs c ≤ n → natAbs d ≤ n → (k : ℕ) → k < 4 → natAbs (getD (a ∷ b ∷ c ∷ d ∷ []) k (pos 0)) ≤ n
+four-small n a b c d ha hb hc hd zero h = ha
+four-small n a b c d ha hb hc hd (suc zero) h = hb
+four-small n a b c d ha hb hc hd (suc (suc zero)) h = hc
+four-small n a b c d ha hb hc hd (suc (suc (suc zero))) h = hd
+four-small n a b c d ha hb hc hd (suc (suc (suc (suc k)))) h = absurd (omega arith)
 
 pub sum-rates : (rates : Rates) → rateSum rates ≡ addExp (addExp (addExp (homSnv rates) (hetSnv rates)) (homIndel rates)) (hetIndel rates)
 unfolding rateSum sumExp

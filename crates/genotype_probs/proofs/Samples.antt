@@ -1,5 +1,6 @@
 -- Sample (g) of document 01 and the odd cases of the letters, computed on the definitions: rates −70000 four times, ts −4096, tv −8192.
 -- Assumes nothing.
+use mathlib.Core.Bool.{true}
 use mathlib.Core.Path.{_≡_, refl}
 use mathlib.Core.List.{List, [], _∷_}
 use Prim.Native.Nat.{ℕ}
@@ -11,9 +12,10 @@ use Rattle.steps.specs.Addend.{addend}
 use Rattle.steps.specs.Logs.{larger, difference, addExp, sumExp}
 use Rattle.steps.specs.OneMinus.{low, first, lnOneMinusExp}
 use Rattle.variants_and_fragments.specs.Case.{Variant}
-use Rattle.variants_and_fragments.specs.First.{firstFailFrom, firstFail}
+use Rattle.variants_and_fragments.specs.Words.{within}
+use Rattle.variants_and_fragments.specs.First.{firstFailFrom, firstFail, holdsBelow}
 use Rattle.genotype_probs.specs.declared.Rates.{Rates}
-use Rattle.genotype_probs.specs.Rates.{rateOk, rateSum, rateTests, ratesFault}
+use Rattle.genotype_probs.specs.Rates.{rateOk, rateSum, rateTests, rateTest}
 use Rattle.genotype_probs.specs.Letters.{A, C, base, baseOf, baseNumber, letterNumber, sameLetter, transitionOf, change}
 use Rattle.genotype_probs.specs.Priors.{finite, oneMinusExp, haploid, homozygous, diploid, lettersPrior, firstLetter, stopAt, compared, allelesPrior, getPrior}
 
@@ -52,7 +54,7 @@ pub bases-CA : List ℕ
 bases-CA = 67 ∷ 65 ∷ []
 
 pub record Samples : Type 0 where
-  pub accepted : ratesFault rates ≡ 7
+  pub accepted : holdsBelow (rateTest rates) 7 ≡ true
   -- (g): priors 0, −78192, −78192, −74096
   pub g00 : getPrior rates (variant (bases-A ∷ bases-G ∷ [])) 0 0 ≡ pos 0
   pub g01 : getPrior rates (variant (bases-A ∷ bases-G ∷ [])) 0 1 ≡ negsuc 78191
@@ -70,7 +72,7 @@ pub record Samples : Type 0 where
   pub alone-second : compared bases-AC bases-AC C ≡ record { ref = C; letter = base A }
 
 pub samples : Samples
-unfolding knots T addend larger difference addExp sumExp low first lnOneMinusExp firstFailFrom firstFail rateOk rateSum rateTests ratesFault baseOf baseNumber letterNumber sameLetter transitionOf change finite oneMinusExp haploid homozygous diploid lettersPrior firstLetter stopAt compared allelesPrior getPrior rates logProb variant bases-A bases-G bases-AC bases-AG bases-CA
+unfolding knots T addend larger difference addExp sumExp low first lnOneMinusExp firstFailFrom firstFail within rateOk rateSum rateTests rateTest holdsBelow baseOf baseNumber letterNumber sameLetter transitionOf change finite oneMinusExp haploid homozygous diploid lettersPrior firstLetter stopAt compared allelesPrior getPrior rates logProb variant bases-A bases-G bases-AC bases-AG bases-CA
 samples =
     record {
       accepted = refl;

@@ -1,19 +1,23 @@
 -- Sums of tables: what a loop goes through, their sizes, and that the sum of row sums of a normalised table is 0, since ln_add_exp moves with
 -- a constant. Assumes nothing.
 use mathlib.Core.Path.{_≡_, refl, sym, ap, _∙_}
-use mathlib.Core.List.{List, _∷_, map}
-use Prim.Native.Nat.{ℕ, zero, suc, _+_, _*_, _-_, _/_, _%_, _≤_, _<_}
+use mathlib.Core.List.{List, [], _∷_, map}
+use Prim.Native.Nat.{ℕ, zero, suc, _+_, _*_, _-_, _/_, _%_, _^_, _≤_, _<_}
 use native.Mathlib.Nat.{mul-le-mul-right, suc-mul, div-lt-iff-lt-mul, mod-lt}
 use native.Mathlib.Numerals.{add-one}
 use native.Mathlib.Omega.{arith}
 use borrow.Author.Tests.{lt-ltb}
 use lib.IntN.{ℤ, pos, negℤ, natAbs, _+ℤ_, _-ℤ_}
-use lib.ListN.{getD}
+use lib.ListN.{length, getD, take, drop, length-drop}
+use lib.Seq.{length-take-le, ext-getD, getD-take, getD-drop}
 use Rattle.steps.specs.Logs.{steps, addExp, lnSumExp, sumExp}
 use Rattle.steps.proofs.Signed.{zlin, parts-minus, up-pos, dn-pos}
 use Rattle.steps.proofs.AddExp.{add-size}
-use Rattle.steps.proofs.Sums.{sum-steps, sum-shift}
+use Rattle.steps.specs.Inner.Logs.{logOf}
+use Rattle.steps.proofs.Marks.{steps-is}
+use Rattle.steps.proofs.Sums.{sum-steps, log-steps, sum-shift, sum-size}
 use Rattle.variants_and_fragments.specs.Decode.{tabulateFrom, tabulate}
+use Rattle.variants_and_fragments.proofs.Decoded.{tabulate-length, tabulate-at}
 use Rattle.genotype_probs.specs.Posteriors.{sumOf, entryAt, rowSum, tableSum, normalized}
 
 -- ---- lists of a function's values
@@ -35,6 +39,15 @@ from-shift f c i (suc k) = ap (λ (l : List ℤ). (f i +ℤ c) ∷ l) (from-shif
 pub sum-of : (x : ℤ) (xs : List ℤ) → lnSumExp (map steps (x ∷ xs)) ≡ steps (sumOf (x ∷ xs))
 unfolding sumOf
 sum-of x xs = sum-steps x xs
+
+-- the number of `ln_sum_exp` of numbers that are each at most n steps from 0
+pub sum-is : (n : ℕ) (xs : List ℤ) (r : ℤ) → 1 ≤ length xs → n + 4096 * length xs ≤ 2 ^ 61 → ((k : ℕ) → k < length xs → natAbs (getD xs k (pos 0)) ≤ n) → logOf r ≡ lnSumExp (map logOf xs) → (r ≡ sumOf xs) × (natAbs r ≤ n + 4096 * length xs)
+unfolding sumOf
+sum-is n [] r h l each e = absurd (omega arith)
+sum-is n (x ∷ xs) r h l each e =
+    let b = sum-size n x xs (each 0 (omega arith)) (λ k i. each (suc k) (omega arith)) in
+    let s = log-steps (x ∷ xs) (λ k i. let y = each k i in omega arith) in
+    let v = steps-is r (sumExp x xs) (omega arith) (e ∙ ap lnSumExp s ∙ sum-steps x xs) in (v, omega (arith, ap natAbs v))
 
 pub sum-first : (f : ℕ → ℤ) (k : ℕ) → 1 ≤ k → sumOf (tabulate k f) ≡ sumExp (f 0) (tabulateFrom f 1 (k - 1))
 unfolding tabulateFrom sumOf
@@ -64,6 +77,22 @@ place-in i j k h l = let m = mul-le-mul-right k h in omega (arith, m, suc-mul i 
 -- the pair of row-major number p
 pub pair-in : (k p : ℕ) → 1 ≤ k → p < k * k → (p / k < k) × (p % k < k)
 pair-in k p h l = (div-lt-iff-lt-mul {k = k} {x = p} {y = k} h .1 l, mod-lt p {m = k} h)
+
+-- row i of the table at a place, as a part of the slice
+pub row-part : (post : List ℤ) (at k i : ℕ) → at + (i * k + k) ≤ length post → take k (drop (at + i * k) post) ≡ tabulate k (entryAt (drop at post) k i)
+unfolding entryAt
+row-part post at k i h =
+    let d = length-drop (at + i * k) post in
+    let e : length (take k (drop (at + i * k) post)) ≡ k = length-take-le k (drop (at + i * k) post) (omega arith) in
+    ext-getD (pos 0) (take k (drop (at + i * k) post)) (tabulate k (entryAt (drop at post) k i)) (e ∙ sym (tabulate-length k (entryAt (drop at post) k i)))
+    (λ j l.
+    let m : j < k = omega arith in
+    let a : at + i * k + j ≡ at + (i * k + j) = omega arith in
+    getD-take k (drop (at + i * k) post) j (pos 0) m
+    ∙ getD-drop (at + i * k) post j (pos 0)
+    ∙ ap (λ (q : ℕ). getD post q (pos 0)) a
+    ∙ sym (getD-drop at post (i * k + j) (pos 0))
+    ∙ sym (tabulate-at k (entryAt (drop at post) k i) j (pos 0) m))
 
 -- ---- normalised
 module _ (tab norm : List ℤ) (k : ℕ) (low : 1 ≤ k) (each : (p : ℕ) → p < k * k → getD norm p (pos 0) ≡ normalized tab k p) where

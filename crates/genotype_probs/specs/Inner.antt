@@ -1,3 +1,4 @@
+pub mod Rates
 pub mod PriorTable
 pub mod PriorInputs
 pub mod Posteriors

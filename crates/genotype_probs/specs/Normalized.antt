@@ -6,14 +6,12 @@ use mathlib.Core.List.{List}
 use Prim.Native.Nat.{ℕ}
 use lib.Dec.{eqb}
 use lib.IntN.{ℤ, pos, negsuc}
-use Rattle.variants_and_fragments.specs.First.{firstFail}
 use Rattle.genotype_probs.specs.Posteriors.{tableSum}
 
 abbrev pub isZero : ℤ → Bool
 isZero (pos n) = eqb n 0
 isZero (negsuc n) = false
 
--- The first variant whose latest normalised table does not sum to 0; N where there is none. Variant v has `count v` alleles and the
--- table `tableOf v`
-unfoldable pub firstNotNormal : (ℕ → List ℤ) → (ℕ → ℕ) → ℕ → ℕ
-firstNotNormal tableOf count n = firstFail (λ v. isZero (tableSum (tableOf v) (count v))) n
+-- variant v's latest normalised table sums to 0; v has `count v` alleles and the table `tableOf v`
+unfoldable pub isNormal : (ℕ → List ℤ) → (ℕ → ℕ) → ℕ → Bool
+isNormal tableOf count v = isZero (tableSum (tableOf v) (count v))

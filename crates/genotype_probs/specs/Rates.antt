@@ -1,13 +1,14 @@
 -- 01, section 3: the rates, and what refuses them (number 6).
 -- Assumes nothing.
-use mathlib.Core.Bool.{Bool, true, _&&_}
+use mathlib.Core.Bool.{Bool, true}
 use mathlib.Core.List.{List, [], _∷_}
 use Prim.Native.Nat.{ℕ}
-use lib.IntN.{ℤ, pos, negsuc}
+use lib.IntN.{ℤ, pos, negℤ}
 use lib.ListN.{getD}
-use lib.Signed.{leZ, ltZ}
+use lib.Signed.{ltZ}
 use Rattle.steps.specs.Logs.{sumExp}
-use Rattle.variants_and_fragments.specs.First.{firstFail}
+use Rattle.variants_and_fragments.specs.Words.{within}
+use Rattle.variants_and_fragments.specs.Layout.{lowestQuality}
 use Rattle.genotype_probs.specs.declared.Rates.{Rates}
 
 -- 01, section 3: Rates: hom_snv, het_snv, hom_indel, het_indel, ts, tv
@@ -31,7 +32,7 @@ tvRate rates = rates .tv .0
 
 -- 01, section 3: each −262144..−1
 unfoldable pub rateOk : ℤ → Bool
-rateOk rate = leZ (negsuc 262143) rate && leZ rate (negsuc 0)
+rateOk rate = within lowestQuality (negℤ (pos 1)) rate
 
 -- 01, section 3: `ln_sum_exp` of the first four (`rate-sum` of proofs/RateLaws.antt)
 unfoldable pub rateSum : Rates → ℤ
@@ -49,6 +50,6 @@ rateTests rates =
     ∷ ltZ (rateSum rates) (pos 0)
     ∷ []
 
--- 01, refusals: the place under 6 is rate 0..5, or 6 for the sum; 7 where the rates are accepted
-unfoldable pub ratesFault : Rates → ℕ
-ratesFault rates = firstFail (λ i. getD (rateTests rates) i true) 7
+-- 01, refusals: the place under 6 is rate 0..5, or 6 for the sum
+unfoldable pub rateTest : Rates → ℕ → Bool
+rateTest rates place = getD (rateTests rates) place true

@@ -6,7 +6,7 @@ ghost use Rattle.steps.specs.Table.{knots};
 ghost use Rattle.variants_and_fragments.specs.Inner.Accepted.{CaseIn, BasesIn};
 ghost use Rattle.variants_and_fragments.specs.Decode.{decode};
 ghost use Rattle.variants_and_fragments.specs.Written.{written};
-ghost use Rattle.genotype_probs.specs.Rates.{ratesFault};
+ghost use Rattle.genotype_probs.specs.Inner.Rates.{ratesFault};
 ghost use Rattle.genotype_probs.specs.Priors.{priorAt};
 use crate::Rates;
 use crate::priors::write_priors;

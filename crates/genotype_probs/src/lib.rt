@@ -1,15 +1,17 @@
 // Priors and posteriors of genotypes: document 01, sections 3 and 4.
 ghost use mathlib.Core.Path.{_≡_};
-ghost use Rattle.variants_and_fragments.specs.Refusals.{done};
-ghost use Rattle.variants_and_fragments.specs.Check.{caseOf};
+ghost use Rattle.variants_and_fragments.specs.Refusals.{done, outcomeOf};
+ghost use Rattle.variants_and_fragments.specs.Check.{checkCaseOutcome};
 ghost use Rattle.genotype_probs.specs.Answers.{GenotypePriors};
 use crate::case_priors::make_priors;
 use crate::table::rates_fault;
 use steps::LogProb;
+use variants_and_fragments::Answered;
 use variants_and_fragments::Checked;
 use variants_and_fragments::Refusal;
 use variants_and_fragments::Sizes;
 use variants_and_fragments::check_case;
+use variants_and_fragments::short_of;
 
 pub mod case_priors;
 mod letters;
@@ -27,44 +29,38 @@ pub struct Rates {
     pub tv: LogProb,
 }
 
-// What the operation that writes the priors answers.
-pub enum Priored {
-    Done,
-    Refused(Refusal),
-}
-
-// The same for a case that the check accepted with these sizes.
+// The priors of a case that the check accepted with these sizes.
 fn accepted_priors(
     words: &[i32],
     s: Sizes,
     bases: &[u8],
     rates: Rates,
     priors: &mut [i64],
-) -> Priored
-    requires { ⌜ caseOf (now words) (now bases) ≡ done s ⌝ }
-    ensures { λ r. ⌜ GenotypePriors (now (words .entry)) (now (bases .entry)) rates (now (priors .entry)) r (now (priors .exit)) ⌝ }
+) -> Answered
+    requires { ⌜ checkCaseOutcome (now words) (now bases) ≡ done s ⌝ }
+    ensures { λ r. ⌜ GenotypePriors (now (words .entry)) (now (bases .entry)) rates (now (priors .entry)) (outcomeOf r) (now (priors .exit)) ⌝ }
 {
     let t = steps::table();
     let p = rates_fault(&t, rates);
     if p < 7 {
-        return Priored::Refused(Refusal::Rates(p));
+        return Answered::Refused(Refusal::Rates(p));
     }
-    let needed = 9 * s.n;
-    if priors.len() < needed {
-        return Priored::Refused(Refusal::Short(needed));
+    let short = short_of(9 * s.n, priors.len());
+    if short != 0 {
+        return Answered::Refused(Refusal::Short(short));
     }
     make_priors(&t, words, s, bases, rates, priors);
-    Priored::Done
+    Answered::Done
 }
 
 // Writes the priors of a case's genotypes, nine places per variant: k × k row-major, then zeros. The answer is refused with number 1 to 5, 6
 // or 10, or done.
-pub fn genotype_priors(words: &[i32], bases: &[u8], rates: Rates, priors: &mut [i64]) -> Priored
-    ensures { λ r. ⌜ GenotypePriors (now (words .entry)) (now (bases .entry)) rates (now (priors .entry)) r (now (priors .exit)) ⌝ }
+pub fn genotype_priors(words: &[i32], bases: &[u8], rates: Rates, priors: &mut [i64]) -> Answered
+    ensures { λ r. ⌜ GenotypePriors (now (words .entry)) (now (bases .entry)) rates (now (priors .entry)) (outcomeOf r) (now (priors .exit)) ⌝ }
 {
     let checked = check_case(words, bases);
     match checked {
-        Checked::Refused(x) => Priored::Refused(x),
+        Checked::Refused(x) => Answered::Refused(x),
         Checked::Accepted(s) => accepted_priors(words, s, bases, rates, priors),
     }
 }

@@ -12,7 +12,6 @@ ghost use Rattle.variants_and_fragments.specs.Inner.Written.{writtenFrom};
 ghost use Rattle.genotype_probs.specs.Posteriors.{entryAt, rowSum, tableSum, normalized, postAt, maxGenotype, atMostOne, maxGenotypePost, isOther, otherSum};
 ghost use Rattle.genotype_probs.specs.Inner.Posteriors.{TableAt};
 use steps::LogProb;
-use steps::logs;
 
 // A pair of allele numbers.
 pub struct Genotype(pub u8, pub u8);
@@ -24,61 +23,58 @@ pub struct GenotypePost {
 }
 
 // Entry (i, j).
-fn entry(post: &[i64], at: usize, k: usize, i: usize, j: usize) -> i64
+fn entry(post: &[i64], at: usize, k: usize, i: usize, j: usize) -> LogProb
     requires { ⌜ TableAt (now post) at k × (i < k) × (j < k) ⌝ }
-    ensures { λ r. ⌜ (r ≡ entryAt (drop at (now (post .entry))) k i j) × (natAbs r ≤ 2 ^ 40) ⌝ }
+    ensures { λ r. ⌜ (r .0 ≡ entryAt (drop at (now (post .entry))) k i j) × (natAbs (r .0) ≤ 2 ^ 40) ⌝ }
 {
-    post[at + (i * k + j)]
+    LogProb(post[at + (i * k + j)])
 }
 
-// The sum of row i. At the loop's head `sum` is that of its first j entries.
-fn row_sum(t: &[u16; 1665], post: &[i64], at: usize, k: usize, i: usize) -> i64
+// The sum of row i.
+fn row_sum(t: &[u16; 1665], post: &[i64], at: usize, k: usize, i: usize) -> LogProb
     requires { ⌜ (now t ≡ knots) × TableAt (now post) at k × (i < k) ⌝ }
-    ensures { λ r. ⌜ (r ≡ rowSum (drop at (now (post .entry))) k i) × (natAbs r ≤ 2 ^ 40 + 12288) ⌝ }
+    ensures { λ r. ⌜ (r .0 ≡ rowSum (drop at (now (post .entry))) k i) × (natAbs (r .0) ≤ 2 ^ 40 + 12288) ⌝ }
 {
-    let mut sum = entry(post, at, k, i, 0);
-    let mut j = 1;
-    while j < k {
-        sum = logs::add_exp(t, sum, entry(post, at, k, i, j));
-        j += 1;
-    }
-    sum
+    let a = at + i * k;
+    let e = a + k;
+    LogProb::ln_sum_exp(t, &post[a..e])
 }
 
 // The sum of row sums. At the loop's head `sum` is that of the first i rows.
-pub fn table_sum(t: &[u16; 1665], post: &[i64], at: usize, k: usize) -> i64
+pub fn table_sum(t: &[u16; 1665], post: &[i64], at: usize, k: usize) -> LogProb
     requires { ⌜ (now t ≡ knots) × TableAt (now post) at k ⌝ }
-    ensures { λ r. ⌜ (r ≡ tableSum (drop at (now (post .entry))) k) × (natAbs r ≤ 2 ^ 40 + 24576) ⌝ }
+    ensures { λ r. ⌜ (r .0 ≡ tableSum (drop at (now (post .entry))) k) × (natAbs (r .0) ≤ 2 ^ 40 + 24576) ⌝ }
 {
     let mut sum = row_sum(t, post, at, k, 0);
     let mut i = 1;
     while i < k {
-        sum = logs::add_exp(t, sum, row_sum(t, post, at, k, i));
+        sum = sum.ln_add_exp(t, row_sum(t, post, at, k, i));
         i += 1;
     }
     sum
 }
 
 // A table's entry less the total, or 0 past its m entries.
-fn lowered(x: i64, total: i64, p: usize, m: usize) -> i64
-    requires { ⌜ (natAbs total ≤ 2 ^ 61) × (p < m → natAbs x ≤ 2 ^ 61) ⌝ }
-    ensures { λ r. ⌜ r ≡ cond (ltb p m) (x -ℤ total) (pos 0) ⌝ }
+fn lowered(x: LogProb, total: LogProb, p: usize, m: usize) -> LogProb
+    requires { ⌜ (natAbs (total .0) ≤ 2 ^ 61) × (p < m → natAbs (x .0) ≤ 2 ^ 61) ⌝ }
+    ensures { λ r. ⌜ r .0 ≡ cond (ltb p m) (x .0 -ℤ total .0) (pos 0) ⌝ }
 {
     if p < m {
-        return x - total;
+        return LogProb(x.0 - total.0);
     }
-    0
+    LogProb(0)
 }
 
 // Subtracts the total from each entry. At the loop's head the first p places are written.
-fn subtract(post: &mut [i64], at: usize, k: usize, total: i64)
-    requires { ⌜ TableAt (now post) at k × (total ≡ tableSum (drop at (now post)) k) × (natAbs total ≤ 2 ^ 61) ⌝ }
+fn subtract(post: &mut [i64], at: usize, k: usize, total: LogProb)
+    requires { ⌜ TableAt (now post) at k × (total .0 ≡ tableSum (drop at (now post)) k) × (natAbs (total .0) ≤ 2 ^ 61) ⌝ }
     ensures { λ _. ⌜ now (post .exit) ≡ writtenFrom (normalized (drop at (now (post .entry))) k) at 9 (now (post .entry)) ⌝ }
 {
     let m = k * k;
     let mut p = 0;
     while p < 9 {
-        post[at + p] = lowered(post[at + p], total, p, m);
+        let x = lowered(LogProb(post[at + p]), total, p, m).0;
+        post[at + p] = x;
         p += 1;
     }
 }
@@ -93,9 +89,9 @@ pub fn normalize(t: &[u16; 1665], post: &mut [i64], at: usize, k: usize)
 }
 
 // What is compared of the pair of row-major number p.
-fn post_of(t: &[u16; 1665], post: &[i64], at: usize, k: usize, phased: bool, p: usize) -> i64
+fn post_of(t: &[u16; 1665], post: &[i64], at: usize, k: usize, phased: bool, p: usize) -> LogProb
     requires { ⌜ (now t ≡ knots) × TableAt (now post) at k × (p < k * k) ⌝ }
-    ensures { λ r. ⌜ r ≡ postAt phased (drop at (now (post .entry))) k p ⌝ }
+    ensures { λ r. ⌜ r .0 ≡ postAt phased (drop at (now (post .entry))) k p ⌝ }
 {
     let i = p / k;
     let j = p % k;
@@ -103,7 +99,7 @@ fn post_of(t: &[u16; 1665], post: &[i64], at: usize, k: usize, phased: bool, p: 
     if phased | (i == j) {
         return x;
     }
-    logs::add_exp(t, x, entry(post, at, k, j, i))
+    x.ln_add_exp(t, entry(post, at, k, j, i))
 }
 
 // The row-major number of the genotype that is kept. At the loop's head `best` is the first maximum of the first p, and `top` its value.
@@ -117,7 +113,7 @@ pub fn max_genotype(t: &[u16; 1665], post: &[i64], at: usize, k: usize, phased: 
     let mut p = 1;
     while p < m {
         let x = post_of(t, post, at, k, phased, p);
-        if top < x {
+        if top.0 < x.0 {
             best = p;
             top = x;
         }
@@ -126,12 +122,12 @@ pub fn max_genotype(t: &[u16; 1665], post: &[i64], at: usize, k: usize, phased: 
     best
 }
 
-// 0 for a result above 0.
-fn at_most_one(z: i64) -> i64
-    ensures { λ r. ⌜ r ≡ atMostOne z ⌝ }
+// Certainty for a result above it.
+fn at_most_one(z: LogProb) -> LogProb
+    ensures { λ r. ⌜ r .0 ≡ atMostOne (z .0) ⌝ }
 {
-    if 0 < z {
-        return 0;
+    if 0 < z.0 {
+        return LogProb::ln_one();
     }
     z
 }
@@ -151,14 +147,14 @@ pub fn max_genotype_post(
     let z = at_most_one(post_of(t, post, at, k, phased, p));
     GenotypePost {
         genotype: Genotype((p / k) as u8, (p % k) as u8),
-        post: LogProb(z),
+        post: z,
     }
 }
 
 // The sum with x added, where q is neither the pair p nor its mirror m.
-fn add_other(t: &[u16; 1665], sum: i64, x: i64, p: usize, m: usize, q: usize) -> i64
-    requires { ⌜ (now t ≡ knots) × (size (logOf sum) ≤ 2 ^ 60) × (natAbs x ≤ 2 ^ 40) ⌝ }
-    ensures { λ r. ⌜ logOf r ≡ cond (isOther p m q) (lnAddExp (logOf sum) (steps x)) (logOf sum) ⌝ }
+fn add_other(t: &[u16; 1665], sum: LogProb, x: LogProb, p: usize, m: usize, q: usize) -> LogProb
+    requires { ⌜ (now t ≡ knots) × (size (logOf (sum .0)) ≤ 2 ^ 60) × (natAbs (x .0) ≤ 2 ^ 40) ⌝ }
+    ensures { λ r. ⌜ logOf (r .0) ≡ cond (isOther p m q) (lnAddExp (logOf (sum .0)) (steps (x .0))) (logOf (sum .0)) ⌝ }
 {
     if q == p {
         return sum;
@@ -166,20 +162,20 @@ fn add_other(t: &[u16; 1665], sum: i64, x: i64, p: usize, m: usize, q: usize) ->
     if q == m {
         return sum;
     }
-    logs::ln_add_exp(t, sum, x)
+    sum.ln_add_exp(t, x)
 }
 
 // ln_sum_exp over the pairs other than p and its mirror. At the loop's head `sum` is that of those before q.
-pub fn other_sum(t: &[u16; 1665], post: &[i64], at: usize, k: usize, p: usize) -> i64
+pub fn other_sum(t: &[u16; 1665], post: &[i64], at: usize, k: usize, p: usize) -> LogProb
     requires { ⌜ (now t ≡ knots) × TableAt (now post) at k × (p < k * k) ⌝ }
-    ensures { λ r. ⌜ (logOf r ≡ otherSum (drop at (now (post .entry))) k p) × (size (logOf r) ≤ 2 ^ 41) ⌝ }
+    ensures { λ r. ⌜ (logOf (r .0) ≡ otherSum (drop at (now (post .entry))) k p) × (size (logOf (r .0)) ≤ 2 ^ 41) ⌝ }
 {
     let n = k * k;
     let m = p % k * k + p / k;
-    let mut sum = logs::MARK;
+    let mut sum = LogProb::ln_zero();
     let mut q = 0;
     while q < n {
-        sum = add_other(t, sum, post[at + q], p, m, q);
+        sum = add_other(t, sum, LogProb(post[at + q]), p, m, q);
         q += 1;
     }
     sum

@@ -18,35 +18,36 @@ ghost use Rattle.genotype_probs.specs.Inner.PriorInputs.{TableIn, Allele
 use crate::letters::compare;
 use crate::letters::letter_of;
 use crate::table::ln_half;
+use steps::LogProb;
 use variants_and_fragments::Sizes;
 use variants_and_fragments::alleles::alleles_length;
 use variants_and_fragments::layout;
 use variants_and_fragments::layout::allele_length;
 
 // −4096 where the letters differ.
-fn letters_share(first: usize, second: usize) -> i64
-    ensures { λ r. ⌜ r ≡ cond (eqb first second) (pos 0) lnHalf ⌝ }
+fn letters_share(first: usize, second: usize) -> LogProb
+    ensures { λ r. ⌜ r .0 ≡ cond (eqb first second) (pos 0) lnHalf ⌝ }
 {
     if first == second {
-        return 0;
+        return LogProb::ln_one();
     }
     ln_half()
 }
 
 // The prior of two letters at a reference base.
-fn table_value(table: &[i64], base: usize, first: usize, second: usize) -> i64
+fn table_value(table: &[i64], base: usize, first: usize, second: usize) -> LogProb
     requires { ⌜ TableIn (now table) × (base < 4) × (first < 6) × (second < 6) ⌝ }
-    ensures { λ r. ⌜ r ≡ tableValue (now (table .entry)) base first second ⌝ }
+    ensures { λ r. ⌜ r .0 ≡ tableValue (now (table .entry)) base first second ⌝ }
 {
     let i = 36 * base + 6 * first + second;
-    table[i] + letters_share(first, second)
+    LogProb(table[i] + letters_share(first, second).0)
 }
 
 // The prior of two alleles beside the reference. The second comparison starts from the reference base that the first one left.
-pub fn get_prior(table: &[i64], reference: &[u8], first: &[u8], second: &[u8]) -> i64
+pub fn get_prior(table: &[i64], reference: &[u8], first: &[u8], second: &[u8]) -> LogProb
     requires { ⌜ TableIn (now table) ⌝ }
     requires { ⌜ (0 < length (now reference)) × (0 < length (now first)) × (0 < length (now second)) ⌝ }
-    ensures { λ r. ⌜ r ≡ lookup (now (table .entry)) (now (reference .entry)) (now (first .entry)) (now (second .entry)) ⌝ }
+    ensures { λ r. ⌜ r .0 ≡ lookup (now (table .entry)) (now (reference .entry)) (now (first .entry)) (now (second .entry)) ⌝ }
 {
     let base = letter_of(reference[0]);
     let one = compare(reference, first, base);
@@ -91,10 +92,10 @@ fn variant_prior(
     at: usize,
     i: usize,
     j: usize,
-) -> i64
+) -> LogProb
     requires { ⌜ AllelesIn (now words) (now bases) s × TableIn (now table) ⌝ }
     requires { ⌜ (v < s .n) × (at ≡ allelesStart (now words) v) × (i < alleleCountAt (now words) v) × (j < alleleCountAt (now words) v) ⌝ }
-    ensures { λ r. ⌜ r ≡ tablePrior (now (table .entry)) (variantFrom (now (words .entry)) (now (bases .entry)) v) i j ⌝ }
+    ensures { λ r. ⌜ r .0 ≡ tablePrior (now (table .entry)) (variantFrom (now (words .entry)) (now (bases .entry)) v) i j ⌝ }
 {
     let reference = allele(words, s, bases, v, at, 0);
     let first = allele(words, s, bases, v, at, i);
@@ -135,7 +136,8 @@ pub fn get_all_priors(
     let mut i = 0;
     let mut j = 0;
     while p < kk {
-        priors[9 * v + p] = variant_prior(words, s, bases, table, v, at, i, j);
+        let x = variant_prior(words, s, bases, table, v, at, i, j).0;
+        priors[9 * v + p] = x;
         p += 1;
         j += 1;
         if j == k {

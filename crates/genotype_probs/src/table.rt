@@ -7,14 +7,14 @@ ghost use lib.IntN.{pos, natAbs, _+ℤ_};
 ghost use lib.ListN.{length};
 ghost use lib.Signed.{ltZ};
 ghost use Rattle.steps.specs.Table.{knots};
-ghost use Rattle.genotype_probs.specs.Rates.{homSnv, hetSnv, homIndel, hetIndel, tsRate, tvRate, rateOk, rateSum, ratesFault};
+ghost use Rattle.genotype_probs.specs.Rates.{homSnv, hetSnv, homIndel, hetIndel, tsRate, tvRate, rateOk, rateSum};
+ghost use Rattle.genotype_probs.specs.Inner.Rates.{ratesFault};
 ghost use Rattle.genotype_probs.specs.Priors.{lnHalf, lnQuarter, oneMinusExp};
 ghost use Rattle.genotype_probs.specs.Inner.PriorTable.{changeAt, letterValue, tableEntry, priorTable};
 use crate::Rates;
 use crate::letters::DELETION;
 use steps::LogProb;
 use steps::Prob;
-use steps::logs;
 
 // Whether a rate is in −262144..−1.
 fn rate_ok(rate: LogProb) -> bool
@@ -25,13 +25,17 @@ fn rate_ok(rate: LogProb) -> bool
 }
 
 // ln_sum_exp of the first four rates.
-fn rate_sum(t: &[u16; 1665], rates: Rates) -> i64
+fn rate_sum(t: &[u16; 1665], rates: Rates) -> LogProb
     requires { ⌜ (now t ≡ knots) × (rateOk (homSnv rates) ≡ true) × (rateOk (hetSnv rates) ≡ true) × (rateOk (homIndel rates) ≡ true) × (rateOk (hetIndel rates) ≡ true) ⌝ }
-    ensures { λ r. ⌜ r ≡ rateSum rates ⌝ }
+    ensures { λ r. ⌜ r .0 ≡ rateSum rates ⌝ }
 {
-    let a = logs::add_exp(t, rates.hom_snv.0, rates.het_snv.0);
-    let b = logs::add_exp(t, a, rates.hom_indel.0);
-    logs::add_exp(t, b, rates.het_indel.0)
+    let four = [
+        rates.hom_snv.0,
+        rates.het_snv.0,
+        rates.hom_indel.0,
+        rates.het_indel.0,
+    ];
+    LogProb::ln_sum_exp(t, &four)
 }
 
 // The first place at which the rates are wrong, or 7.
@@ -57,57 +61,64 @@ pub fn rates_fault(t: &[u16; 1665], rates: Rates) -> usize
     if !rate_ok(rates.tv) {
         return 5;
     }
-    if rate_sum(t, rates) < 0 {
+    if rate_sum(t, rates).0 < 0 {
         return 7;
     }
     6
 }
 
 // ln_one_minus_exp of steps below 0.
-fn one_minus_exp(t: &[u16; 1665], p: i64) -> i64
-    requires { ⌜ (now t ≡ knots) × (natAbs p ≤ 2 ^ 60) × (ltZ p (pos 0) ≡ true) ⌝ }
-    ensures { λ r. ⌜ r ≡ oneMinusExp p ⌝ }
+fn one_minus_exp(t: &[u16; 1665], p: LogProb) -> LogProb
+    requires { ⌜ (now t ≡ knots) × (natAbs (p .0) ≤ 2 ^ 60) × (ltZ (p .0) (pos 0) ≡ true) ⌝ }
+    ensures { λ r. ⌜ r .0 ≡ oneMinusExp (p .0) ⌝ }
 {
-    logs::ln_one_minus_exp(t, p)
+    p.ln_one_minus_exp(t)
 }
 
 // The rate of a transition or of a transversion.
-fn change(rates: Rates, base: usize, letter: usize) -> i64
+fn change(rates: Rates, base: usize, letter: usize) -> LogProb
     requires { ⌜ base < 4 ⌝ }
-    ensures { λ r. ⌜ r ≡ cond (eqb letter ((base + 2) % 4)) (tsRate rates) (tvRate rates) ⌝ }
+    ensures { λ r. ⌜ r .0 ≡ cond (eqb letter ((base + 2) % 4)) (tsRate rates) (tvRate rates) ⌝ }
 {
     if letter == (base + 2) % 4 {
-        return rates.ts.0;
+        return rates.ts;
     }
-    rates.tv.0
+    rates.tv
 }
 
 // ln(0.5)
-pub fn ln_half() -> i64
-    ensures { λ r. ⌜ r ≡ lnHalf ⌝ }
+pub fn ln_half() -> LogProb
+    ensures { λ r. ⌜ r .0 ≡ lnHalf ⌝ }
 {
-    LogProb::from_prob(Prob::half()).0
+    LogProb::from_prob(Prob::half())
 }
 
 // ln(0.25)
-fn ln_quarter() -> i64
-    ensures { λ r. ⌜ r ≡ lnQuarter ⌝ }
+fn ln_quarter() -> LogProb
+    ensures { λ r. ⌜ r .0 ≡ lnQuarter ⌝ }
 {
-    LogProb::from_prob(Prob::quarter()).0
+    LogProb::from_prob(Prob::quarter())
 }
 
 // The value of D or I, from the rate of an indel.
-fn indel_value(indel: i64) -> i64
-    requires { ⌜ natAbs indel ≤ 262144 ⌝ }
-    ensures { λ r. ⌜ r ≡ indel +ℤ lnHalf +ℤ lnQuarter ⌝ }
+fn indel_value(indel: LogProb) -> LogProb
+    requires { ⌜ natAbs (indel .0) ≤ 262144 ⌝ }
+    ensures { λ r. ⌜ r .0 ≡ indel .0 +ℤ lnHalf +ℤ lnQuarter ⌝ }
 {
-    indel + ln_half() + ln_quarter()
+    LogProb(indel.0 + ln_half().0 + ln_quarter().0)
 }
 
 // The value of one letter, where that of the reference base, the rate of another base and the rate of an indel are given.
-fn letter_value(rates: Rates, same: i64, snv: i64, indel: i64, base: usize, letter: usize) -> i64
-    requires { ⌜ (ratesFault rates ≡ 7) × (natAbs snv ≤ 262144) × (natAbs indel ≤ 262144) × (base < 4) ⌝ }
-    ensures { λ r. ⌜ r ≡ letterValue rates same snv indel (changeAt base letter) ⌝ }
+fn letter_value(
+    rates: Rates,
+    same: LogProb,
+    snv: LogProb,
+    indel: LogProb,
+    base: usize,
+    letter: usize,
+) -> LogProb
+    requires { ⌜ (ratesFault rates ≡ 7) × (natAbs (snv .0) ≤ 262144) × (natAbs (indel .0) ≤ 262144) × (base < 4) ⌝ }
+    ensures { λ r. ⌜ r .0 ≡ letterValue rates (same .0) (snv .0) (indel .0) (changeAt base letter) ⌝ }
 {
     if DELETION <= letter {
         return indel_value(indel);
@@ -115,52 +126,53 @@ fn letter_value(rates: Rates, same: i64, snv: i64, indel: i64, base: usize, lett
     if letter == base {
         return same;
     }
-    snv + change(rates, base, letter)
+    LogProb(snv.0 + change(rates, base, letter).0)
 }
 
 // Entry i of the table, where the haploid and the diploid value of the reference base are given.
-fn table_entry(rates: Rates, haploid: i64, diploid: i64, i: usize) -> i64
+fn table_entry(rates: Rates, haploid: LogProb, diploid: LogProb, i: usize) -> LogProb
     requires { ⌜ (ratesFault rates ≡ 7) × (i < 144) ⌝ }
-    requires { ⌜ (haploid ≡ oneMinusExp (hetSnv rates +ℤ hetIndel rates)) × (diploid ≡ oneMinusExp (rateSum rates)) ⌝ }
-    ensures { λ r. ⌜ r ≡ tableEntry rates i ⌝ }
+    requires { ⌜ (haploid .0 ≡ oneMinusExp (hetSnv rates +ℤ hetIndel rates)) × (diploid .0 ≡ oneMinusExp (rateSum rates)) ⌝ }
+    ensures { λ r. ⌜ r .0 ≡ tableEntry rates i ⌝ }
 {
     let base = i / 36;
     let x = i / 6 % 6;
     let y = i % 6;
     if x == y {
-        return letter_value(rates, diploid, rates.hom_snv.0, rates.hom_indel.0, base, x);
+        return letter_value(rates, diploid, rates.hom_snv, rates.hom_indel, base, x);
     }
-    let a = letter_value(rates, haploid, rates.het_snv.0, rates.het_indel.0, base, x);
-    let b = letter_value(rates, haploid, rates.het_snv.0, rates.het_indel.0, base, y);
-    a + b
+    let a = letter_value(rates, haploid, rates.het_snv, rates.het_indel, base, x);
+    let b = letter_value(rates, haploid, rates.het_snv, rates.het_indel, base, y);
+    LogProb(a.0 + b.0)
 }
 
 // Writes the table, where the haploid and the diploid value of the reference base are given. At the loop's head the first i entries are
 // written.
-fn write_table(rates: Rates, haploid: i64, diploid: i64, table: &mut [i64])
+fn write_table(rates: Rates, haploid: LogProb, diploid: LogProb, table: &mut [i64])
     requires { ⌜ (ratesFault rates ≡ 7) × (length (now table) ≡ 144) ⌝ }
-    requires { ⌜ (haploid ≡ oneMinusExp (hetSnv rates +ℤ hetIndel rates)) × (diploid ≡ oneMinusExp (rateSum rates)) ⌝ }
+    requires { ⌜ (haploid .0 ≡ oneMinusExp (hetSnv rates +ℤ hetIndel rates)) × (diploid .0 ≡ oneMinusExp (rateSum rates)) ⌝ }
     ensures { λ _. ⌜ now (table .exit) ≡ priorTable rates ⌝ }
 {
     let mut i = 0;
     while i < 144 {
-        table[i] = table_entry(rates, haploid, diploid, i);
+        let x = table_entry(rates, haploid, diploid, i).0;
+        table[i] = x;
         i += 1;
     }
 }
 
 // The haploid value of the reference base.
-fn reference_haploid(t: &[u16; 1665], rates: Rates) -> i64
+fn reference_haploid(t: &[u16; 1665], rates: Rates) -> LogProb
     requires { ⌜ (now t ≡ knots) × (ratesFault rates ≡ 7) ⌝ }
-    ensures { λ r. ⌜ r ≡ oneMinusExp (hetSnv rates +ℤ hetIndel rates) ⌝ }
+    ensures { λ r. ⌜ r .0 ≡ oneMinusExp (hetSnv rates +ℤ hetIndel rates) ⌝ }
 {
-    one_minus_exp(t, rates.het_snv.0 + rates.het_indel.0)
+    one_minus_exp(t, LogProb(rates.het_snv.0 + rates.het_indel.0))
 }
 
 // The value of the pair of reference bases.
-fn reference_diploid(t: &[u16; 1665], rates: Rates) -> i64
+fn reference_diploid(t: &[u16; 1665], rates: Rates) -> LogProb
     requires { ⌜ (now t ≡ knots) × (ratesFault rates ≡ 7) ⌝ }
-    ensures { λ r. ⌜ r ≡ oneMinusExp (rateSum rates) ⌝ }
+    ensures { λ r. ⌜ r .0 ≡ oneMinusExp (rateSum rates) ⌝ }
 {
     one_minus_exp(t, rate_sum(t, rates))
 }

@@ -7,4 +7,4 @@ pub use Rattle.variants_and_fragments.proofs.Bounds.{down-abs}
 pub use Rattle.variants_and_fragments.proofs.Decoded.{tabulate-length, tabulate-at, variants-are, fragment-here, pos0-is, genotype0-is, genotype1-is, allele-count-is, allele-length, sizes-are}
 pub use Rattle.variants_and_fragments.proofs.Tabulated.{table-start, table-more, table-end}
 pub use Rattle.pileup.proofs.Groups.{group-rows, group-in}
-pub use Rattle.steps.proofs.Marks.{of-small, size-steps, size-fits}
+pub use Rattle.steps.proofs.Marks.{of-small, size-steps}

@@ -12,7 +12,7 @@ use lib.ListN.{length, getD}
 use Rattle.variants_and_fragments.specs.declared.Sizes.{Sizes}
 use Rattle.variants_and_fragments.specs.Written.{written}
 use Rattle.variants_and_fragments.specs.Refusals.{done}
-use Rattle.variants_and_fragments.specs.Check.{caseOf}
+use Rattle.variants_and_fragments.specs.Check.{checkCaseOutcome}
 use Rattle.variants_and_fragments.specs.Layout.{alleleCountAt}
 use Rattle.variants_and_fragments.specs.Inner.Accepted.{CaseIn}
 use Rattle.variants_and_fragments.specs.Case.{alleleCount, alleleOf, variantOf}
@@ -37,7 +37,7 @@ few-alleles : (k a b l m : ℕ) → k < 2 → phasedTest k a b l m ≡ false
 unfolding phasedTest
 few-alleles k a b l m h = rw (lt-leb 2 k h)
 
-module _ (w : List ℤ) (b : List ℕ) (s : Sizes) (h : caseOf w b ≡ done s) where
+module _ (w : List ℤ) (b : List ℕ) (s : Sizes) (h : checkCaseOutcome w b ≡ done s) where
   pub accepted-in : CaseIn w s
   accepted-in = case-in w b s h
 

@@ -4,7 +4,7 @@ pub mod Writes
 pub mod Pairs
 pub mod Names
 pub mod Decodes
-pub mod PhaseAnswers
+pub mod PhaseLaws
 pub mod Start
 pub mod Least
 pub mod Stores
@@ -16,6 +16,5 @@ pub mod Tallies
 pub mod Counting
 pub mod Gathered
 pub mod LinesDecoded
-pub mod BufferAnswers
 pub mod LineSamples
 pub mod PhaseSamples

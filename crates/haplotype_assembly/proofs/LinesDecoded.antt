@@ -9,9 +9,10 @@ use native.Mathlib.Omega.{arith}
 use native.Mathlib.Numerals.{add-one}
 use lib.IntN.{ℤ}
 use lib.ListN.{length}
+use lib.Seq.{sets, sets-eq}
 use Rattle.variants_and_fragments.specs.declared.Sizes.{Sizes}
 use Rattle.variants_and_fragments.specs.Refusals.{done}
-use Rattle.variants_and_fragments.specs.Check.{caseOf}
+use Rattle.variants_and_fragments.specs.Check.{checkCaseOutcome}
 use Rattle.variants_and_fragments.specs.Chain.{strandAt}
 use Rattle.variants_and_fragments.specs.Case.{Case, Fragment, Call, usable, variantOf, fragmentOf}
 use Rattle.variants_and_fragments.specs.Inner.Case.{All, also}
@@ -19,13 +20,15 @@ use Rattle.variants_and_fragments.specs.Pileup.{Row, rowOf, only, usableCalls}
 use Rattle.variants_and_fragments.specs.Inner.Pileup.{fragmentRows}
 use Rattle.variants_and_fragments.specs.Decode.{tabulateFrom, tabulate, fragmentFrom, decode}
 use Rattle.pileup.specs.Inner.Packed.{RowIn, Grouped}
+use Rattle.haplotype_assembly.specs.declared.tally.Counted.{Counted}
 use Rattle.haplotype_assembly.specs.Phase.{phasedRule}
 use Rattle.haplotype_assembly.specs.Lines.{lineCalls, lineOf, hasLine, linesFrom, lineCount, flistBuffer, flistLines}
-use Rattle.haplotype_assembly.specs.Inner.LinesRead.{shownCalls, shownFragment, shownFragments, LinesGiven, headerOf, lineWith, headAt, fragmentLine, hasOne, linesOver, linesCount}
+use Rattle.haplotype_assembly.specs.FlistBuffer.{Amount, amountOf, flistBufferWritten}
+use Rattle.haplotype_assembly.specs.Inner.LinesRead.{shownCalls, shownFragment, shownFragments, LinesGiven, LinesCounted, headerOf, lineWith, headAt, fragmentLine, hasOne, linesOver, linesCount}
 use Rattle.haplotype_assembly.proofs.Cited.{fragment-here, sizes-are, group-rows, group-in}
 use Rattle.haplotype_assembly.proofs.Decodes.{accepted-in, count-is, rule-is}
 
-module _ (w : List ℤ) (b : List ℕ) (s : Sizes) (h : caseOf w b ≡ done s) (rows ends : List ℕ) (grouped : Grouped (s .n) (s .f) (s .f) (fragmentRows (decode w b)) ends rows) where
+module _ (w : List ℤ) (b : List ℕ) (s : Sizes) (h : checkCaseOutcome w b ≡ done s) (rows ends : List ℕ) (grouped : Grouped (s .n) (s .f) (s .f) (fragmentRows (decode w b)) ends rows) where
   abbrev case : Case
   case = decode w b
 
@@ -98,10 +101,25 @@ module _ (w : List ℤ) (b : List ℕ) (s : Sizes) (h : caseOf w b ≡ done s) (
   unfolding decode
   fragments-are = ap (λ (t : Sizes). tabulate (t .f) (fragmentFrom w t)) (sizes-are (accepted-in w b s h))
 
-  pub buffer-is : (single : Bool) → linesOver (s .n) single 0 (shownFragments w s rows ends) ≡ flistBuffer case single
+  buffer-is : (single : Bool) → linesOver (s .n) single 0 (shownFragments w s rows ends) ≡ flistBuffer case single
   unfolding flistBuffer
   buffer-is single = lines-same single (s .f) 0 0 (omega arith) ∙ ap (linesFrom case single 0) (sym fragments-are)
 
-  pub lines-are : (single : Bool) → linesCount single (shownFragments w s rows ends) ≡ flistLines case single
+  lines-are : (single : Bool) → linesCount single (shownFragments w s rows ends) ≡ flistLines case single
   unfolding flistLines
   lines-are single = counts-same single (s .f) 0 (omega arith) ∙ ap (lineCount case single) (sym fragments-are)
+
+  -- ---- what is counted, and what is written
+  module _ (single : Bool) where
+    pub bytes-are : (c : Counted) → LinesCounted (s .n) single (shownFragments w s rows ends) c → c .bytes ≡ length (flistBuffer case single)
+    bytes-are c counted = counted .bytes-are ∙ ap length (buffer-is single)
+
+    pub amount-is : (c : Counted) → LinesCounted (s .n) single (shownFragments w s rows ends) c → _≡_ {A = Amount} (record { bytes = c .bytes; lines = c .lines }) (amountOf case single)
+    amount-is c counted = rw (bytes-are c counted, counted .lines-are ∙ lines-are single)
+
+    pub buffer-written : (before : List ℕ) → length (flistBuffer case single) ≤ length before → sets before 0 (linesOver (s .n) single 0 (shownFragments w s rows ends)) ≡ flistBufferWritten case single before
+    unfolding flistBufferWritten
+    buffer-written before h =
+        let bytes = flistBuffer case single in
+        let e : 0 + length bytes ≡ length bytes = omega arith in
+        ap (λ (y : List ℕ). sets before 0 y) (buffer-is single) ∙ sets-eq bytes before 0 (omega arith) ∙ rw e

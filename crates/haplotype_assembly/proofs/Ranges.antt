@@ -15,7 +15,8 @@ use Rattle.variants_and_fragments.specs.Words.{none, natOf}
 use Rattle.variants_and_fragments.specs.Layout.{genotypeAt}
 use Rattle.variants_and_fragments.specs.Inner.Accepted.{CaseIn}
 use Rattle.variants_and_fragments.proofs.Bools.{or-right}
-use Rattle.haplotype_assembly.specs.GivenPhase.{setOk, phaseFaultAt}
+use Rattle.haplotype_assembly.specs.GivenPhase.{setOk}
+use Rattle.haplotype_assembly.specs.Inner.GivenPhase.{phaseFaultAt}
 
 -- a genotype's alleles are below 3
 pub genotype-top : {w : List ℤ} {s : Sizes} → CaseIn w s → (v i : ℕ) → v < s .n → i < 2 → genotypeAt w v i < 3

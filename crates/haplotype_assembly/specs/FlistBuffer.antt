@@ -1,14 +1,12 @@
 -- 01, section 7 and the table of refusals: what the operation `generate_flist_buffer` answers and writes.
 -- Assumes nothing.
-use mathlib.Core.Path.{_≡_}
 use mathlib.Core.Bool.{Bool}
-use mathlib.Core.List.{List, _++_}
+use mathlib.Core.List.{List, [], _∷_, _++_}
 use Prim.Native.Nat.{ℕ}
-use lib.Dec.{leb}
 use lib.IntN.{ℤ}
 use lib.ListN.{length, drop}
-use Rattle.variants_and_fragments.specs.Refusals.{Outcome, refused, done, number, place, andThen, unless, afterwards}
-use Rattle.variants_and_fragments.specs.Check.{caseOf}
+use Rattle.variants_and_fragments.specs.Refusals.{Outcome, done, refusal, andThen, longEnough, Promise}
+use Rattle.variants_and_fragments.specs.Check.{checkCaseOutcome}
 use Rattle.variants_and_fragments.specs.Case.{Case}
 use Rattle.variants_and_fragments.specs.Decode.{decode}
 use Rattle.haplotype_assembly.specs.declared.Buffered.{Buffered}
@@ -20,28 +18,27 @@ pub record Amount : Type 0 where
   pub bytes : ℕ
   pub lines : ℕ
 
--- 10: the number of bytes needed, for a buffer of `long` bytes
-unfoldable pub flistChecks : Case → Bool → ℕ → Outcome Amount
-flistChecks case single long =
-    unless (leb (length (flistBuffer case single)) long) 10 (length (flistBuffer case single))
-    (done (record { bytes = length (flistBuffer case single); lines = flistLines case single }))
+abbrev pub amountOf : Case → Bool → Amount
+amountOf case single = record { bytes = length (flistBuffer case single); lines = flistLines case single }
 
--- 1 to 5, then this
-unfoldable pub flistOutcome : List ℤ → List ℕ → Bool → ℕ → Outcome Amount
-flistOutcome w b single long = andThen (caseOf w b) (λ s. flistChecks (decode w b) single long)
+-- 1 to 5, and 10: the bytes of all lines
+unfoldable pub flistBufferOutcome : List ℤ → List ℕ → Bool → List ℕ → Outcome Amount
+flistBufferOutcome w b single before =
+    andThen (checkCaseOutcome w b) (λ s.
+    longEnough ((length (flistBuffer (decode w b) single), length before) ∷ [])
+    (done (amountOf (decode w b) single)))
 
--- the answer in 01's terms
-unfoldable pub bufferedOutcome : Buffered → Outcome Amount
-bufferedOutcome (Done bytes lines) = done (record { bytes = bytes; lines = lines })
-bufferedOutcome (Refused x) = refused (number x) (place x)
+-- the answer in these terms
+unfoldable pub outcomeOf : Buffered → Outcome Amount
+outcomeOf (Done bytes lines) = done (record { bytes = bytes; lines = lines })
+outcomeOf (Refused x) = refusal x
 
--- a slice that starts with these bytes; past them it is as before
-unfoldable pub startingWith : List ℕ → List ℕ → List ℕ
-startingWith bytes l = bytes ++ drop (length bytes) l
+-- section 7: the lines from the start of the buffer on; past them it is as before
+unfoldable pub flistBufferWritten : Case → Bool → List ℕ → List ℕ
+flistBufferWritten case single before =
+    let lines = flistBuffer case single in
+    lines ++ drop (length lines) before
 
--- the answer, and the lent slice afterwards
-pub record FlistBuffer (w : List ℤ) (b : List ℕ) (single : Bool) (buffer : List ℕ) (r : Buffered) (buffer2 : List ℕ) : Type 0 where
-  pub outcome : Outcome Amount
-  pub outcome-is : outcome ≡ flistOutcome w b single (length buffer)
-  pub answer : bufferedOutcome r ≡ outcome
-  pub buffer-after : buffer2 ≡ afterwards outcome (startingWith (flistBuffer (decode w b) single) buffer) buffer
+abbrev pub FlistBuffer : List ℤ → List ℕ → Bool → List ℕ → Outcome Amount → List ℕ → Type 0
+FlistBuffer w b single before answer after =
+    Promise (flistBufferOutcome w b single before) (flistBufferWritten (decode w b) single before) before answer after

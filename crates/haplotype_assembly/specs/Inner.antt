@@ -1,2 +1,3 @@
 pub mod PhaseRead
+pub mod GivenPhase
 pub mod LinesRead

@@ -59,7 +59,7 @@ byteOf bytes v = getD bytes v 0
 unfoldable pub phasedFlags : Case → List ℕ → ℕ → Bool
 phasedFlags case bytes v = phased (byteOf bytes v) (variantOf case v)
 
--- 2 bytes a variant: what stands at place i of a flat list of pairs
+-- 2 bytes per variant: what stands at place i of a flat list of pairs
 unfoldable pub pairPlace : (ℕ → ℕ) → (ℕ → ℕ) → ℕ → ℕ
 pairPlace first second i = cond (eqb (i % 2) 0) (first (i / 2)) (second (i / 2))
 

@@ -1,8 +1,11 @@
 // The given phase of document 01, section 5, and the fragment lines of section 7.
 ghost use mathlib.Core.Path.{_≡_};
 ghost use Prim.Native.Nat.{_≤_};
-ghost use Rattle.haplotype_assembly.specs.GivenPhase.{phaseShort, GivenPhase};
+ghost use Rattle.variants_and_fragments.specs.Refusals.{outcomeOf};
+ghost use Rattle.haplotype_assembly.specs.GivenPhase.{phaseSlices, GivenPhase};
 ghost use Rattle.haplotype_assembly.specs.FlistBuffer.{FlistBuffer};
+ghost use Rattle.haplotype_assembly.specs.FlistBuffer as buffered;
+ghost use Rattle.haplotype_assembly.specs.Inner.GivenPhase.{phaseShort};
 use crate::lines::write_lines;
 use crate::phase::name_sets;
 use crate::phase::phase_fault;
@@ -11,6 +14,7 @@ use crate::tally::count_lines;
 use pileup::rows::make_rows;
 use pileup::scratch::call_words;
 use pileup::scratch::fragment_ends;
+use variants_and_fragments::Answered;
 use variants_and_fragments::Checked;
 use variants_and_fragments::Refusal;
 use variants_and_fragments::check_case;
@@ -22,12 +26,6 @@ mod lines;
 mod numbers;
 pub mod phase;
 mod tally;
-
-// What `given_phase` answers.
-pub enum Phased {
-    Done,
-    Refused(Refusal),
-}
 
 // The smallest count needed by a slice too short, for n variants; 0 where none is.
 pub fn phase_short(n: usize, haplotypes: usize, phased: usize, names: usize) -> usize
@@ -49,25 +47,25 @@ pub fn given_phase(
     haplotypes: &mut [u8],
     phased: &mut [u8],
     names: &mut [u32],
-) -> Phased
-    ensures { λ r. ⌜ GivenPhase (now (words .entry)) (now (bases .entry)) (now (phase .entry)) (now (sets .entry)) (now (haplotypes .entry)) (now (phased .entry)) (now (names .entry)) r (now (haplotypes .exit)) (now (phased .exit)) (now (names .exit)) ⌝ }
+) -> Answered
+    ensures { λ r. ⌜ GivenPhase (now (words .entry)) (now (bases .entry)) (now (phase .entry)) (now (sets .entry)) (phaseSlices (now (haplotypes .entry)) (now (phased .entry)) (now (names .entry))) (outcomeOf r) (phaseSlices (now (haplotypes .exit)) (now (phased .exit)) (now (names .exit))) ⌝ }
 {
     let checked = check_case(words, bases);
     match checked {
-        Checked::Refused(x) => Phased::Refused(x),
+        Checked::Refused(x) => Answered::Refused(x),
         Checked::Accepted(s) => {
             let n = s.n;
             let fault = phase_fault(n, phase, sets);
             if fault <= n {
-                return Phased::Refused(Refusal::Phase(fault));
+                return Answered::Refused(Refusal::Phase(fault));
             }
             let short = phase_short(n, haplotypes.len(), phased.len(), names.len());
             if short != 0 {
-                return Phased::Refused(Refusal::Short(short));
+                return Answered::Refused(Refusal::Short(short));
             }
             write_phase(words, s, phase, haplotypes, phased);
             name_sets(words, s, phase, sets, names);
-            Phased::Done
+            Answered::Done
         }
     }
 }
@@ -85,7 +83,7 @@ pub fn generate_flist_buffer(
     single_reads: bool,
     buffer: &mut [u8],
 ) -> Buffered
-    ensures { λ r. ⌜ FlistBuffer (now (words .entry)) (now (bases .entry)) «single_reads» (now (buffer .entry)) r (now (buffer .exit)) ⌝ }
+    ensures { λ r. ⌜ FlistBuffer (now (words .entry)) (now (bases .entry)) «single_reads» (now (buffer .entry)) (buffered.outcomeOf r) (now (buffer .exit)) ⌝ }
 {
     let checked = check_case(words, bases);
     match checked {

@@ -17,7 +17,6 @@ use crate::tally::tally_rows;
 use pileup::piles::group_start;
 use pileup::row::Row;
 use pileup::row::unpack;
-use steps::LogProb;
 use steps::phred::phred;
 use steps::phred::quality_byte;
 use variants_and_fragments::Sizes;
@@ -84,10 +83,10 @@ pub fn write_alleles(
 
 // The quality byte of a call.
 pub fn quality_of(row: Row) -> u8
-    requires { ⌜ DownTo 262144 (row .qual) ⌝ }
+    requires { ⌜ DownTo 262144 (row .qual .0) ⌝ }
     ensures { λ q. ⌜ q ≡ callQuality (rowFrom row .call) ⌝ }
 {
-    quality_byte(phred(LogProb(row.qual)))
+    quality_byte(phred(row.qual))
 }
 
 // Writes the quality bytes that the rows at a..e show; returns the place after them. At the loop's head those of the rows below p are

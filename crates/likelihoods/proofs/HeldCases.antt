@@ -12,7 +12,7 @@ use Rattle.variants_and_fragments.specs.declared.Sizes.{Sizes}
 use Rattle.variants_and_fragments.specs.Case.{Case, variantOf, alleleCount}
 use Rattle.variants_and_fragments.specs.Inner.Case.{GoodCase}
 use Rattle.variants_and_fragments.specs.Layout.{alleleCountAt}
-use Rattle.variants_and_fragments.specs.Check.{caseOf}
+use Rattle.variants_and_fragments.specs.Check.{checkCaseOutcome}
 use Rattle.variants_and_fragments.specs.Refusals.{done}
 use Rattle.variants_and_fragments.specs.Inner.Accepted.{CaseIn}
 use Rattle.variants_and_fragments.specs.Decode.{decode}
@@ -24,7 +24,7 @@ use Rattle.variants_and_fragments.proofs.Decoded.{variants-are, fragments-are, 
 use Rattle.variants_and_fragments.proofs.GoodCases.{good-case}
 use Rattle.variants_and_fragments.proofs.Written.{written-at, written-length}
 use Rattle.genotype_probs.specs.declared.Rates.{Rates}
-use Rattle.genotype_probs.specs.Rates.{ratesFault}
+use Rattle.genotype_probs.specs.Inner.Rates.{ratesFault}
 use Rattle.genotype_probs.specs.Priors.{getPrior, allPriors, priorAt}
 use Rattle.genotype_probs.proofs.AlleleLaws.{nine}
 use Rattle.genotype_probs.proofs.PriorSizes.{prior-small}
@@ -43,7 +43,7 @@ place-is rates case v p h l =
     let r : (9 * v + p) % 9 ≡ p = omega arith in
     rw (q, r, lt-ltb p (alleleCount (variantOf case v) * alleleCount (variantOf case v)) h)
 
-module _ (rates : Rates) (phased : ℕ → Bool) (w : List ℤ) (b : List ℕ) (s : Sizes) (accepted : caseOf w b ≡ done s) where
+module _ (rates : Rates) (phased : ℕ → Bool) (w : List ℤ) (b : List ℕ) (s : Sizes) (accepted : checkCaseOutcome w b ≡ done s) where
   abbrev case : Case
   case = decode w b
 

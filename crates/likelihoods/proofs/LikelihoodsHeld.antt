@@ -12,7 +12,7 @@ use Rattle.variants_and_fragments.specs.declared.Sizes.{Sizes}
 use Rattle.variants_and_fragments.specs.Case.{Case, Call, fragmentOf}
 use Rattle.variants_and_fragments.specs.Inner.Case.{All, also}
 use Rattle.variants_and_fragments.specs.Inner.Accepted.{CaseIn}
-use Rattle.variants_and_fragments.specs.Check.{caseOf}
+use Rattle.variants_and_fragments.specs.Check.{checkCaseOutcome}
 use Rattle.variants_and_fragments.specs.Refusals.{done}
 use Rattle.variants_and_fragments.specs.Decode.{decode}
 use Rattle.variants_and_fragments.specs.Pileup.{usableCalls}
@@ -57,7 +57,7 @@ module _
     (s : Sizes)
     {rows ends ambiguous : List ℕ}
     {count : ℕ}
-    (accepted : caseOf w b ≡ done s)
+    (accepted : checkCaseOutcome w b ≡ done s)
     (made : RowsMade w s rows ends ambiguous count) where
   abbrev case : Case
   case = decode w b

@@ -8,7 +8,7 @@ use native.Mathlib.Numerals.{add-one}
 use lib.IntN.{ℤ, pos, natAbs, _+ℤ_}
 use mir.Syntax.{w64}
 use mir.Val.{SFits, toZ, ofZ}
-use Rattle.steps.proofs.Signed.{add-abs, sfits, read-small}
+use Rattle.steps.proofs.Signed.{add-abs, plus-fits, plus-read}
 use Rattle.variants_and_fragments.specs.Sums.{sumOver, sumTo}
 use Rattle.variants_and_fragments.specs.Decode.{tabulateFrom}
 use Rattle.variants_and_fragments.proofs.Sums.{sumTo-cong}
@@ -46,10 +46,10 @@ module _ (f : ℕ → ℤ) (top : ℕ → ℕ) (n : ℕ) where
   pub running-end : (sum : ℤ) (i : ℕ) → Running f top n sum i → n ≤ i → (sum ≡ sumTo n f) × (natAbs sum ≤ top n)
   running-end sum i r h = let e : i ≡ n = omega (arith, r .inside) in (rw (← e) (r .is), rw (← e) (r .small))
 
--- ---- one addition of the code: the sum so far and the term as it is read back
-module _ (sum term x : ℤ) (e : toZ w64 (ofZ w64 term) ≡ x) (h : natAbs sum + natAbs x < 2 ^ 63) where
-  pub added-fits : SFits w64 (sum +ℤ toZ w64 (ofZ w64 term))
-  added-fits = rw e (sfits w64 (sum +ℤ x) (omega (arith, add-abs sum x)))
+-- ---- one addition of the code: the sum so far and a term that is x
+module _ (sum term x : ℤ) (e : term ≡ x) (h : natAbs sum + natAbs x < 2 ^ 63) where
+  pub added-fits : SFits w64 (toZ w64 (ofZ w64 sum) +ℤ toZ w64 (ofZ w64 term))
+  added-fits = plus-fits w64 sum term (rw e h)
 
-  pub added-read : toZ w64 (ofZ w64 (sum +ℤ toZ w64 (ofZ w64 term))) ≡ sum +ℤ x
-  added-read = rw e (read-small w64 (sum +ℤ x) (omega (arith, add-abs sum x)))
+  pub added-read : toZ w64 (ofZ w64 (toZ w64 (ofZ w64 sum) +ℤ toZ w64 (ofZ w64 term))) ≡ sum +ℤ x
+  added-read = plus-read w64 sum term (rw e h) ∙ ap (λ (z : ℤ). sum +ℤ z) e

@@ -19,7 +19,8 @@ use Rattle.variants_and_fragments.proofs.GoodCases.{fragment-in}
 use Rattle.variants_and_fragments.proofs.Usable.{usable-fewer, usable-in, usable-rises}
 use Rattle.genotype_probs.specs.declared.Rates.{Rates}
 use Rattle.variants_and_fragments.specs.Inner.Accepted.{allb as allOf}
-use Rattle.sweeps.specs.Sweeps.{SweepCase, callTerm, likelihood, mixOf}
+use Rattle.sweeps.specs.Sweeps.{SweepCase, callTerm, likelihood}
+use Rattle.steps.specs.Logs.{mixOf}
 use Rattle.sweeps.specs.Inner.Sweeps.{GoodSweepCase}
 use Rattle.sweeps.specs.Inner.Incremental.{pileupFrom}
 use Rattle.sweeps.proofs.Basics.{and-in}

@@ -7,12 +7,12 @@ use native.Mathlib.Omega.{arith}
 use borrow.Author.Tests.{eq-eqb, ne-eqb}
 use lib.IntN.{ℤ, pos, natAbs, _+ℤ_, _-ℤ_}
 use lib.ListN.{getD}
-use Rattle.steps.specs.Logs.{addExp}
+use Rattle.steps.specs.Logs.{addExp, mixOf}
 use Rattle.steps.proofs.Signed.{minus-abs, zlin, parts-add, parts-minus}
 use Rattle.steps.proofs.AddExp.{add-size, add-exp-from}
 use Rattle.variants_and_fragments.specs.Sums.{sumOver, sumTo}
 use Rattle.variants_and_fragments.specs.Decode.{tabulate}
-use Rattle.sweeps.specs.Sweeps.{SweepCase, allele0, allele1, readShare, totalOf, mixOf}
+use Rattle.sweeps.specs.Sweeps.{SweepCase, allele0, allele1, readShare, totalOf}
 use Rattle.variants_and_fragments.proofs.Sums.{sumTo-cong}
 use Rattle.likelihoods.specs.Inner.Likelihoods.{callsOf, flagged}
 use Rattle.likelihoods.specs.Inner.Totals.{pairPrior, heldCase, priorShare, fragmentShare, PriorsIn}

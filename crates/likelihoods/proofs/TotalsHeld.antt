@@ -12,7 +12,7 @@ use lib.ListN.{length, getD}
 use lib.Seq.{ext-getD}
 use Rattle.variants_and_fragments.specs.declared.Sizes.{Sizes}
 use Rattle.variants_and_fragments.specs.Case.{Call}
-use Rattle.variants_and_fragments.specs.Check.{caseOf}
+use Rattle.variants_and_fragments.specs.Check.{checkCaseOutcome}
 use Rattle.variants_and_fragments.specs.Refusals.{done}
 use Rattle.variants_and_fragments.specs.Sums.{sumOver, sumTo}
 use Rattle.variants_and_fragments.specs.Decode.{tabulate, decode}
@@ -81,7 +81,7 @@ module _
     {count : ℕ}
     {reads : SweepReads}
     {hap : List ℕ}
-    (accepted : caseOf w b ≡ done s)
+    (accepted : checkCaseOutcome w b ≡ done s)
     (made : RowsMade w s rows ends ambiguous count)
     (held : Held (sweepCaseOf rates phased (decode w b)) reads)
     (haps : GoodHaps (sweepCaseOf rates phased (decode w b)) hap) where

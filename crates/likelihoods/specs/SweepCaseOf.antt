@@ -7,7 +7,8 @@ use Rattle.variants_and_fragments.specs.Case.{Case, alleleCount, variantOf}
 use Rattle.variants_and_fragments.specs.Pileup.{usableCalls}
 use Rattle.genotype_probs.specs.declared.Rates.{Rates}
 use Rattle.genotype_probs.specs.Priors.{getPrior}
-use Rattle.sweeps.specs.Sweeps.{SweepCase, mixOf}
+use Rattle.sweeps.specs.Sweeps.{SweepCase}
+use Rattle.steps.specs.Logs.{mixOf}
 
 -- its variants with their k and their priors by the rates, the phased variants as given, and each read's usable calls
 unfoldable pub sweepCaseOf : Rates → (ℕ → Bool) → Case → SweepCase

@@ -9,16 +9,17 @@ ghost use Rattle.pileup.specs.Inner.Packed.{groupStart};
 ghost use Rattle.variants_and_fragments.specs.Written.{written};
 ghost use Rattle.likelihoods.specs.Inner.Likelihoods.{CallsIn, EndsIn, LikelihoodsAre, callAt, flagged, alleleOn, callShare, likelihoodAt};
 use pileup::row::unpack;
+use steps::LogProb;
 
 // A read's likelihoods on the two haplotypes.
 pub struct ReadLikelihoods {
-    pub first: i64,
-    pub second: i64,
+    pub first: LogProb,
+    pub second: LogProb,
 }
 
 // one_minus_qual on a match and qual otherwise.
-fn call_term(allele: usize, own: u8, qual: i64, one_minus_qual: i64) -> i64
-    ensures { λ r. ⌜ r ≡ cond (eqb allele own) «one_minus_qual» qual ⌝ }
+fn call_term(allele: usize, own: u8, qual: LogProb, one_minus_qual: LogProb) -> LogProb
+    ensures { λ r. ⌜ r .0 ≡ cond (eqb allele own) («one_minus_qual» .0) (qual .0) ⌝ }
 {
     if allele == own as usize {
         one_minus_qual
@@ -28,17 +29,17 @@ fn call_term(allele: usize, own: u8, qual: i64, one_minus_qual: i64) -> i64
 }
 
 // x, where the flag is 1. The product keeps the compiler from making a jump of the test of the allele, which no machine can guess.
-fn weighed(flag: u8, x: i64) -> i64
-    requires { ⌜ natAbs x ≤ 262144 ⌝ }
-    ensures { λ r. ⌜ (flag ≡ 1 → r ≡ x) ⌝ }
+fn weighed(flag: u8, x: LogProb) -> LogProb
+    requires { ⌜ natAbs (x .0) ≤ 262144 ⌝ }
+    ensures { λ r. ⌜ (flag ≡ 1 → r .0 ≡ x .0) ⌝ }
 {
-    flag as i64 * x
+    LogProb(flag as i64 * x.0)
 }
 
 // What the call of row i adds to its read's likelihood on haplotype h: nothing at a variant whose flag is not 1.
-fn call_share(rows: &[u64], hap: &[u8], mask: &[u8], i: usize, h: usize) -> i64
+fn call_share(rows: &[u64], hap: &[u8], mask: &[u8], i: usize, h: usize) -> LogProb
     requires { ⌜ CallsIn (now rows) (i + 1) (now hap) (now mask) × (h < 2) ⌝ }
-    ensures { λ r. ⌜ (r ≡ callShare (flagged (now (mask .entry))) (alleleOn (now (hap .entry)) h) (callAt (now (rows .entry)) i)) × (natAbs r ≤ 262144) ⌝ }
+    ensures { λ r. ⌜ (r .0 ≡ callShare (flagged (now (mask .entry))) (alleleOn (now (hap .entry)) h) (callAt (now (rows .entry)) i)) × (natAbs (r .0) ≤ 262144) ⌝ }
 {
     let row = unpack(rows[i]);
     let v = row.variant;
@@ -46,7 +47,7 @@ fn call_share(rows: &[u64], hap: &[u8], mask: &[u8], i: usize, h: usize) -> i64
     let qual = weighed(flag, row.qual);
     let one_minus_qual = weighed(flag, row.one_minus_qual);
     let y = call_term(row.allele, hap[2 * v + h], qual, one_minus_qual);
-    if flag == 1 { y } else { 0 }
+    if flag == 1 { y } else { LogProb(0) }
 }
 
 // A read's likelihoods, from its rows, a to e. At the loop's head the first j of them are added.
@@ -61,13 +62,13 @@ pub fn read_likelihoods(
     ensures { λ r. ⌜ LikelihoodsAre (now (rows .entry)) a e (now (hap .entry)) (now (mask .entry)) r ⌝ }
 {
     let n = e - a;
-    let mut first: i64 = 0;
-    let mut second: i64 = 0;
+    let mut first = LogProb(0);
+    let mut second = LogProb(0);
     let mut j = 0;
     while j < n {
         let i = a + j;
-        first += call_share(rows, hap, mask, i, 0);
-        second += call_share(rows, hap, mask, i, 1);
+        first.0 += call_share(rows, hap, mask, i, 0).0;
+        second.0 += call_share(rows, hap, mask, i, 1).0;
         j += 1;
     }
     ReadLikelihoods { first, second }
@@ -91,8 +92,8 @@ pub fn write_likelihoods(
     while f < n {
         let e = ends[f];
         let r = read_likelihoods(rows, hap, mask, a, e);
-        let x = r.first;
-        let y = r.second;
+        let x = r.first.0;
+        let y = r.second.0;
         lik[2 * f] = x;
         lik[2 * f + 1] = y;
         a = e;

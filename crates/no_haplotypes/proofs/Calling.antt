@@ -13,7 +13,7 @@ use Rattle.steps.proofs.Signed.{by-test}
 use Rattle.variants_and_fragments.specs.declared.Sizes.{Sizes}
 use Rattle.variants_and_fragments.specs.Inner.Accepted.{CaseIn}
 use Rattle.variants_and_fragments.specs.Case.{Case, Variant, Call, alleleCount, variantOf, callCount}
-use Rattle.variants_and_fragments.specs.Check.{caseOf}
+use Rattle.variants_and_fragments.specs.Check.{checkCaseOutcome}
 use Rattle.variants_and_fragments.specs.Decode.{decode}
 use Rattle.variants_and_fragments.specs.Layout.{alleleCountAt}
 use Rattle.variants_and_fragments.specs.Pileup.{only, pileOf}
@@ -28,7 +28,7 @@ use Rattle.pileup.specs.Inner.Packed.{Grouped}
 use Rattle.pileup.proofs.Groups.{group-rows, group-in}
 use Rattle.genotype_probs.specs.declared.Rates.{Rates}
 use Rattle.genotype_probs.specs.Priors.{allPriors, priorAt}
-use Rattle.genotype_probs.specs.Rates.{ratesFault}
+use Rattle.genotype_probs.specs.Inner.Rates.{ratesFault}
 use Rattle.genotype_probs.proofs.PriorSizes.{prior-small}
 use Rattle.genotype_probs.proofs.TableSizes.{by-cond}
 use Rattle.genotype_probs.proofs.TableSums.{tabulate-cong}
@@ -48,7 +48,7 @@ same-calls : (w : List ℤ) (b other : List ℕ) (v : ℕ) → callsAt (decode w
 unfolding callsAt decode
 same-calls w b other v = refl
 
-pub few-calls : (w : List ℤ) (b : List ℕ) (s : Sizes) → caseOf w b ≡ done s → FewCalls w
+pub few-calls : (w : List ℤ) (b : List ℕ) (s : Sizes) → checkCaseOutcome w b ≡ done s → FewCalls w
 few-calls w b s h other v = omega (arith, same-calls w other b v, calls-of (decode w b) v, good-case w b s h .calls-top)
 
 -- ---- the pile of a variant

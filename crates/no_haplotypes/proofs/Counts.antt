@@ -1,28 +1,26 @@
 -- Section 4's sentence on the counts, of every accepted case: of the 13 words of each variant, and of what the operation writes.
 -- Assumes nothing.
 use mathlib.Core.Path.{_≡_, refl, sym, ap, _∙_}
-use mathlib.Core.Bool.{Bool, true, false}
 use mathlib.Core.List.{List}
 use Prim.Native.Nat.{ℕ, zero, suc, _+_, _*_, _/_, _%_, _≤_, _<_}
 use native.Mathlib.Omega.{arith}
-use borrow.Author.Tests.{leb-true}
-use lib.Ieee.{Float}
 use lib.IntN.{ℤ, pos, _+ℤ_}
 use lib.ListN.{length, getD}
 use Rattle.variants_and_fragments.specs.declared.Sizes.{Sizes}
 use Rattle.variants_and_fragments.specs.Case.{Case}
 use Rattle.variants_and_fragments.specs.Inner.Case.{GoodCase}
-use Rattle.variants_and_fragments.specs.Check.{caseOf}
+use Rattle.variants_and_fragments.specs.Check.{checkCaseOutcome}
 use Rattle.variants_and_fragments.specs.Decode.{decode}
-use Rattle.variants_and_fragments.specs.Refusals.{Outcome, refused, done, andThen, unless, afterwards}
+use Rattle.variants_and_fragments.specs.Refusals.{done, afterwards}
 use Rattle.variants_and_fragments.specs.Written.{written}
 use Rattle.variants_and_fragments.proofs.Accepted.{case-in}
 use Rattle.variants_and_fragments.proofs.Decoded.{variants-are}
 use Rattle.variants_and_fragments.proofs.GoodCases.{good-case}
+use Rattle.variants_and_fragments.proofs.Outcomes.{then-past, each-past, enough-past}
+use Rattle.variants_and_fragments.proofs.Short.{short-fits}
 use Rattle.variants_and_fragments.proofs.Written.{written-at}
 use Rattle.genotype_probs.specs.declared.Rates.{Rates}
-use Rattle.no_haplotypes.specs.declared.Called.the-variants.{Done}
-use Rattle.no_haplotypes.specs.NoHaplotypes.{alleleCalls, strandCalls, callsAt, answerFrom, countWord, forwardWord, reverseWord, ambiguousWord, CountsAddUp, variantAnswer, answerAt, calledOf, outcomeOf, CalledNoHaplotypes}
+use Rattle.no_haplotypes.specs.NoHaplotypes.{alleleCalls, strandCalls, callsAt, answerFrom, countWord, forwardWord, reverseWord, ambiguousWord, CountsAddUp, variantAnswer, answerAt, CallSlices, noHaplotypesOutcome, noHaplotypesWritten, CalledNoHaplotypes}
 use Rattle.no_haplotypes.proofs.CountLaws.{forward-reverse, two-strands, counts-ambiguous, absent-none}
 
 -- ---- the words of a variant, whatever its posteriors
@@ -71,44 +69,36 @@ same-words f g e c = record {
 }
 
 -- ---- of every accepted case, at any rates
-pub answers-add-up : (w : List ℤ) (b : List ℕ) (s : Sizes) → caseOf w b ≡ done s → (rates : Rates) (v : ℕ) → CountsAddUp (decode w b) v (variantAnswer rates (decode w b) v)
+pub answers-add-up : (w : List ℤ) (b : List ℕ) (s : Sizes) → checkCaseOutcome w b ≡ done s → (rates : Rates) (v : ℕ) → CountsAddUp (decode w b) v (variantAnswer rates (decode w b) v)
 unfolding variantAnswer
 answers-add-up w b s h rates v = words-add-up _ _ (decode w b) v (good-case w b s h)
 
 -- ---- of what the operation writes where it is done
-unless-done : {X : Type 0} (t : Bool) (n p : ℕ) (rest : Outcome X) (x : X) → unless t n p rest ≡ done x → (t ≡ true) × (rest ≡ done x)
-unfolding unless
-unless-done true n p rest x e = (refl, e)
-unless-done false n p rest x e = let z : _≡_ {A = ℕ} 0 1 = cc in absurd (omega arith)
-
-then-done : {X Y P : Type 0} (o : Outcome X) (next : X → Outcome Y) (y : Y) → andThen o next ≡ done y → ((x : X) → o ≡ done x → next x ≡ done y → P) → P
-unfolding andThen
-then-done (refused n p) next y e k = let z : _≡_ {A = ℕ} 0 1 = cc in absurd (omega arith)
-then-done (done x) next y e k = k x refl e
-
 -- the case is accepted, and there is room for the answers
-called-room : {P : Type 0} (w : List ℤ) (b : List ℕ) (rates : Rates) (variants quals gqs : ℕ) → calledOf w b rates variants quals gqs ≡ done tt → ((s : Sizes) → caseOf w b ≡ done s → 13 * s .n ≤ variants → P) → P
-unfolding calledOf
-called-room w b rates variants quals gqs e k =
-    then-done (caseOf w b) _ tt e
-    (λ s c d.
-    let x = unless-done _ 6 _ _ tt d in
-    let y = unless-done _ 10 _ _ tt (x .1) in
-    let z = unless-done _ 10 _ _ tt (y .1) in
-    k s c (leb-true (13 * s .n) variants (z .0)))
+record Room (w : List ℤ) (b : List ℕ) (variants : List ℤ) : Type 0 where
+  sizes : Sizes
+  accepted : checkCaseOutcome w b ≡ done sizes
+  long : 13 * sizes .n ≤ length variants
 
-module _ {w : List ℤ} {b : List ℕ} {rates : Rates} {variants variants' : List ℤ} {quals gqs quals' gqs' : List Float} (called : CalledNoHaplotypes w b rates variants quals gqs Done variants' quals' gqs') where
-  written-word : (s : Sizes) → caseOf w b ≡ done s → 13 * s .n ≤ length variants → (v : ℕ) → v < length (decode w b .variants) → (p : ℕ) → p < 13 → getD variants' (13 * v + p) (pos 0) ≡ variantAnswer rates (decode w b) v p
-  unfolding outcomeOf afterwards answerAt
-  written-word s c room v h p l =
-      let n = variants-are (case-in w b s c) b in
-      let e : variants' ≡ written (answerAt rates (decode w b)) (13 * length (decode w b .variants)) variants = called .variants-after in
+called-room : (w : List ℤ) (b : List ℕ) (rates : Rates) (before : CallSlices) → noHaplotypesOutcome w b rates before ≡ done tt → Room w b (before .variants)
+unfolding noHaplotypesOutcome
+called-room w b rates before e =
+    let c = then-past (checkCaseOutcome w b) _ tt e in
+    let x = each-past 6 _ 0 7 _ tt (c .1 .1) in
+    let y = enough-past _ _ tt (x .1) in
+    record { sizes = c .0; accepted = c .1 .0; long = short-fits _ _ _ (y .0) .0 }
+
+module _ (w : List ℤ) (b : List ℕ) (rates : Rates) (before after : CallSlices) (called : CalledNoHaplotypes w b rates before (done tt) after) where
+  written-word : Room w b (before .variants) → (v : ℕ) → v < length (decode w b .variants) → (p : ℕ) → p < 13 → getD (after .variants) (13 * v + p) (pos 0) ≡ variantAnswer rates (decode w b) v p
+  unfolding afterwards noHaplotypesWritten answerAt
+  written-word room v h p l =
+      let n = variants-are (case-in w b (room .sizes) (room .accepted)) b in
+      let e : after .variants ≡ written (answerAt rates (decode w b)) (13 * length (decode w b .variants)) (before .variants) = ap (λ (x : CallSlices). x .variants) (called .slices) in
       let q : (13 * v + p) / 13 ≡ v = omega arith in
       let r : (13 * v + p) % 13 ≡ p = omega arith in
-      rw e (written-at (answerAt rates (decode w b)) (13 * length (decode w b .variants)) variants (pos 0) (omega arith) (13 * v + p) (omega arith) ∙ rw (q, r))
+      rw e (written-at (answerAt rates (decode w b)) (13 * length (decode w b .variants)) (before .variants) (pos 0) (omega (arith, room .long)) (13 * v + p) (omega arith) ∙ rw (q, r))
 
-  pub written-add-up : (v : ℕ) → v < length (decode w b .variants) → CountsAddUp (decode w b) v (λ p. getD variants' (13 * v + p) (pos 0))
-  unfolding outcomeOf
+  pub written-add-up : (v : ℕ) → v < length (decode w b .variants) → CountsAddUp (decode w b) v (λ p. getD (after .variants) (13 * v + p) (pos 0))
   written-add-up v h =
-      called-room w b rates (length variants) (length quals) (length gqs) (sym (called .answer))
-      (λ s c room. same-words (variantAnswer rates (decode w b) v) (λ p. getD variants' (13 * v + p) (pos 0)) (written-word s c room v h) (answers-add-up w b s c rates v))
+      let room = called-room w b rates before (sym (called .answers)) in
+      same-words (variantAnswer rates (decode w b) v) (λ p. getD (after .variants) (13 * v + p) (pos 0)) (written-word room v h) (answers-add-up w b (room .sizes) (room .accepted) rates v)

@@ -14,7 +14,8 @@ use Rattle.variants_and_fragments.specs.Pileup.{Row}
 use Rattle.variants_and_fragments.specs.Sums.{sumOver}
 use Rattle.variants_and_fragments.proofs.Sums.{sumOver-cong}
 use Rattle.genotype_probs.proofs.ListLaws.{sum-plus}
-use Rattle.no_haplotypes.specs.NoHaplotypes.{mixed, callScore}
+use Rattle.no_haplotypes.specs.NoHaplotypes.{callScore}
+use Rattle.steps.specs.Logs.{mixOf}
 use Rattle.no_haplotypes.specs.Inner.Tally.{rowQual, bothGain, oneGain, gainAt, Tallied, pairGain}
 
 -- ---- sums
@@ -33,9 +34,9 @@ module _ (row : Row) where
   one-match : (i j : ℕ) → (i ≡ j → ⊥) → callScore i j (row .call) ≡ rowQual row +ℤ gainAt oneGain i row +ℤ gainAt oneGain j row
   unfolding callScore gainAt
   one-match i j n = elim (ℕ-discrete (row .call .allele) i) [
-    | yes e ↦ rw (eq-eqb (row .call .allele) i e, ne-eqb (row .call .allele) j (λ f. n (omega arith))) (sym (+ℤ-idr (row .call .qual +ℤ oneGain (row .call)) ∙ plus-minus (row .call .qual) (mixed (row .call .qual) (row .call .one-minus-qual))))
+    | yes e ↦ rw (eq-eqb (row .call .allele) i e, ne-eqb (row .call .allele) j (λ f. n (omega arith))) (sym (+ℤ-idr (row .call .qual +ℤ oneGain (row .call)) ∙ plus-minus (row .call .qual) (mixOf (row .call .qual) (row .call .one-minus-qual))))
     | no e ↦ elim (ℕ-discrete (row .call .allele) j) [
-      | yes f ↦ rw (ne-eqb (row .call .allele) i e, eq-eqb (row .call .allele) j f) (sym (ap (λ (z : ℤ). z +ℤ oneGain (row .call)) (+ℤ-idr (row .call .qual)) ∙ plus-minus (row .call .qual) (mixed (row .call .qual) (row .call .one-minus-qual))))
+      | yes f ↦ rw (ne-eqb (row .call .allele) i e, eq-eqb (row .call .allele) j f) (sym (ap (λ (z : ℤ). z +ℤ oneGain (row .call)) (+ℤ-idr (row .call .qual)) ∙ plus-minus (row .call .qual) (mixOf (row .call .qual) (row .call .one-minus-qual))))
       | no f ↦ rw (ne-eqb (row .call .allele) i e, ne-eqb (row .call .allele) j f) (sym (+ℤ-idr (row .call .qual +ℤ pos 0) ∙ +ℤ-idr (row .call .qual)))
     ]
   ]

@@ -28,7 +28,7 @@ use Rattle.genotype_probs.specs.Priors.{lnHalf}
 use Rattle.genotype_probs.proofs.ListLaws.{sum-last, table-last}
 use Rattle.genotype_probs.proofs.TableSizes.{by-cond}
 use Rattle.no_haplotypes.specs.declared.tally.Pile.{Pile}
-use Rattle.no_haplotypes.specs.NoHaplotypes.{mixed}
+use Rattle.steps.specs.Logs.{mixOf}
 use Rattle.no_haplotypes.specs.Inner.Tally.{pileRows, PileIn, rowQual, bothGain, oneGain, gainAt, shownOn, countPlace, CountsIn, added, CallAdded, Untouched, Tallied, SumsIn}
 use Rattle.no_haplotypes.proofs.CountLaws.{only-count}
 
@@ -129,8 +129,8 @@ module _ {w : List ℤ} {s : Sizes} {rows : List Row} {total : ℤ} {gains : Lis
       })
 
 -- ---- how small it is
-mixed-small : (q o : ℤ) → natAbs q ≤ 262144 → natAbs o ≤ 262144 → natAbs (mixed q o) ≤ 270336
-unfolding mixed
+mixed-small : (q o : ℤ) → natAbs q ≤ 262144 → natAbs o ≤ 262144 → natAbs (mixOf q o) ≤ 270336
+unfolding mixOf
 mixed-small q o h k =
     add-size (q +ℤ lnHalf) (o +ℤ lnHalf) 266240 (omega (arith, add-abs q lnHalf)) (omega (arith, add-abs o lnHalf))
 
@@ -145,7 +145,7 @@ module _ {n f : ℕ} {row : Row} (i : RowIn n f row) where
   both-small = omega (arith, minus-abs (row .call .one-minus-qual) (row .call .qual), qual-small, other-small)
 
   pub one-small : natAbs (oneGain (row .call)) ≤ 1048576
-  one-small = omega (arith, minus-abs (mixed (row .call .qual) (row .call .one-minus-qual)) (row .call .qual), qual-small, mixed-small (row .call .qual) (row .call .one-minus-qual) qual-small other-small)
+  one-small = omega (arith, minus-abs (mixOf (row .call .qual) (row .call .one-minus-qual)) (row .call .qual), qual-small, mixed-small (row .call .qual) (row .call .one-minus-qual) qual-small other-small)
 
 sum-small : (words : List ℕ) (g : Row → ℤ) (a n : ℕ) → ((p : ℕ) → a ≤ p → p < a + n → natAbs (g (rowAt words p)) ≤ 1048576) → natAbs (sumOver (tabulateFrom (rowAt words) a n) g) ≤ 1048576 * n
 unfolding sumOver tabulateFrom

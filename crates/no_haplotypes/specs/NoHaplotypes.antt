@@ -4,41 +4,35 @@ use mathlib.Core.Path.{_≡_}
 use mathlib.Core.Bool.{false, cond, _&&_, _||_}
 use mathlib.Core.List.{List, [], _∷_}
 use Prim.Native.Nat.{ℕ, _+_, _*_, _/_, _%_, _≤_, _<_}
-use lib.Dec.{eqb, leb, ltb}
+use lib.Dec.{eqb, ltb}
 use lib.IntN.{ℤ, pos, _+ℤ_}
 use lib.Ieee.{Float}
 use lib.ListN.{length, getD}
-use Rattle.steps.specs.Logs.{steps, addExp}
+use Rattle.steps.specs.Logs.{steps, mixOf}
 use Rattle.steps.specs.OneMinus.{lnOneMinusExp}
 use Rattle.steps.specs.Phred.{phredOf, capped}
 use Rattle.variants_and_fragments.specs.Sums.{sumOver, countOver}
 use Rattle.variants_and_fragments.specs.Case.{Case, Call, alleleCount, variantOf, fragmentOf}
-use Rattle.variants_and_fragments.specs.Refusals.{number, place, Outcome, refused, done, andThen, unless, stop, afterwards}
-use Rattle.variants_and_fragments.specs.Check.{caseOf}
+use Rattle.variants_and_fragments.specs.Refusals.{Outcome, done, andThen, each, longEnough, Promise}
+use Rattle.variants_and_fragments.specs.Check.{checkCaseOutcome}
 use Rattle.variants_and_fragments.specs.Decode.{tabulate, decode}
 use Rattle.variants_and_fragments.specs.Pileup.{Row, only, pileOf, ambiguousCount}
 use Rattle.variants_and_fragments.specs.Written.{written}
 use Rattle.genotype_probs.specs.declared.Rates.{Rates}
 use Rattle.genotype_probs.specs.declared.posteriors.GenotypePost.{GenotypePost}
-use Rattle.genotype_probs.specs.Rates.{ratesFault}
-use Rattle.genotype_probs.specs.Priors.{lnHalf, getPrior}
+use Rattle.genotype_probs.specs.Rates.{rateTest}
+use Rattle.genotype_probs.specs.Priors.{getPrior}
 use Rattle.genotype_probs.specs.Posteriors.{normalized, maxGenotypePost}
-use Rattle.genotype_probs.specs.Normalized.{firstNotNormal}
-use Rattle.no_haplotypes.specs.declared.Called.{Called}
-use Rattle.no_haplotypes.specs.declared.Called.the-variants.{Done, Refused}
+use Rattle.genotype_probs.specs.Normalized.{isNormal}
 
 -- ---- scores and posteriors
-
--- `ln_add_exp` of both less 4,096 each
-unfoldable pub mixed : ℤ → ℤ → ℤ
-mixed qual one-minus-qual = addExp (qual +ℤ lnHalf) (one-minus-qual +ℤ lnHalf)
 
 -- per pair (i, j) and usable call: both equal the call, one_minus_qual; neither, qual; one, the two mixed
 unfoldable pub callScore : ℕ → ℕ → Call → ℤ
 callScore i j call =
     cond (eqb (call .allele) i && eqb (call .allele) j)
     (call .one-minus-qual)
-    (cond (eqb (call .allele) i || eqb (call .allele) j) (mixed (call .qual) (call .one-minus-qual)) (call .qual))
+    (cond (eqb (call .allele) i || eqb (call .allele) j) (mixOf (call .qual) (call .one-minus-qual)) (call .qual))
 
 module _ (rates : Rates) (case : Case) (v : ℕ) where
   -- the score of a pair: its prior plus these over the usable calls at v
@@ -136,25 +130,30 @@ module _ (rates : Rates) (case : Case) where
 
 -- ---- the operation
 
--- Numbers 1 to 5 of the case; 6 of the rates; 10 at the smallest need that a slice is short of, N for the qualities and 13 N for the
--- answers; 12
-unfoldable pub calledOf : List ℤ → List ℕ → Rates → ℕ → ℕ → ℕ → Outcome Unit
-calledOf w b rates variants quals gqs =
-    andThen (caseOf w b)
-    (λ s. unless (eqb (ratesFault rates) 7) 6 (ratesFault rates)
-    (unless (leb (s .n) quals && leb (s .n) gqs) 10 (s .n)
-    (unless (leb (13 * (s .n)) variants) 10 (13 * (s .n))
-    (stop 12 (firstNotNormal (posteriors rates (decode w b)) (λ v. alleleCount (variantOf (decode w b) v)) (s .n)) (s .n)
-    (done tt)))))
+-- the lent slices
+pub record CallSlices : Type 0 where
+  pub variants : List ℤ
+  pub quals : List Float
+  pub gqs : List Float
 
--- the answer of the operation in 01's terms
-unfoldable pub outcomeOf : Called → Outcome Unit
-outcomeOf Done = done tt
-outcomeOf (Refused x) = refused (number x) (place x)
+abbrev pub callSlices : List ℤ → List Float → List Float → CallSlices
+callSlices variants quals gqs = record { variants = variants; quals = quals; gqs = gqs }
 
--- what the operation promises
-pub record CalledNoHaplotypes (w : List ℤ) (b : List ℕ) (rates : Rates) (variants : List ℤ) (quals gqs : List Float) (r : Called) (variants' : List ℤ) (quals' gqs' : List Float) : Type 0 where
-  pub answer : outcomeOf r ≡ calledOf w b rates (length variants) (length quals) (length gqs)
-  pub variants-after : variants' ≡ afterwards (outcomeOf r) (written (answerAt rates (decode w b)) (13 * length (decode w b .variants)) variants) variants
-  pub quals-after : quals' ≡ afterwards (outcomeOf r) (written (qualAt rates (decode w b)) (length (decode w b .variants)) quals) quals
-  pub gqs-after : gqs' ≡ afterwards (outcomeOf r) (written (gqAt rates (decode w b)) (length (decode w b .variants)) gqs) gqs
+-- 1 to 5, the case; 6, the rates; 10, 13 N words and N of each quality; 12, the posteriors
+unfoldable pub noHaplotypesOutcome : List ℤ → List ℕ → Rates → CallSlices → Outcome Unit
+noHaplotypesOutcome w b rates before =
+    andThen (checkCaseOutcome w b) (λ s.
+    each 6 (rateTest rates) 0 7
+    (longEnough ((13 * (s .n), length (before .variants)) ∷ (s .n, length (before .quals)) ∷ (s .n, length (before .gqs)) ∷ [])
+    (each 12 (isNormal (posteriors rates (decode w b)) (λ v. alleleCount (variantOf (decode w b) v))) 0 (s .n)
+    (done tt))))
+
+unfoldable pub noHaplotypesWritten : Rates → Case → CallSlices → CallSlices
+noHaplotypesWritten rates case before =
+    let n = length (case .variants) in
+    callSlices (written (answerAt rates case) (13 * n) (before .variants)) (written (qualAt rates case) n (before .quals)) (written (gqAt rates case) n (before .gqs))
+
+-- the promise, of the slices lent
+abbrev pub CalledNoHaplotypes : List ℤ → List ℕ → Rates → CallSlices → Outcome Unit → CallSlices → Type 0
+CalledNoHaplotypes w b rates before answer after =
+    Promise (noHaplotypesOutcome w b rates before) (noHaplotypesWritten rates (decode w b) before) before answer after

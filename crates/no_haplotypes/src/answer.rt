@@ -16,7 +16,7 @@ ghost use Rattle.no_haplotypes.specs.NoHaplotypes.{qualFrom};
 ghost use Rattle.no_haplotypes.specs.Inner.Calling.{answerValues, WordsIn, larger};
 use genotype_probs::posteriors::Genotype;
 use steps::LogProb;
-use steps::logs;
+use steps::PHREDProb;
 use steps::phred::capped_phred;
 use variants_and_fragments::Sizes;
 use variants_and_fragments::layout;
@@ -84,17 +84,17 @@ pub fn depth_after(words: &[i32], s: Sizes, calls: usize, v: usize) -> usize
 }
 
 // The quality of a variant, from its posteriors.
-pub fn qual_of(post: &[i64], at: usize) -> f64
+pub fn qual_of(post: &[i64], at: usize) -> PHREDProb
     requires { ⌜ (at < length (now post)) × (natAbs (getD (now post) at (pos 0)) ≤ 2 ^ 40) ⌝ }
-    ensures { λ r. ⌜ r ≡ qualFrom (drop at (now (post .entry))) ⌝ }
+    ensures { λ r. ⌜ r .0 ≡ qualFrom (drop at (now (post .entry))) ⌝ }
 {
-    capped_phred(LogProb(post[at])).0
+    capped_phred(LogProb(post[at]))
 }
 
 // The quality of a genotype with this log probability.
-pub fn gq_of(t: &[u16; 1665], p: i64) -> f64
-    requires { ⌜ (now t ≡ knots) × (natAbs p ≤ 2 ^ 41) × (leZ p (pos 0) ≡ true) ⌝ }
-    ensures { λ r. ⌜ r ≡ capped (phredOf (lnOneMinusExp (steps p))) ⌝ }
+pub fn gq_of(t: &[u16; 1665], p: LogProb) -> PHREDProb
+    requires { ⌜ (now t ≡ knots) × (natAbs (p .0) ≤ 2 ^ 41) × (leZ (p .0) (pos 0) ≡ true) ⌝ }
+    ensures { λ r. ⌜ r .0 ≡ capped (phredOf (lnOneMinusExp (steps (p .0)))) ⌝ }
 {
-    capped_phred(LogProb(logs::ln_one_minus_exp(t, p))).0
+    capped_phred(p.ln_one_minus_exp(t))
 }

@@ -3,9 +3,10 @@ ghost use mathlib.Core.Path.{_≡_};
 ghost use Prim.Native.Nat.{_+_, _*_, _<_, _≤_};
 ghost use lib.ListN.{length};
 ghost use Rattle.steps.specs.Table.{knots};
+ghost use Rattle.variants_and_fragments.specs.Refusals.{outcomeOf};
 ghost use Rattle.variants_and_fragments.specs.Inner.Accepted.{CaseIn, BasesIn};
-ghost use Rattle.genotype_probs.specs.Rates.{ratesFault};
-ghost use Rattle.no_haplotypes.specs.NoHaplotypes.{CalledNoHaplotypes};
+ghost use Rattle.genotype_probs.specs.Inner.Rates.{ratesFault};
+ghost use Rattle.no_haplotypes.specs.NoHaplotypes.{callSlices, CalledNoHaplotypes};
 ghost use Rattle.no_haplotypes.specs.Inner.Tally.{PriorsAt};
 ghost use Rattle.no_haplotypes.specs.Inner.Calling.{pileAt, FewCalls, Piled, PileHeld, PriorsIn, VariantCalled, VariantsCalled, AcceptedCalled};
 use crate::answer::depth_after;
@@ -24,21 +25,18 @@ use pileup::scratch::call_words;
 use pileup::scratch::fragment_ends;
 use pileup::scratch::nine_each;
 use pileup::scratch::variant_ends;
+use variants_and_fragments::Answered;
 use variants_and_fragments::Checked;
 use variants_and_fragments::Refusal;
 use variants_and_fragments::Sizes;
 use variants_and_fragments::check_case;
+use variants_and_fragments::earlier;
 use variants_and_fragments::layout;
+use variants_and_fragments::short_of;
 
 mod answer;
 mod scores;
 mod tally;
-
-// The answer of the operation.
-pub enum Called {
-    Done,
-    Refused(Refusal),
-}
 
 // The pile of v.
 fn pile_of(ambiguous: &[usize], ends: &[usize], v: usize) -> Pile
@@ -74,8 +72,8 @@ fn call_variant(
     let at = 9 * v;
     let k = layout::allele_count(words, s, v);
     let r = max_genotype_post(t, post, at, k, false);
-    quals[v] = qual_of(post, at);
-    gqs[v] = gq_of(t, r.post.0);
+    quals[v] = qual_of(post, at).0;
+    gqs[v] = gq_of(t, r.post).0;
     let depth = depth_after(words, s, pile.end - pile.start + pile.ambiguous, v);
     write_answer(r.genotype, &counts, pile.ambiguous, depth, variants, v);
 }
@@ -160,30 +158,26 @@ pub fn call_genotypes_no_haplotypes(
     variants: &mut [i32],
     quals: &mut [f64],
     gqs: &mut [f64],
-) -> Called
-    ensures { λ r. ⌜ CalledNoHaplotypes (now (words .entry)) (now (bases .entry)) rates (now (variants .entry)) (now (quals .entry)) (now (gqs .entry)) r (now (variants .exit)) (now (quals .exit)) (now (gqs .exit)) ⌝ }
+) -> Answered
+    ensures { λ r. ⌜ CalledNoHaplotypes (now (words .entry)) (now (bases .entry)) rates (callSlices (now (variants .entry)) (now (quals .entry)) (now (gqs .entry))) (outcomeOf r) (callSlices (now (variants .exit)) (now (quals .exit)) (now (gqs .exit))) ⌝ }
 {
     let checked = check_case(words, bases);
     match checked {
-        Checked::Refused(x) => Called::Refused(x),
+        Checked::Refused(x) => Answered::Refused(x),
         Checked::Accepted(s) => {
             let t = steps::table();
             let p = rates_fault(&t, rates);
             if p < 7 {
-                return Called::Refused(Refusal::Rates(p));
+                return Answered::Refused(Refusal::Rates(p));
             }
             let n = s.n;
-            if quals.len() < n {
-                return Called::Refused(Refusal::Short(n));
-            }
-            if gqs.len() < n {
-                return Called::Refused(Refusal::Short(n));
-            }
-            if variants.len() < 13 * n {
-                return Called::Refused(Refusal::Short(13 * n));
+            let short_quals = earlier(short_of(n, quals.len()), short_of(n, gqs.len()));
+            let short = earlier(short_of(13 * n, variants.len()), short_quals);
+            if short != 0 {
+                return Answered::Refused(Refusal::Short(short));
             }
             call_accepted(&t, words, s, bases, rates, variants, quals, gqs);
-            Called::Done
+            Answered::Done
         }
     }
 }

@@ -7,45 +7,46 @@ ghost use lib.IntN.{pos, natAbs, _+ℤ_};
 ghost use lib.ListN.{drop, replicate};
 ghost use Rattle.steps.specs.Table.{knots};
 ghost use Rattle.variants_and_fragments.specs.Inner.Accepted.{CaseIn};
-ghost use Rattle.variants_and_fragments.specs.Layout.{alleleCountAt};
 ghost use Rattle.variants_and_fragments.specs.Inner.Written.{writtenFrom};
 ghost use Rattle.no_haplotypes.specs.Inner.Tally.{pileRows, PileIn, SumsIn, pairGain, gained, PriorsAt, PosteriorsMade};
 use crate::tally::Pile;
 use crate::tally::tally;
 use genotype_probs::posteriors::normalize;
+use steps::LogProb;
 use variants_and_fragments::Sizes;
 use variants_and_fragments::layout;
 
 // What the calls add to the prior of the pair (i, j).
-fn pair_gain(total: i64, gains: &[i64; 6], i: usize, j: usize) -> i64
-    requires { ⌜ SumsIn total (now gains) × (i < 3) × (j < 3) ⌝ }
-    ensures { λ r. ⌜ (r ≡ pairGain total (now (gains .entry)) i j) × (natAbs r ≤ 2 ^ 36) ⌝ }
+fn pair_gain(total: LogProb, gains: &[i64; 6], i: usize, j: usize) -> LogProb
+    requires { ⌜ SumsIn (total .0) (now gains) × (i < 3) × (j < 3) ⌝ }
+    ensures { λ r. ⌜ (r .0 ≡ pairGain (total .0) (now (gains .entry)) i j) × (natAbs (r .0) ≤ 2 ^ 36) ⌝ }
 {
     if i == j {
-        return total + gains[i];
+        return LogProb(total.0 + gains[i]);
     }
-    total + gains[3 + i] + gains[3 + j]
+    LogProb(total.0 + gains[3 + i] + gains[3 + j])
 }
 
 // Place p of the scores of a variant with k alleles, over the prior there.
-fn score_at(prior: i64, k: usize, total: i64, gains: &[i64; 6], p: usize) -> i64
-    requires { ⌜ SumsIn total (now gains) × (1 ≤ k) × (k ≤ 3) × (natAbs prior ≤ 2 ^ 34) ⌝ }
-    ensures { λ r. ⌜ r ≡ cond (ltb p (k * k)) (prior +ℤ pairGain total (now (gains .entry)) (p / k) (p % k)) (pos 0) ⌝ }
+fn score_at(prior: LogProb, k: usize, total: LogProb, gains: &[i64; 6], p: usize) -> LogProb
+    requires { ⌜ SumsIn (total .0) (now gains) × (1 ≤ k) × (k ≤ 3) × (natAbs (prior .0) ≤ 2 ^ 34) ⌝ }
+    ensures { λ r. ⌜ r .0 ≡ cond (ltb p (k * k)) (prior .0 +ℤ pairGain (total .0) (now (gains .entry)) (p / k) (p % k)) (pos 0) ⌝ }
 {
     if p < k * k {
-        return prior + pair_gain(total, gains, p / k, p % k);
+        return LogProb(prior.0 + pair_gain(total, gains, p / k, p % k).0);
     }
-    0
+    LogProb(0)
 }
 
 // Writes the scores of a variant over its priors, in nine places from `at` on. At the loop's head the first p are written.
-fn write_scores(post: &mut [i64], at: usize, k: usize, total: i64, gains: &[i64; 6])
-    requires { ⌜ SumsIn total (now gains) × (1 ≤ k) × (k ≤ 3) × PriorsAt (now post) at ⌝ }
-    ensures { λ _. ⌜ now (post .exit) ≡ writtenFrom (gained (drop at (now (post .entry))) k total (now (gains .entry))) at 9 (now (post .entry)) ⌝ }
+fn write_scores(post: &mut [i64], at: usize, k: usize, total: LogProb, gains: &[i64; 6])
+    requires { ⌜ SumsIn (total .0) (now gains) × (1 ≤ k) × (k ≤ 3) × PriorsAt (now post) at ⌝ }
+    ensures { λ _. ⌜ now (post .exit) ≡ writtenFrom (gained (drop at (now (post .entry))) k (total .0) (now (gains .entry))) at 9 (now (post .entry)) ⌝ }
 {
     let mut p = 0;
     while p < 9 {
-        post[at + p] = score_at(post[at + p], k, total, gains, p);
+        let x = score_at(LogProb(post[at + p]), k, total, gains, p).0;
+        post[at + p] = x;
         p += 1;
     }
 }

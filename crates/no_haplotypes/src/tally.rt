@@ -6,11 +6,11 @@ ghost use lib.ListN.{length, getD, set};
 ghost use Rattle.steps.specs.Table.{knots};
 ghost use Rattle.variants_and_fragments.specs.Inner.Accepted.{CaseIn};
 ghost use Rattle.pileup.specs.Inner.Packed.{rowAt, RowIn};
-ghost use Rattle.no_haplotypes.specs.NoHaplotypes.{mixed};
+ghost use Rattle.steps.specs.Logs.{mixOf};
 ghost use Rattle.no_haplotypes.specs.Inner.Tally.{added, pileRows, PileIn, GainsIn, CountsIn, CallAdded, Untouched, Tallied};
 use genotype_probs::table::ln_half;
 use pileup::row::unpack;
-use steps::logs;
+use steps::LogProb;
 use variants_and_fragments::Sizes;
 use variants_and_fragments::layout;
 
@@ -22,11 +22,13 @@ pub struct Pile {
 }
 
 // ln_add_exp of both less 4,096 each.
-fn mix(t: &[u16; 1665], qual: i64, one_minus_qual: i64) -> i64
-    requires { ⌜ (now t ≡ knots) × (natAbs qual ≤ 262144) × (natAbs «one_minus_qual» ≤ 262144) ⌝ }
-    ensures { λ r. ⌜ (r ≡ mixed qual «one_minus_qual») × (natAbs r ≤ 270336) ⌝ }
+fn mix(t: &[u16; 1665], qual: LogProb, one_minus_qual: LogProb) -> LogProb
+    requires { ⌜ (now t ≡ knots) × (natAbs (qual .0) ≤ 262144) × (natAbs («one_minus_qual» .0) ≤ 262144) ⌝ }
+    ensures { λ r. ⌜ (r .0 ≡ mixOf (qual .0) («one_minus_qual» .0)) × (natAbs (r .0) ≤ 270336) ⌝ }
 {
-    logs::add_exp(t, qual + ln_half(), one_minus_qual + ln_half())
+    let q = LogProb(qual.0 + ln_half().0);
+    let o = LogProb(one_minus_qual.0 + ln_half().0);
+    q.ln_add_exp(t, o)
 }
 
 // Adds a gain to place x.
@@ -54,21 +56,21 @@ fn add_call(
     gains: &mut [i64; 6],
     counts: &mut [usize; 6],
     c: usize,
-) -> i64
+) -> LogProb
     requires { ⌜ (now t ≡ knots) × CaseIn (now words) s × (c < length (now piles)) × RowIn (s .n) (s .f) (rowAt (now piles) c) ⌝ }
     requires { ⌜ GainsIn (now gains) × CountsIn (now counts) ⌝ }
-    ensures { λ r. ⌜ CallAdded (now (words .entry)) s (rowAt (now (piles .entry)) c) (now (gains .entry)) (now (counts .entry)) r (now (gains .exit)) (now (counts .exit)) ⌝ }
+    ensures { λ r. ⌜ CallAdded (now (words .entry)) s (rowAt (now (piles .entry)) c) (now (gains .entry)) (now (counts .entry)) (r .0) (now (gains .exit)) (now (counts .exit)) ⌝ }
 {
     let row = unpack(piles[c]);
     let x = row.allele;
-    let q = row.qual;
-    let o = row.one_minus_qual;
-    let m = mix(t, q, o);
+    let q = row.qual.0;
+    let o = row.one_minus_qual.0;
+    let m = mix(t, row.qual, row.one_minus_qual).0;
     let strand = layout::strand_of(words, s, row.fragment);
     add_gain(gains, x, o - q);
     add_gain(gains, 3 + x, m - q);
     count_one(counts, 3 * strand + x);
-    q
+    row.qual
 }
 
 // Adds up a pile; answers the sum of qual. At the loop's head the calls before c are added.
@@ -80,16 +82,17 @@ pub fn tally(
     pile: Pile,
     gains: &mut [i64; 6],
     counts: &mut [usize; 6],
-) -> i64
+) -> LogProb
     requires { ⌜ (now t ≡ knots) × CaseIn (now words) s × PileIn s (now piles) pile ⌝ }
     requires { ⌜ Untouched (now gains) (now counts) ⌝ }
-    ensures { λ r. ⌜ Tallied (now (words .entry)) s (pileRows (now (piles .entry)) pile) r (now (gains .exit)) (now (counts .exit)) ⌝ }
+    ensures { λ r. ⌜ Tallied (now (words .entry)) s (pileRows (now (piles .entry)) pile) (r .0) (now (gains .exit)) (now (counts .exit)) ⌝ }
 {
     let e = pile.end;
-    let mut total: i64 = 0;
+    let mut total = LogProb::ln_one();
     let mut c = pile.start;
     while c < e {
-        total += add_call(t, words, s, piles, gains, counts, c);
+        let q = add_call(t, words, s, piles, gains, counts, c);
+        total = LogProb(total.0 + q.0);
         c += 1;
     }
     total

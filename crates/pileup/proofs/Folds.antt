@@ -14,7 +14,8 @@ use Rattle.variants_and_fragments.specs.Inner.Accepted.{allb, CallIn, FragmentI
 use Rattle.variants_and_fragments.proofs.Bools.{both}
 use Rattle.variants_and_fragments.proofs.Records.{call-facts}
 use Rattle.variants_and_fragments.specs.Inner.Fold.{fold}
-use Rattle.variants_and_fragments.proofs.Walks.{chain-end, chain-none, chain-step, link-top}
+use Rattle.variants_and_fragments.proofs.Walks.{chain-end, chain-none, chain-step}
+use Rattle.variants_and_fragments.proofs.Chain.{link-top}
 
 -- r is where a walk stands after k records
 pub record Onward (w : List ℤ) (s : Sizes) (r k : ℕ) : Type 0 where
@@ -57,7 +58,7 @@ module _ {w : List ℤ} {s : Sizes} {r k : ℕ} (i : Onward w s r k) where
         let h = both (linkOk w s r) (goodChain w s (r ∷ i .past) n) (g .1) in
         record {
           past = r ∷ i .past;
-          r-top = rw e (link-top (s .c) r (nextCallAt w s r) _ _ (h .0));
+          r-top = rw e (link-top w s r (h .0));
           k-top = omega arith;
           right = rw e (h .1);
           calls = rw e (both (callOk w s r) (allb (callOk w s) n) (rw step-chain at (i .calls)) .1);

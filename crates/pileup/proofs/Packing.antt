@@ -7,7 +7,7 @@ use native.Mathlib.Omega.{arith}
 use borrow.Author.Tests.{leb-true}
 use lib.IntN.{ℤ, pos, negsuc, negℤ, _-ℤ_}
 use Rattle.steps.proofs.Signed.{zlin, up, dn, up-pos, dn-pos, neg-up, neg-dn, parts-minus}
-use Rattle.variants_and_fragments.specs.Words.{debtOf}
+use Rattle.variants_and_fragments.specs.Inner.Words.{debtOf}
 use Rattle.variants_and_fragments.specs.Inner.Sums.{DownTo}
 use Rattle.variants_and_fragments.specs.Pileup.{Row}
 use Rattle.variants_and_fragments.proofs.Decoded.{debt-is}

@@ -5,7 +5,6 @@ use mathlib.Core.Bool.{true}
 use mathlib.Core.List.{List, [], _∷_, map}
 use Prim.Native.Nat.{ℕ, zero, suc, _+_, _≤_, _<_}
 use native.Mathlib.Omega.{arith}
-use lib.Dec.{lit<}
 use lib.IntN.{ℤ}
 use Rattle.variants_and_fragments.specs.declared.Sizes.{Sizes}
 use Rattle.variants_and_fragments.specs.Case.{usable}
@@ -17,7 +16,7 @@ use Rattle.variants_and_fragments.specs.Decode.{tabulateFrom, callFrom, fragmen
 use Rattle.variants_and_fragments.specs.Pileup.{rowOf, usableCalls, rowsFrom}
 use Rattle.variants_and_fragments.proofs.Alls.{all-map, all-append}
 use Rattle.variants_and_fragments.proofs.Bools.{both}
-use Rattle.variants_and_fragments.proofs.Decoded.{debt-down}
+use Rattle.variants_and_fragments.proofs.Readings.{quality-down}
 use Rattle.variants_and_fragments.proofs.Only.{only-all}
 use Rattle.variants_and_fragments.proofs.Records.{call-facts}
 use Rattle.pileup.specs.Inner.Packed.{RowIn}
@@ -29,8 +28,8 @@ module _ {w : List ℤ} {s : Sizes} (k : CaseIn w s) where
     fragment-in = h;
     variant-in = c .variant-in;
     allele-in = omega (arith, c .allele-in, k .variants .each (callVariantAt w s r) (c .variant-in) .k-high);
-    qual-in = debt-down 262144 _ (lit< tt) (c .qual-in);
-    one-minus-qual-in = debt-down 262144 _ (lit< tt) (c .other-in);
+    qual-in = quality-down _ (c .qual-in);
+    one-minus-qual-in = quality-down _ (c .other-in);
   }
 
   chain-in : (f : ℕ) → f < s .f → (rs : List ℕ) → allb (callOk w s) rs ≡ true → All (λ call. RowIn (s .n) (s .f) (rowOf f call)) (map (callFrom w s) rs)

@@ -2,41 +2,42 @@
 ghost use mathlib.Core.Path.{_≡_};
 ghost use Prim.Native.Nat.{_+_, _<_, _≤_};
 ghost use lib.IntN.{pos, negℤ, _-ℤ_};
-ghost use Rattle.variants_and_fragments.specs.Words.{debtOf};
+ghost use Rattle.variants_and_fragments.specs.Inner.Words.{debtOf};
 ghost use Rattle.variants_and_fragments.specs.Inner.Sums.{DownTo};
 ghost use Rattle.pileup.specs.Inner.Packed.{Packable, heldRow, rowFrom, packed, unpacked, UsableIs};
+use steps::LogProb;
 
 // A call that is usable, with the number of its fragment.
 pub struct Row {
     pub fragment: usize,
     pub variant: usize,
     pub allele: usize,
-    pub qual: i64,
-    pub one_minus_qual: i64,
+    pub qual: LogProb,
+    pub one_minus_qual: LogProb,
 }
 
 // How far a quality lies below 0.
-fn debt(qual: i64) -> u64
-    requires { ⌜ DownTo 262144 qual ⌝ }
-    ensures { λ d. ⌜ (d ≡ debtOf qual) × (d ≤ 262144) ⌝ }
+fn debt(qual: LogProb) -> u64
+    requires { ⌜ DownTo 262144 (qual .0) ⌝ }
+    ensures { λ d. ⌜ (d ≡ debtOf (qual .0)) × (d ≤ 262144) ⌝ }
 {
-    (0 - qual) as u64
+    (0 - qual.0) as u64
 }
 
-// The number that lies so far below 0.
-fn below(debt: u64) -> i64
+// The quality that lies so far below 0.
+fn below(debt: u64) -> LogProb
     requires { ⌜ debt < 524288 ⌝ }
-    ensures { λ q. ⌜ q ≡ negℤ (pos debt) ⌝ }
+    ensures { λ q. ⌜ q .0 ≡ negℤ (pos debt) ⌝ }
 {
-    0 - debt as i64
+    LogProb(0 - debt as i64)
 }
 
 // The quality that lies gap - 262144 over the one that lies `qual` below 0.
-fn above(qual: u64, gap: u64) -> i64
+fn above(qual: u64, gap: u64) -> LogProb
     requires { ⌜ (qual < 524288) × (gap < 1048576) ⌝ }
-    ensures { λ q. ⌜ q ≡ pos gap -ℤ pos (262144 + qual) ⌝ }
+    ensures { λ q. ⌜ q .0 ≡ pos gap -ℤ pos (262144 + qual) ⌝ }
 {
-    gap as i64 - (262144 + qual) as i64
+    LogProb(gap as i64 - (262144 + qual) as i64)
 }
 
 // The row as one word: from the lowest bits on, 10 for the variant, 2 for the allele, 19 for how far the quality lies below 0, 20 for the gap

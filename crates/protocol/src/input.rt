@@ -1,7 +1,7 @@
 // Standard input through a buffer, token by token.
 ghost use Prim.Native.Nat.{_≤_};
 ghost use mathlib.Core.Path.{_≡_};
-ghost use Rattle.protocol.specs.Inner.Input.{ahead, Counts};
+ghost use Rattle.protocol.specs.Inner.Input.{Counts, Next, failed, nextLine, nextToken};
 ghost use Rattle.protocol.specs.Word.{pushedWord};
 use crate::BUFFER_BYTES;
 use crate::Buffer;
@@ -16,13 +16,27 @@ use crate::number::is_space;
 use crate::number::opens_comment;
 use libc::STDIN_FILENO;
 
+// Why the program cannot read a token: an unknown request, no number of its type, the length of a slice that its array
+// does not hold, the end of the input in its place.
+pub enum Reason {
+    Request,
+    Number,
+    Length,
+    End,
+}
+
 // Where the reading stands: the next byte and the end of the bytes in the buffer, how many bytes may
-// still be read, and whether all that was read so far could be read.
+// still be read, the line of the byte read last and whether it is a line feed, the number in its
+// request of the token read last, whether all that was read so far could be read, and if not, why.
 pub struct Reader {
     pub at: usize,
     pub fill: usize,
     pub left: u64,
+    pub line: u64,
+    pub feed: bool,
+    pub token: u64,
     pub ok: bool,
+    pub reason: Reason,
 }
 
 // A byte of the input, or its end (`more` is false), and where the reading stands after it.
@@ -39,24 +53,77 @@ impl Reader {
             at: 0,
             fill: 0,
             left: 18446744073709551615,
+            line: 1,
+            feed: false,
+            token: 0,
             ok: true,
+            reason: Reason::End,
         }
     }
 
-    // The reader after something that could not be read.
-    pub fn fail(self) -> Reader {
-        Reader {
-            at: self.at,
-            fill: self.fill,
-            left: self.left,
-            ok: false,
+    // The reader after a token that cannot be read. One that failed before keeps its place and reason.
+    pub fn fail(self, reason: Reason) -> Reader
+        ensures { λ r. ⌜ r ≡ failed self reason ⌝ }
+    {
+        if self.ok {
+            return Reader {
+                at: self.at,
+                fill: self.fill,
+                left: self.left,
+                line: self.line,
+                feed: self.feed,
+                token: self.token,
+                ok: false,
+                reason,
+            };
+        }
+        self
+    }
+
+    // The reader in front of the token of this number.
+    fn numbered(mut self, token: u64) -> Reader
+        ensures { λ r. ⌜ r .token ≡ token ⌝ }
+    {
+        self.token = token;
+        self
+    }
+
+    // The line of the next byte.
+    fn next_line(self) -> u64
+        ensures { λ r. ⌜ r ≡ nextLine self ⌝ }
+    {
+        if self.feed {
+            std::num::wrapping_add_u64(self.line, 1)
+        } else {
+            self.line
+        }
+    }
+
+    // The step to the byte b, after which the next one is at `at` in a buffer filled up to `fill`.
+    fn step(mut self, at: usize, fill: usize, b: u8) -> Step
+        requires { ⌜ 1 ≤ self .left ⌝ }
+        ensures { λ r. ⌜ Next self r ⌝ }
+    {
+        let line = self.next_line();
+        self.line = line;
+        self.at = at;
+        self.fill = fill;
+        self.left -= 1;
+        self.feed = b == b'\n';
+        Step {
+            byte: b,
+            more: true,
+            reader: self,
         }
     }
 
     // The step at the end of the input.
-    fn end(self) -> Step
-        ensures { λ r. ⌜ ahead r ≤ 0 ⌝ }
+    fn end(mut self) -> Step
+        ensures { λ r. ⌜ Next self r ⌝ }
     {
+        let line = self.next_line();
+        self.line = line;
+        self.feed = false;
         Step {
             byte: 0,
             more: false,
@@ -67,43 +134,23 @@ impl Reader {
 
 // The next byte of the input.
 fn next(input: &mut Buffer, reader: Reader) -> Step
-    ensures { λ r. ⌜ ahead r ≤ reader .left ⌝ }
+    ensures { λ r. ⌜ Next reader r ⌝ }
 {
     let at = reader.at;
-    let left = reader.left;
-    if left == 0 {
+    let fill = reader.fill;
+    if reader.left == 0 {
         return reader.end();
     }
-    if at < reader.fill {
+    if at < fill {
         if at < BUFFER_BYTES {
-            let after = Reader {
-                at: at + 1,
-                fill: reader.fill,
-                left: left - 1,
-                ok: reader.ok,
-            };
-            return Step {
-                byte: input[at],
-                more: true,
-                reader: after,
-            };
+            return reader.step(at + 1, fill, input[at]);
         }
     }
-    let fill = refill(input);
-    if fill == 0 {
+    let got = refill(input);
+    if got == 0 {
         return reader.end();
     }
-    let after = Reader {
-        at: 1,
-        fill,
-        left: left - 1,
-        ok: reader.ok,
-    };
-    Step {
-        byte: input[0],
-        more: true,
-        reader: after,
-    }
+    reader.step(1, got, input[0])
 }
 
 // Reads once into the buffer, and answers how many bytes came: 0 at the end of the input.
@@ -114,7 +161,9 @@ fn refill(input: &mut [u8]) -> usize {
 
 // The first byte of the next token, or the end of the input: white space and comments are passed. In
 // the loop `comment` says whether the step stands in a comment.
-fn token_start(input: &mut Buffer, reader: Reader) -> Step {
+fn token_start(input: &mut Buffer, reader: Reader) -> Step
+    ensures { λ r. ⌜ r .reader .token ≡ reader .token ⌝ }
+{
     let mut step = next(input, reader);
     let mut comment = false;
     while step.more {
@@ -135,13 +184,23 @@ pub struct Token {
     pub reader: Reader,
 }
 
-// The next token, pushed byte by byte; no byte at the end of the input or of a reader that failed.
-pub fn read_token(input: &mut Buffer, reader: Reader) -> Token {
+// The next token, pushed byte by byte; no byte of a reader that failed, nor at the end of the input, where it fails.
+pub fn read_token(input: &mut Buffer, reader: Reader) -> Token
+    ensures { λ r. ⌜ r .reader .token ≡ nextToken reader ⌝ }
+{
     let mut number = Number::new();
     if !reader.ok {
         return Token { number, reader };
     }
-    let mut step = token_start(input, reader);
+    let token = std::num::wrapping_add_u64(reader.token, 1);
+    let mut step = token_start(input, reader.numbered(token));
+    if !step.more {
+        let end = step.reader;
+        return Token {
+            number,
+            reader: end.fail(Reason::End),
+        };
+    }
     while step.more {
         let b = step.byte;
         if is_space(b) {
@@ -176,7 +235,7 @@ pub fn read_u8(input: &mut Buffer, reader: Reader) -> U8Part {
         },
         ReadU8::Unreadable => U8Part {
             value: 0,
-            reader: after.fail(),
+            reader: after.fail(Reason::Number),
         },
     }
 }
@@ -199,7 +258,7 @@ pub fn read_u32(input: &mut Buffer, reader: Reader) -> U32Part {
         },
         ReadU32::Unreadable => U32Part {
             value: 0,
-            reader: after.fail(),
+            reader: after.fail(Reason::Number),
         },
     }
 }
@@ -222,7 +281,7 @@ pub fn read_u64(input: &mut Buffer, reader: Reader) -> U64Part {
         },
         ReadU64::Unreadable => U64Part {
             value: 0,
-            reader: after.fail(),
+            reader: after.fail(Reason::Number),
         },
     }
 }
@@ -245,7 +304,7 @@ pub fn read_i32(input: &mut Buffer, reader: Reader) -> I32Part {
         },
         ReadI32::Unreadable => I32Part {
             value: 0,
-            reader: after.fail(),
+            reader: after.fail(Reason::Number),
         },
     }
 }
@@ -268,7 +327,7 @@ pub fn read_f64(input: &mut Buffer, reader: Reader) -> F64Part {
         },
         ReadF64::Unreadable => F64Part {
             value: 0.0,
-            reader: after.fail(),
+            reader: after.fail(Reason::Number),
         },
     }
 }
@@ -289,17 +348,21 @@ pub fn read_length(input: &mut Buffer, reader: Reader, most: usize) -> SlicePart
     match number.as_length() {
         ReadLength::Value(n) => {
             if n <= most {
-                return SlicePart {
+                SlicePart {
                     length: n,
                     reader: after,
-                };
+                }
+            } else {
+                SlicePart {
+                    length: 0,
+                    reader: after.fail(Reason::Length),
+                }
             }
         }
-        ReadLength::Unreadable => {}
-    }
-    SlicePart {
-        length: 0,
-        reader: after.fail(),
+        ReadLength::Unreadable => SlicePart {
+            length: 0,
+            reader: after.fail(Reason::Number),
+        },
     }
 }
 
@@ -440,9 +503,11 @@ pub fn push_word(word: u64, b: u8) -> u64
 }
 
 // The next token as a word: 1 at the end of the input.
-pub fn read_word(input: &mut Buffer, reader: Reader) -> WordPart {
+pub fn read_word(input: &mut Buffer, reader: Reader) -> WordPart
+    ensures { λ r. ⌜ r .reader .token ≡ 1 ⌝ }
+{
     let mut word: u64 = 1;
-    let mut step = token_start(input, reader);
+    let mut step = token_start(input, reader.numbered(1));
     while step.more {
         let b = step.byte;
         if is_space(b) {

@@ -24,9 +24,9 @@ module _ (input : RoundInput) (c : Case) where
   returnedAt = record {
     sweeps = resultAt .sweeps;
     settled = resultAt .settled;
-    start = phasedTotal sweepCaseAt (startHaplotypes c (input .phase));
-    end = phasedTotal sweepCaseAt (resultAt .haps);
-    source = sourceTotal sweepCaseAt (resultAt .haps);
+    start = record { 0 = phasedTotal sweepCaseAt (startHaplotypes c (input .phase)) };
+    end = record { 0 = phasedTotal sweepCaseAt (resultAt .haps) };
+    source = record { 0 = sourceTotal sweepCaseAt (resultAt .haps) };
   }
 
 module _ (input : RoundInput) (c : Case) (decoded : decode (input .words) (input .bases) ≡ c) where

@@ -2,7 +2,7 @@
 -- Assumes nothing.
 use mathlib.Core.Path.{_≡_, refl}
 use Rattle.variants_and_fragments.specs.Case.{Case}
-use Rattle.variants_and_fragments.specs.Check.{caseOf}
+use Rattle.variants_and_fragments.specs.Check.{checkCaseOutcome}
 use Rattle.variants_and_fragments.specs.Decode.{decode}
 use Rattle.variants_and_fragments.specs.Encode.{encodeWords, encodeBases}
 use Rattle.variants_and_fragments.specs.Refusals.{done}
@@ -11,7 +11,7 @@ use Rattle.samples.specs.Samples.{reads, noVariants, sizes}
 use Rattle.samples.proofs.Open.{layout, checks}
 
 pub record Laid (sample : Case) : Type 0 where
-  pub accepted : caseOf (encodeWords sample) (encodeBases sample) ≡ done (sizes sample)
+  pub accepted : checkCaseOutcome (encodeWords sample) (encodeBases sample) ≡ done (sizes sample)
   pub decoded : decode (encodeWords sample) (encodeBases sample) ≡ sample
 
 pub one-laid : Laid (reads 0 1)

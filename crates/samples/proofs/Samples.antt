@@ -65,6 +65,6 @@ samples = record {
   i = sample-round _ _ _ _ _ _ reads-112-laid reads-112;
   j = sample-round _ _ _ _ _ _ reads-113-laid reads-113;
   j-from-1 = j-round;
-  j-gain = ap (λ (x : RoundAnswer). x .end -ℤ x .start) (j-round .returns);
+  j-gain = ap (λ (x : RoundAnswer). x .end .0 -ℤ x .start .0) (j-round .returns);
   k = sample-round _ _ _ _ _ _ none-laid no-variants;
 }

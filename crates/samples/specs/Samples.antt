@@ -13,17 +13,18 @@ use Rattle.steps.specs.Logs.{steps}
 use Rattle.steps.specs.OneMinus.{OneMinusExp, lnOneMinusExp}
 use Rattle.variants_and_fragments.specs.declared.Sizes.{Sizes}
 use Rattle.variants_and_fragments.specs.Case.{Case, Variant, Fragment}
-use Rattle.variants_and_fragments.specs.Refusals.{done}
-use Rattle.variants_and_fragments.specs.Check.{caseOf}
+use Rattle.variants_and_fragments.specs.First.{holdsBelow}
+use Rattle.variants_and_fragments.specs.Refusals.{done, smallestShort}
+use Rattle.variants_and_fragments.specs.Check.{checkCaseOutcome}
 use Rattle.variants_and_fragments.specs.Decode.{decode}
 use Rattle.variants_and_fragments.specs.Encode.{encodeWords, encodeBases}
 use Rattle.genotype_probs.specs.declared.Rates.{Rates}
-use Rattle.genotype_probs.specs.Rates.{ratesFault}
+use Rattle.genotype_probs.specs.Rates.{rateTest}
 use Rattle.genotype_probs.specs.Priors.{allPriors}
 use Rattle.haplotype_assembly.specs.Phase.{phase0, phase1}
 use Rattle.with_haplotypes.specs.declared.RoundAnswer.{RoundAnswer}
 use Rattle.with_haplotypes.specs.Round.{RoundInput, roundInput, runOf, result, returned}
-use Rattle.with_haplotypes.specs.Promise.{RoundSlices, shortOfSlices, roundOutcome}
+use Rattle.with_haplotypes.specs.Promise.{RoundSlices, roundNeeds, maxLimit, withHaplotypesOutcome}
 
 -- −n
 abbrev pub neg : ℕ → ℤ
@@ -61,11 +62,11 @@ noVariants = record { variants = []; fragments = []; cutoff = neg 2000 }
 
 -- the sizes that the head of such a case gives: each fragment has one call
 abbrev pub sizes : Case → Sizes
-sizes sample = record { n = length (sample .variants); f = length (sample .fragments); c = length (sample .fragments); cut = 2000 }
+sizes sample = record { n = length (sample .variants); f = length (sample .fragments); c = length (sample .fragments); cutoff = neg 2000 }
 
 -- a round on the words and bases that `encode` makes of a case: these phase bytes, one order, the highest limit
 abbrev pub roundOn : Case → List ℕ → List ℕ → RoundInput
-roundOn sample phase order = roundInput (encodeWords sample) (encodeBases sample) rates phase order 1000000
+roundOn sample phase order = roundInput (encodeWords sample) (encodeBases sample) rates phase order maxLimit
 
 -- each variant is of set 0
 abbrev pub setsOf : List ℕ → List ℤ
@@ -73,7 +74,7 @@ setsOf phase = map (λ byte. pos 0) phase
 
 -- what a settled round returns of a case with no unphased variant: the source's total is the phased one
 abbrev pub settledAfter : ℕ → ℤ → ℤ → RoundAnswer
-settledAfter sweeps start end = record { sweeps = sweeps; settled = true; start = start; end = end; source = end }
+settledAfter sweeps start end = record { sweeps = sweeps; settled = true; start = record { 0 = start }; end = record { 0 = end }; source = record { 0 = end } }
 
 -- T[k] is t, by the rule of the knots and by the table
 pub record KnotIs (k t : ℕ) : Type 0 where
@@ -83,15 +84,15 @@ pub record KnotIs (k t : ℕ) : Type 0 where
 -- A round from the haplotypes `given` to the haplotypes `left`, with this answer
 pub record SampleRound (sample : Case) (phase order given left : List ℕ) (answer : RoundAnswer) : Type 0 where
   -- the words and bases are accepted, and stand for the case
-  pub accepted : caseOf (encodeWords sample) (encodeBases sample) ≡ done (sizes sample)
+  pub accepted : checkCaseOutcome (encodeWords sample) (encodeBases sample) ≡ done (sizes sample)
   pub decoded : decode (encodeWords sample) (encodeBases sample) ≡ sample
   -- section 5's haplotypes, those that the run leaves, and what is returned
   pub starts : runOf (roundOn sample phase order) .start ≡ given
   pub ends : result (runOf (roundOn sample phase order)) .haps ≡ left
   pub returns : returned (runOf (roundOn sample phase order)) ≡ answer
   -- nothing is refused, whatever slices are lent that are long enough
-  pub outcome : (slices : RoundSlices) → shortOfSlices (length (sample .variants)) (length (sample .fragments)) slices ≡ 0
-      → roundOutcome (roundOn sample phase order) (setsOf phase) slices ≡ done answer
+  pub outcome : (slices : RoundSlices) → smallestShort (roundNeeds (length (sample .variants)) (length (sample .fragments)) slices) ≡ 0
+      → withHaplotypesOutcome (roundOn sample phase order) (setsOf phase) slices ≡ done answer
 
 pub record Samples : Type 0 where
   -- (a) T[0] 4096, (b) T[128] 2396, (c) T[256] 1318, (d) T[1664] 0
@@ -106,7 +107,7 @@ pub record Samples : Type 0 where
   pub f-greatest : OneMinusExp (steps (neg 4096)) (steps (neg 4096))
   -- (g) priors 0, −78192, −78192, −74096
   pub g : map (allPriors rates variant) (0 ∷ 1 ∷ 2 ∷ 3 ∷ []) ≡ pos 0 ∷ neg 78192 ∷ neg 78192 ∷ neg 74096 ∷ []
-  pub g-accepted : ratesFault rates ≡ 7
+  pub g-accepted : holdsBelow (rateTest rates) 7 ≡ true
   -- (h) one variant, genotype (0,1), one read of G, phase '0': two sweeps, totals −81592 to −5796, pair (0,0)
   pub h : SampleRound (reads 0 1) (phase0 ∷ []) (0 ∷ []) (0 ∷ 1 ∷ []) (0 ∷ 0 ∷ []) (settledAfter 2 (neg 81592) (neg 5796))
   -- (i) 112 reads each of A and G end at (0,0)
@@ -114,6 +115,6 @@ pub record Samples : Type 0 where
   -- (j) 113 at (0,1), also from phase '1', where gain is 0 and sweeps are 2
   pub j : SampleRound (reads 113 113) (phase0 ∷ []) (0 ∷ []) (0 ∷ 1 ∷ []) (0 ∷ 1 ∷ []) (settledAfter 1 (neg 846592) (neg 846592))
   pub j-from-1 : SampleRound (reads 113 113) (phase1 ∷ []) (0 ∷ []) (1 ∷ 0 ∷ []) (0 ∷ 1 ∷ []) (settledAfter 2 (neg 846592) (neg 846592))
-  pub j-gain : returned (runOf (roundOn (reads 113 113) (phase1 ∷ []) (0 ∷ []))) .end -ℤ returned (runOf (roundOn (reads 113 113) (phase1 ∷ []) (0 ∷ []))) .start ≡ pos 0
+  pub j-gain : returned (runOf (roundOn (reads 113 113) (phase1 ∷ []) (0 ∷ []))) .end .0 -ℤ returned (runOf (roundOn (reads 113 113) (phase1 ∷ []) (0 ∷ []))) .start .0 ≡ pos 0
   -- (k) N = 0: one sweep
   pub k : SampleRound noVariants [] [] [] [] (settledAfter 1 (pos 0) (pos 0))

@@ -1,25 +1,29 @@
 -- Each order that `sweep_orders` writes is a permutation, and so is each of a slice that the check of orders accepts; the check
 -- accepts what was written. Assumes nothing.
 use mathlib.Core.Path.{_≡_, refl, sym, ap, _∙_, subst}
-use mathlib.Core.Bool.{Bool, true, false}
 use mathlib.Core.List.{List, _++_}
 use Prim.Native.Nat.{ℕ, zero, suc, _+_, _*_, _-_, _<_}
 use native.Mathlib.Nat.{suc-mul, zero-mul}
 use native.Mathlib.Omega.{arith}
-use lib.Dec.{ltb, leb}
+use lib.Dec.{ltb}
 use lib.IntN.{ℤ}
 use lib.ListN.{length, take, length-append}
 use lib.Seq.{take-at, drop-append-add}
-use borrow.Author.Tests.{ltb-true, leb-true}
-use Rattle.variants_and_fragments.specs.Refusals.{Outcome, done, andThen, unless}
-use Rattle.variants_and_fragments.proofs.First.{first-end, first-all}
-use Rattle.variants_and_fragments.specs.Check.{caseOf}
+use borrow.Author.Tests.{ltb-true}
+use Rattle.variants_and_fragments.specs.Refusals.{done}
+use Rattle.variants_and_fragments.specs.Decode.{decode}
+use Rattle.variants_and_fragments.proofs.First.{first-end, from-all}
+use Rattle.variants_and_fragments.proofs.Accepted.{case-in}
+use Rattle.variants_and_fragments.proofs.Decoded.{variants-are}
+use Rattle.variants_and_fragments.proofs.Outcomes.{unless-past, each-past, then-on}
+use Rattle.variants_and_fragments.specs.Check.{checkCaseOutcome}
 use Rattle.variants_and_fragments.specs.declared.Sizes.{Sizes}
 use Rattle.shuffle.specs.SplitMix.{stateAfter}
 use Rattle.shuffle.specs.Permutation.{Permutation, permutes}
 use Rattle.shuffle.specs.Orders.{orderFrom, ordersFrom, orderCount, orderAt}
 use Rattle.shuffle.specs.Inner.Orders.{GoodOrders}
-use Rattle.shuffle.specs.Answers.{firstBadOrder, ordersOutcome, sweepOrders}
+use Rattle.shuffle.specs.Answers.{ordersOutcome, sweepOrdersOutcome, sweepOrdersWritten}
+use Rattle.shuffle.specs.Inner.Answers.{firstBadOrder}
 use Rattle.shuffle.proofs.Swaps.{order-length}
 use Rattle.shuffle.proofs.Permuted.{order-permutation, permutes-permutation, permutation-permutes}
 use Rattle.shuffle.proofs.Slices.{count-fills, count-one, count-of}
@@ -53,17 +57,12 @@ written-permutation n (suc m) state (suc o) h =
     (written-permutation n m (stateAfter (n - 1) state) o (omega arith))
 
 -- ---- what is accepted
-pub unless-done : {X : Type 0} (b : Bool) (k p : ℕ) (rest : Outcome X) (x : X) → unless b k p rest ≡ done x → (b ≡ true) × (rest ≡ done x)
-unfolding unless
-unless-done true k p rest x e = (refl, e)
-unless-done false k p rest x e = let z : _≡_ {A = ℕ} 0 1 = cc in absurd (omega arith)
-
 pub orders-good : (n m : ℕ) (orders : List ℕ) → ordersOutcome n orders ≡ done m → GoodOrders n orders m
-unfolding ordersOutcome firstBadOrder
+unfolding ordersOutcome
 orders-good n m orders e =
     let count = orderCount n (length orders) in
-    let outer = unless-done (ltb 0 count) 8 0 _ m e in
-    let inner = unless-done (leb count (firstBadOrder n orders count)) 8 (firstBadOrder n orders count) (done count) m (outer .1) in
+    let outer = unless-past (ltb 0 count) 8 0 _ m e in
+    let inner = each-past 8 (λ o. permutes n (orderAt n orders o)) 0 count (done count) m (outer .1) in
     let same : count ≡ m = cc in
     let some : 0 < count = ltb-true 0 count (outer .0) in
     record {
@@ -71,7 +70,7 @@ orders-good n m orders e =
       fills = count-fills n (length orders) m (sym same) (omega arith);
       permutation = λ o h.
           permutes-permutation n (orderAt n orders o)
-          (first-all (λ o. permutes n (orderAt n orders o)) count (leb-true count (firstBadOrder n orders count) (inner .0)) o (omega arith));
+          (from-all (λ o. permutes n (orderAt n orders o)) 0 count (inner .0) o (omega arith) (omega arith));
     }
 
 -- what was written is accepted
@@ -82,16 +81,15 @@ written-good n m state some one =
     (first-end (λ o. permutes n (orderAt n (ordersFrom n m state) o)) m m (λ o h. permutation-permutes n (orderAt n (ordersFrom n m state) o) (written-permutation n m state o h)) refl) (omega arith))
 
 -- what `sweep_orders` writes is accepted, and so each of its orders is a permutation
-pub swept-accepted : (words : List ℤ) (bases : List ℕ) (seed : ℕ) (before after : List ℕ) (sizes : Sizes) → caseOf words bases ≡ done sizes → sweepOrders words bases seed before ≡ done after
-    → ordersOutcome (sizes .n) after ≡ done (orderCount (sizes .n) (length before))
-unfolding sweepOrders andThen
-swept-accepted words bases seed before after sizes e d =
-    let m = orderCount (sizes .n) (length before) in
-    let parts = unless-done (ltb 0 m) 8 0 (done (ordersFrom (sizes .n) m seed)) after (rw e at d) in
-    let same : ordersFrom (sizes .n) m seed ≡ after = cc in
-    let some : 0 < m = ltb-true 0 m (parts .0) in
-    rw (← same) (written-good (sizes .n) m seed some (λ z. count-one (length before) m (ap (λ (k : ℕ). orderCount k (length before)) z) some))
+module _ (words : List ℤ) (bases : List ℕ) (seed : ℕ) (before : List ℕ) (sizes : Sizes) (e : checkCaseOutcome words bases ≡ done sizes) (d : sweepOrdersOutcome words bases before ≡ done tt) where
+  pub swept-accepted : ordersOutcome (sizes .n) (sweepOrdersWritten (decode words bases) seed before) ≡ done (orderCount (sizes .n) (length before))
+  unfolding sweepOrdersOutcome sweepOrdersWritten
+  swept-accepted =
+      let m = orderCount (sizes .n) (length before) in
+      let parts = unless-past (ltb 0 m) 8 0 (done tt) tt (then-on _ _ sizes e ∙ d) in
+      let some : 0 < m = ltb-true 0 m (parts .0) in
+      rw (variants-are (case-in words bases sizes e) bases)
+      (written-good (sizes .n) m seed some (λ z. count-one (length before) m (ap (λ (k : ℕ). orderCount k (length before)) z) some))
 
-pub swept-good : (words : List ℤ) (bases : List ℕ) (seed : ℕ) (before after : List ℕ) (sizes : Sizes) → caseOf words bases ≡ done sizes → sweepOrders words bases seed before ≡ done after
-    → GoodOrders (sizes .n) after (orderCount (sizes .n) (length before))
-swept-good words bases seed before after sizes e d = orders-good (sizes .n) _ after (swept-accepted words bases seed before after sizes e d)
+  pub swept-good : GoodOrders (sizes .n) (sweepOrdersWritten (decode words bases) seed before) (orderCount (sizes .n) (length before))
+  swept-good = orders-good (sizes .n) _ (sweepOrdersWritten (decode words bases) seed before) swept-accepted

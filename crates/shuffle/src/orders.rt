@@ -4,7 +4,7 @@ ghost use Prim.Native.Nat.{ℕ, _+_, _*_, _≤_, _<_};
 ghost use lib.ListN.{length, getD};
 ghost use Rattle.shuffle.specs.Permutation.{permutes};
 ghost use Rattle.shuffle.specs.Orders.{orderCount, ordersFrom};
-ghost use Rattle.shuffle.specs.Answers.{firstBadOrder};
+ghost use Rattle.shuffle.specs.Inner.Answers.{firstBadOrder};
 use crate::fisher_yates::shuffle_order;
 
 // The number of orders of n variants in a slice of so many elements; 0 where that many are refused.

@@ -57,6 +57,10 @@ number-of z = by-test (isMark z) (λ t. rw (of-mark z t) (sym (mark-is z t))) (�
 pub log-injective : (a b : ℤ) → logOf a ≡ logOf b → a ≡ b
 log-injective a b e = sym (number-of a) ∙ ap number e ∙ number-of b
 
+-- and a finite one is its number
+pub steps-is : (r z : ℤ) → natAbs z < 2 ^ 63 → logOf r ≡ steps z → r ≡ z
+steps-is r z h e = log-injective r z (e ∙ sym (of-small z h))
+
 -- the bits of the mark are those of no other i64
 pub mark-bits : (a : ℤ) → SFits w64 a → eqb (ofZ w64 a) 9223372036854775808 ≡ isMark a
 unfolding isMark
@@ -96,6 +100,17 @@ size-steps z = refl
 -- a number that is no mark has its own size
 pub size-of : (z : ℤ) → isMark z ≡ false → size (logOf z) ≡ natAbs z
 size-of z t = ap size (of-steps z t) ∙ size-steps z
+
+-- and so has a number that is in range
+pub size-small : (z : ℤ) → natAbs z < 2 ^ 63 → size (logOf z) ≡ natAbs z
+size-small z h = size-of z (no-mark z h)
+
+-- the number of a sum of two finite ones
+pub add-is : (a b r : ℤ) → natAbs a ≤ 2 ^ 61 → natAbs b ≤ 2 ^ 61 → logOf r ≡ lnAddExp (logOf a) (logOf b) → r ≡ addExp a b
+add-is a b r h k e =
+    let z = add-size a b (2 ^ 61) h k in
+    let s = rw (of-small a (omega arith), of-small b (omega arith)) at e in
+    steps-is r (addExp a b) (omega arith) (s ∙ add-steps a b)
 
 pub log-size : (a b : Log) (n : ℕ) → size a ≤ n → size b ≤ n → size (lnAddExp a b) ≤ n + 4096
 unfolding lnAddExp size

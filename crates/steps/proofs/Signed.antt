@@ -217,13 +217,6 @@ times-abs k (negsuc n) = neg-abs (pos (k * suc n))
 pub minus-abs : (a b : ℤ) → natAbs (a -ℤ b) ≤ natAbs a + natAbs b
 minus-abs a b = let h = add-abs a (negℤ b) in let e = neg-abs b in omega arith
 
--- each part of a sum is at most the sum of those parts
-pub up-add : (a b : ℤ) → up (a +ℤ b) ≤ up a + up b
-up-add a b = let s = parts-add a b in by-sign (a +ℤ b) (λ e. omega arith) (λ e. omega arith)
-
-pub dn-add : (a b : ℤ) → dn (a +ℤ b) ≤ dn a + dn b
-dn-add a b = let s = parts-add a b in by-sign (a +ℤ b) (λ e. omega arith) (λ e. omega arith)
-
 -- how far apart two numbers are, in order
 pub apart : (a b : ℤ) → b ≤ℤ a → up b + dn a + natAbs (a -ℤ b) ≡ up a + dn b
 apart a b h =

@@ -2,7 +2,7 @@
 -- Assumes nothing.
 use mathlib.Core.Path.{_≡_, refl, sym, _∙_, ap}
 use mathlib.Core.List.{List, [], _∷_, _++_, append-nil, append-assoc, map}
-use Prim.Native.Nat.{ℕ, suc, _+_, _*_, _≤_, _<_}
+use Prim.Native.Nat.{ℕ, suc, _+_, _*_, _^_, _≤_, _<_}
 use native.Mathlib.Numerals.{add-one}
 use native.Mathlib.Omega.{arith}
 use lib.IntN.{ℤ, pos, natAbs, _+ℤ_}
@@ -11,7 +11,7 @@ use lib.Seq.{drop-cons, drop-length}
 use Rattle.steps.specs.Logs.{Log, mark, steps, addExp, lnAddExp, AddsFromLeft, lnSumFrom, lnSumExp, sumExp}
 use Rattle.steps.specs.Inner.Logs.{logOf, size}
 use Rattle.steps.proofs.AddExp.{add-shift, add-size}
-use Rattle.steps.proofs.Marks.{log-size}
+use Rattle.steps.proofs.Marks.{of-small, log-size}
 
 -- ---- the statement
 -- it adds from the left, starting at the mark
@@ -54,6 +54,11 @@ sum-from-steps a (x ∷ xs) = sum-from-steps (addExp a x) xs
 pub sum-steps : (x : ℤ) (xs : List ℤ) → lnSumExp (map steps (x ∷ xs)) ≡ steps (sumExp x xs)
 unfolding lnSumExp lnSumFrom lnAddExp
 sum-steps x xs = sum-from-steps x xs
+
+-- numbers in range are finite ones
+pub log-steps : (xs : List ℤ) → ((k : ℕ) → k < length xs → natAbs (getD xs k (pos 0)) < 2 ^ 63) → map logOf xs ≡ map steps xs
+log-steps [] g = refl
+log-steps (x ∷ xs) g = rw (of-small x (g 0 (omega arith)), log-steps xs (λ k i. g (suc k) (omega arith)))
 
 -- a constant added to each moves a finite sum by that constant
 pub sum-shift : (c a : ℤ) (xs : List ℤ) → sumExp (a +ℤ c) (map (λ (x : ℤ). x +ℤ c) xs) ≡ sumExp a xs +ℤ c

@@ -22,6 +22,10 @@ difference a b = natAbs (a -ℤ b)
 unfoldable pub addExp : ℤ → ℤ → ℤ
 addExp a b = larger a b +ℤ pos (addend (difference a b))
 
+-- 01, sections 4 and 6: ln_add_exp of both less 4,096 each
+unfoldable pub mixOf : ℤ → ℤ → ℤ
+mixOf a b = addExp (a -ℤ pos 4096) (b -ℤ pos 4096)
+
 -- ln_add_exp: the mark gives the other one
 unfoldable pub lnAddExp : Log → Log → Log
 lnAddExp mark b = b

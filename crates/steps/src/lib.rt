@@ -15,7 +15,7 @@ ghost use Rattle.steps.specs.Inner.Probs.{half, quarter, Known, lnOf};
 mod addend;
 mod knots;
 mod lines;
-pub mod logs;
+mod logs;
 pub mod one_plus;
 pub mod phred;
 
@@ -84,22 +84,41 @@ impl LogProb {
         requires { ⌜ (now t ≡ knots) × (size (logOf (self .0)) ≤ 2 ^ 61) × (size (logOf (other .0)) ≤ 2 ^ 61) ⌝ }
         ensures { λ r. ⌜ logOf (r .0) ≡ lnAddExp (logOf (self .0)) (logOf (other .0)) ⌝ }
     {
-        LogProb(logs::ln_add_exp(t, self.0, other.0))
+        if logs::is_mark(self.0) {
+            return other;
+        }
+        if logs::is_mark(other.0) {
+            return self;
+        }
+        LogProb(logs::add_exp(t, self.0, other.0))
     }
 
-    // The sum of the probabilities in s, from the left, starting at the mark.
+    // The sum of the probabilities in s, from the left, starting at the mark. At the loop's head `sum` is that of the elements before i.
     pub fn ln_sum_exp(t: &[u16; 1665], s: &[i64]) -> Self
         requires { ⌜ (now t ≡ knots) × (length (now s) ≤ 2 ^ 40) × ((k : ℕ) → k < length (now s) → size (logOf (getD (now s) k (pos 0))) ≤ 2 ^ 60) ⌝ }
         ensures { λ r. ⌜ logOf (r .0) ≡ lnSumExp (map logOf (now (s .entry))) ⌝ }
     {
-        LogProb(logs::ln_sum_exp(t, s))
+        let mut sum = LogProb::ln_zero();
+        let mut i = 0;
+        while i < s.len() {
+            sum = sum.ln_add_exp(t, LogProb(s[i]));
+            i += 1;
+        }
+        sum
     }
 
-    // What is left of certainty: of 0 the mark, of the mark 0.
+    // What is left of certainty: of 0 the mark, of the mark 0; below 0 the greatest q at most 0 with ln_add_exp(self, q) at most 0.
     pub fn ln_one_minus_exp(self, t: &[u16; 1665]) -> Self
         requires { ⌜ (now t ≡ knots) × (size (logOf (self .0)) ≤ 2 ^ 61) × (leZ (self .0) (pos 0) ≡ true) ⌝ }
         ensures { λ r. ⌜ logOf (r .0) ≡ lnOneMinusExp (logOf (self .0)) ⌝ }
     {
-        LogProb(logs::ln_one_minus_exp(t, self.0))
+        let p = self.0;
+        if logs::is_mark(p) {
+            return LogProb::ln_one();
+        }
+        if p == 0 {
+            return LogProb::ln_zero();
+        }
+        LogProb(logs::below_zero(logs::steps_down(t, p)))
     }
 }

@@ -1,14 +1,12 @@
-// Log probabilities as numbers of steps. A table `t` is the knots, lent.
+// The numbers under the methods of LogProb, in steps. A table `t` is the knots, lent.
 ghost use mathlib.Core.Path.{_≡_};
 ghost use mathlib.Core.Bool.{true};
-ghost use mathlib.Core.List.{map};
-ghost use Prim.Native.Nat.{ℕ, _^_, _≤_, _<_};
+ghost use Prim.Native.Nat.{_^_, _≤_};
 ghost use lib.IntN.{pos, negℤ, natAbs};
-ghost use lib.ListN.{length, getD};
-ghost use lib.Signed.{leZ, ltZ};
+ghost use lib.Signed.{ltZ};
 ghost use Rattle.steps.specs.Table.{knots};
-ghost use Rattle.steps.specs.Logs.{steps, difference, addExp, lnAddExp, lnSumExp};
-ghost use Rattle.steps.specs.Inner.Logs.{isMark, logOf, size};
+ghost use Rattle.steps.specs.Logs.{steps, difference, addExp};
+ghost use Rattle.steps.specs.Inner.Logs.{isMark};
 ghost use Rattle.steps.specs.OneMinus.{low, lnOneMinusExp};
 ghost use Rattle.steps.specs.Logs as spec;
 use crate::addend::addend;
@@ -50,36 +48,8 @@ pub fn add_exp(t: &[u16; 1665], a: i64, b: i64) -> i64
     larger(a, b) + addend(t, gap(a, b)) as i64
 }
 
-// ln_add_exp: the mark gives the other one.
-pub fn ln_add_exp(t: &[u16; 1665], a: i64, b: i64) -> i64
-    requires { ⌜ (now t ≡ knots) × (size (logOf a) ≤ 2 ^ 61) × (size (logOf b) ≤ 2 ^ 61) ⌝ }
-    ensures { λ r. ⌜ logOf r ≡ lnAddExp (logOf a) (logOf b) ⌝ }
-{
-    if is_mark(a) {
-        return b;
-    }
-    if is_mark(b) {
-        return a;
-    }
-    add_exp(t, a, b)
-}
-
-// ln_sum_exp, from the left, starting at the mark. At the loop's head `sum` is that of the elements before i.
-pub fn ln_sum_exp(t: &[u16; 1665], s: &[i64]) -> i64
-    requires { ⌜ (now t ≡ knots) × (length (now s) ≤ 2 ^ 40) × ((k : ℕ) → k < length (now s) → size (logOf (getD (now s) k (pos 0))) ≤ 2 ^ 60) ⌝ }
-    ensures { λ r. ⌜ logOf r ≡ lnSumExp (map logOf (now (s .entry))) ⌝ }
-{
-    let mut sum = MARK;
-    let mut i = 0;
-    while i < s.len() {
-        sum = ln_add_exp(t, sum, s[i]);
-        i += 1;
-    }
-    sum
-}
-
 // −b
-fn below_zero(b: usize) -> i64
+pub fn below_zero(b: usize) -> i64
     requires { ⌜ b ≤ 57344 ⌝ }
     ensures { λ r. ⌜ r ≡ negℤ (pos b) ⌝ }
 {
@@ -95,7 +65,7 @@ fn low_enough(t: &[u16; 1665], p: i64, b: usize) -> bool
 }
 
 // How many steps below 0 ln_one_minus_exp(p) is, for p below 0. At the loop's head `hi` steps are low enough, and fewer than `lo` are not.
-fn steps_down(t: &[u16; 1665], p: i64) -> usize
+pub fn steps_down(t: &[u16; 1665], p: i64) -> usize
     requires { ⌜ (now t ≡ knots) × (natAbs p ≤ 2 ^ 61) × (ltZ p (pos 0) ≡ true) ⌝ }
     ensures { λ r. ⌜ (r ≤ 57344) × (lnOneMinusExp (steps p) ≡ steps (negℤ (pos r))) ⌝ }
 {
@@ -110,18 +80,4 @@ fn steps_down(t: &[u16; 1665], p: i64) -> usize
         }
     }
     lo
-}
-
-// ln_one_minus_exp: of 0 the mark; of p below 0 the greatest q at most 0 with ln_add_exp(p, q) at most 0.
-pub fn ln_one_minus_exp(t: &[u16; 1665], p: i64) -> i64
-    requires { ⌜ (now t ≡ knots) × (size (logOf p) ≤ 2 ^ 61) × (leZ p (pos 0) ≡ true) ⌝ }
-    ensures { λ r. ⌜ logOf r ≡ lnOneMinusExp (logOf p) ⌝ }
-{
-    if is_mark(p) {
-        return 0;
-    }
-    if p == 0 {
-        return MARK;
-    }
-    below_zero(steps_down(t, p))
 }

@@ -1,20 +1,15 @@
 -- 01, section 6: likelihoods, scores, visits, sweeps, the run and its totals. Every definition computes at closed values.
--- Haplotypes are a flat list of 2 alleles a variant, variant v's pair at 2v and 2v + 1, as the run writes them.
+-- Haplotypes are a flat list of 2 alleles per variant, variant v's pair at 2v and 2v + 1, as the run writes them.
 -- Assumes nothing.
 use mathlib.Core.Bool.{Bool, true, false, cond, _&&_, _||_}
 use mathlib.Core.List.{List, [], _∷_}
 use Prim.Native.Nat.{ℕ, zero, suc, _+_, _*_, _/_, _%_}
 use lib.Dec.{eqb}
 use lib.ListN.{getD, set}
-use lib.IntN.{ℤ, pos, _+ℤ_, _-ℤ_}
-use Rattle.steps.specs.Logs.{addExp}
+use lib.IntN.{ℤ, pos, _+ℤ_}
 use Rattle.variants_and_fragments.specs.Case.{Call}
 use Rattle.variants_and_fragments.specs.Sums.{sumOver, sumTo, countTo}
 use Rattle.genotype_probs.specs.Posteriors.{firstMaximum}
-
--- `ln_add_exp` of a read's two likelihoods less 4,096 each
-unfoldable pub mixOf : ℤ → ℤ → ℤ
-mixOf a b = addExp (a -ℤ pos 4096) (b -ℤ pos 4096)
 
 -- what the sweeps use of a case: N, each variant's k, which variants are phased, the prior of pair (i, j) at a variant, the usable calls
 -- of each fragment, and `mix` of a read's two likelihoods, which is `mixOf`; what demand 3 says holds whatever `mix` is

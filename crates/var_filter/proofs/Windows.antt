@@ -8,7 +8,7 @@ use Prim.Native.Nat.{ℕ, zero, suc, _+_, _-_, _≤_, _<_}
 use native.Mathlib.Omega.{arith}
 use native.Mathlib.Nat.{le-refl}
 use native.Mathlib.Numerals.{add-one}
-use borrow.Author.Tests.{ne-eqb, lt-ltb, le-ltb}
+use borrow.Author.Tests.{lt-ltb, le-ltb}
 use native.Mathlib.Decide.{decLt, ℕ-discrete}
 use lib.IntN.{ℤ}
 use lib.Ieee.{Float}
@@ -24,6 +24,7 @@ use Rattle.variants_and_fragments.specs.Decode.{variantFrom, decode}
 use Rattle.var_filter.specs.Filter.{strong, limitsOf}
 use Rattle.var_filter.specs.Inner.FilterWindow.{pastLast, WindowAt, WindowEnd, Extended, Slid}
 use Rattle.variants_and_fragments.proofs.Decoded.{variant-count, variant-is}
+use Rattle.variants_and_fragments.proofs.Records.{pos0-up}
 use Rattle.var_filter.proofs.Below.{count-in, count-out, count-le, count-top, past-in, past-out, past-le}
 use Rattle.var_filter.proofs.Density.{ReachTo}
 
@@ -41,10 +42,7 @@ pub pos0-le : {w : List ℤ} {s : Sizes} → CaseIn w s → (i j : ℕ) → i �
 pos0-le {w} {s} k i zero h l = let e : i ≡ 0 = omega arith in rw e (le-refl _)
 pos0-le {w} {s} k i (suc j) h l = elim (ℕ-discrete i (suc j)) [
   | yes e ↦ rw e (le-refl _)
-  | no e ↦
-      let prior : suc j - 1 ≡ j = omega arith in
-      let r : pos0At w j ≤ pos0At w (suc j) = rw (ne-eqb (suc j) 0 (λ z. omega arith), prior) at (k .variants .each (suc j) l .rises) in
-      omega (arith, pos0-le k i j (omega arith) (omega arith), r)
+  | no e ↦ omega (arith, pos0-le k i j (omega arith) (omega arith), pos0-up (k .variants) j l)
 ]
 
 module _ {w : List ℤ} {s : Sizes} {quals : List Float} {density : DensityParameters} where
@@ -59,7 +57,7 @@ module _ {w : List ℤ} {s : Sizes} {quals : List Float} {density : DensityParam
   }
 
   pub ahead-top : {v : ℕ} {x : Window} → WindowAt w s quals density v x → x .ahead ≤ s .n
-  ahead-top {v} {x} at = omega (arith, at .ahead-is, at .end-in, count-top (x .end) (strong quals (density .gq)))
+  ahead-top {v} {x} at = omega (arith, at .ahead-is, at .end-in, count-top (x .end) (strong quals (density .gq .0)))
 
   -- one variant more is passed: in reach from v, and so from every later one
   module _ {v end ahead last until : ℕ} (accepted : CaseIn w s) (x : WindowAt w s quals density v (record { end = end; ahead = ahead; last = last; until = until })) (more : end < s .n) (near : pos0At w end ≤ pos0At w v + density .len) where
@@ -69,20 +67,20 @@ module _ {w : List ℤ} {s : Sizes} {quals : List Float} {density : DensityParam
       | no e ↦ x .within i m a b (omega arith)
     ]
 
-    pub window-strong : strong quals (density .gq) end ≡ true → WindowAt w s quals density v (record { end = end + 1; ahead = ahead + 1; last = end + 1; until = until })
+    pub window-strong : strong quals (density .gq .0) end ≡ true → WindowAt w s quals density v (record { end = end + 1; ahead = ahead + 1; last = end + 1; until = until })
     window-strong t = record {
       end-in = omega arith;
-      ahead-is = rw (add-one end) (omega (arith, count-in end (strong quals (density .gq)) t, x .ahead-is));
-      last-is = rw (add-one end) (sym (past-in end (strong quals (density .gq)) t));
-      until-in = omega (arith, x .until-in, x .last-is, past-le end (strong quals (density .gq)));
+      ahead-is = rw (add-one end) (omega (arith, count-in end (strong quals (density .gq .0)) t, x .ahead-is));
+      last-is = rw (add-one end) (sym (past-in end (strong quals (density .gq .0)) t));
+      until-in = omega (arith, x .until-in, x .last-is, past-le end (strong quals (density .gq .0)));
       within = within-on;
     }
 
-    pub window-weak : strong quals (density .gq) end ≡ false → WindowAt w s quals density v (record { end = end + 1; ahead = ahead; last = last; until = until })
+    pub window-weak : strong quals (density .gq .0) end ≡ false → WindowAt w s quals density v (record { end = end + 1; ahead = ahead; last = last; until = until })
     window-weak t = record {
       end-in = omega arith;
-      ahead-is = rw (add-one end) (omega (arith, count-out end (strong quals (density .gq)) t, x .ahead-is));
-      last-is = rw (add-one end) (x .last-is ∙ sym (past-out end (strong quals (density .gq)) t));
+      ahead-is = rw (add-one end) (omega (arith, count-out end (strong quals (density .gq .0)) t, x .ahead-is));
+      last-is = rw (add-one end) (x .last-is ∙ sym (past-out end (strong quals (density .gq .0)) t));
       until-in = x .until-in;
       within = within-on;
     }
@@ -96,25 +94,25 @@ module _ {w : List ℤ} {s : Sizes} {quals : List Float} {density : DensityParam
 
   -- a strong v is among those ahead, and is taken off them
   module _ {v : ℕ} {x : Window} (accepted : CaseIn w s) (h : v < s .n) (at : WindowAt w s quals density v x) (ends : WindowEnd w s quals density v x) where
-    pub ahead-some : strong quals (density .gq) v ≡ true → 1 ≤ x .ahead
-    ahead-some t = omega (arith, at .ahead-is, count-in v (strong quals (density .gq)) t, count-le (strong quals (density .gq)) (suc v) (x .end) (window-past accepted h ends))
+    pub ahead-some : strong quals (density .gq .0) v ≡ true → 1 ≤ x .ahead
+    ahead-some t = omega (arith, at .ahead-is, count-in v (strong quals (density .gq .0)) t, count-le (strong quals (density .gq .0)) (suc v) (x .end) (window-past accepted h ends))
 
     within-later : (i m : ℕ) → suc v ≤ i → i ≤ m → m < x .end → pos0At w m ≤ pos0At w i + density .len
     within-later i m a b l = at .within i m (omega arith) b l
 
-    pub visited-weak : strong quals (density .gq) v ≡ false → WindowAt w s quals density (suc v) x
+    pub visited-weak : strong quals (density .gq .0) v ≡ false → WindowAt w s quals density (suc v) x
     visited-weak t = record {
       end-in = at .end-in;
-      ahead-is = omega (arith, at .ahead-is, count-out v (strong quals (density .gq)) t);
+      ahead-is = omega (arith, at .ahead-is, count-out v (strong quals (density .gq .0)) t);
       last-is = at .last-is;
       until-in = at .until-in;
       within = within-later;
     }
 
-    pub visited-strong : strong quals (density .gq) v ≡ true → (until : ℕ) → until ≤ x .last → WindowAt w s quals density (suc v) (record { end = x .end; ahead = x .ahead - 1; last = x .last; until = until })
+    pub visited-strong : strong quals (density .gq .0) v ≡ true → (until : ℕ) → until ≤ x .last → WindowAt w s quals density (suc v) (record { end = x .end; ahead = x .ahead - 1; last = x .last; until = until })
     visited-strong t until l = record {
       end-in = at .end-in;
-      ahead-is = omega (arith, at .ahead-is, count-in v (strong quals (density .gq)) t, ahead-some t);
+      ahead-is = omega (arith, at .ahead-is, count-in v (strong quals (density .gq .0)) t, ahead-some t);
       last-is = at .last-is;
       until-in = l;
       within = within-later;
@@ -125,10 +123,10 @@ module _ {w : List ℤ} {s : Sizes} {quals : List Float} {density : DensityParam
     grown : x .until ≤ y .last
     grown = omega (arith, to .kept, to .window .until-in)
 
-    pub slid-weak : strong quals (density .gq) v ≡ false → Slid w s quals density v x y
+    pub slid-weak : strong quals (density .gq .0) v ≡ false → Slid w s quals density v x y
     slid-weak t = record { window = visited-weak accepted h (to .window) (to .ends) t; ends = to .ends; grows = grown; marks = rw t (to .kept) }
 
-    pub slid-few : strong quals (density .gq) v ≡ true → y .ahead - 1 ≤ density .n → Slid w s quals density v x (record { end = y .end; ahead = y .ahead - 1; last = y .last; until = y .until })
+    pub slid-few : strong quals (density .gq .0) v ≡ true → y .ahead - 1 ≤ density .n → Slid w s quals density v x (record { end = y .end; ahead = y .ahead - 1; last = y .last; until = y .until })
     slid-few t l = record {
       window = visited-strong accepted h (to .window) (to .ends) t (y .until) (to .window .until-in);
       ends = record { near = to .ends .near; beyond = to .ends .beyond };
@@ -136,7 +134,7 @@ module _ {w : List ℤ} {s : Sizes} {quals : List Float} {density : DensityParam
       marks = rw (t, le-ltb (density .n) (y .ahead - 1) l) (to .kept);
     }
 
-    pub slid-marks : strong quals (density .gq) v ≡ true → density .n < y .ahead - 1 → Slid w s quals density v x (record { end = y .end; ahead = y .ahead - 1; last = y .last; until = y .last })
+    pub slid-marks : strong quals (density .gq .0) v ≡ true → density .n < y .ahead - 1 → Slid w s quals density v x (record { end = y .end; ahead = y .ahead - 1; last = y .last; until = y .last })
     slid-marks t l = record {
       window = visited-strong accepted h (to .window) (to .ends) t (y .last) (le-refl _);
       ends = record { near = to .ends .near; beyond = to .ends .beyond };

@@ -46,7 +46,7 @@ pub record Limits : Type 0 where
 
 abbrev pub limitsOf : DensityParameters → ℕ → Limits
 limitsOf density depth = record {
-  density-qual = density .gq;
+  density-qual = density .gq .0;
   density-dist = density .len;
   density-count = density .n;
   max-depth = depth;

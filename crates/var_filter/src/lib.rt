@@ -4,30 +4,29 @@ ghost use mathlib.Core.List.{List};
 ghost use Prim.Native.Nat.{ℕ, _≤_, _<_};
 ghost use lib.ListN.{length};
 ghost use Rattle.variants_and_fragments.specs.Inner.Accepted.{CaseIn};
+ghost use Rattle.variants_and_fragments.specs.Refusals.{outcomeOf};
 ghost use Rattle.variants_and_fragments.specs.Decode.{decode};
 ghost use Rattle.variants_and_fragments.specs.Written.{written};
 ghost use Rattle.var_filter.specs.Filter.{filterValue, joinedReasons, limitsOf, filterOf};
 ghost use Rattle.var_filter.specs.Inner.FilterWindow.{WindowAt, Extended, Slid};
 ghost use Rattle.var_filter.specs.Filtered.{isFinite, VarFiltered};
+use steps::PHREDProb;
+use variants_and_fragments::Answered;
 use variants_and_fragments::Checked;
 use variants_and_fragments::Refusal;
 use variants_and_fragments::Sizes;
 use variants_and_fragments::VarFilter;
 use variants_and_fragments::check_case;
+use variants_and_fragments::earlier;
 use variants_and_fragments::layout::depth_of;
 use variants_and_fragments::layout::pos0_of;
+use variants_and_fragments::short_of;
 
 // When variants stand too close: more than n others of quality gq or more within len bases.
 pub struct DensityParameters {
     pub n: u32,
     pub len: u32,
-    pub gq: f64,
-}
-
-// The answer of var_filter.
-pub enum Filtered {
-    Done,
-    Refused(Refusal),
+    pub gq: PHREDProb,
 }
 
 // The number of a filter.
@@ -63,11 +62,11 @@ pub fn join_reasons(dense: bool, deep: bool) -> VarFilter
 }
 
 // x is neither NaN nor infinite.
-pub fn is_finite(x: f64) -> bool
-    ensures { λ r. ⌜ r ≡ isFinite x ⌝ }
+pub fn is_finite(x: PHREDProb) -> bool
+    ensures { λ r. ⌜ r ≡ isFinite (x .0) ⌝ }
 {
     let top = 1.0 / 0.0;
-    x < top && -top < x
+    x.0 < top && -top < x.0
 }
 
 // A window that slides along the variants: end is the first variant past it, ahead says how many of it are strong and still to be
@@ -109,7 +108,7 @@ pub fn extend_window(
         }
         let q = quals[end];
         end += 1;
-        if !(q < density.gq) {
+        if !(q < density.gq.0) {
             ahead += 1;
             last = end;
         }
@@ -139,7 +138,7 @@ pub fn slide_window(
 {
     let y = extend_window(words, s, quals, density, v, x);
     let q = quals[v];
-    if q < density.gq {
+    if q < density.gq.0 {
         return y;
     }
     let ahead = y.ahead - 1;
@@ -200,25 +199,23 @@ pub fn var_filter(
     density: DensityParameters,
     max_depth: u32,
     filters: &mut [u8],
-) -> Filtered
-    ensures { λ r. ⌜ VarFiltered (now (words .entry)) (now (bases .entry)) (now (quals .entry)) (limitsOf density «max_depth») (now (filters .entry)) r (now (filters .exit)) ⌝ }
+) -> Answered
+    ensures { λ r. ⌜ VarFiltered (now (words .entry)) (now (bases .entry)) (now (quals .entry)) (limitsOf density «max_depth») (now (filters .entry)) (outcomeOf r) (now (filters .exit)) ⌝ }
 {
     let checked = check_case(words, bases);
     match checked {
-        Checked::Refused(x) => Filtered::Refused(x),
+        Checked::Refused(x) => Answered::Refused(x),
         Checked::Accepted(s) => {
             let n = s.n;
-            if quals.len() < n {
-                return Filtered::Refused(Refusal::Short(n));
-            }
-            if filters.len() < n {
-                return Filtered::Refused(Refusal::Short(n));
+            let short = earlier(short_of(n, quals.len()), short_of(n, filters.len()));
+            if short != 0 {
+                return Answered::Refused(Refusal::Short(short));
             }
             if !is_finite(density.gq) {
-                return Filtered::Refused(Refusal::DensityQual(0));
+                return Answered::Refused(Refusal::DensityQual(0));
             }
             write_filters(words, s, quals, density, max_depth, filters);
-            Filtered::Done
+            Answered::Done
         }
     }
 }

@@ -1,4 +1,4 @@
--- Where the allele bytes of a variant start, and the place of a fault under 3, case by case.
+-- Where the allele bytes of a variant start, and that each byte is a base.
 -- Assumes nothing.
 use mathlib.Core.Path.{_≡_, subst}
 use mathlib.Core.Bool.{true}
@@ -7,25 +7,11 @@ use Prim.Native.Nat.{ℕ, zero, suc, _+_, _-_, _≤_, _<_}
 use native.Mathlib.Nat.{le-refl}
 use native.Mathlib.Omega.{arith}
 use native.Mathlib.Numerals.{add-one}
-use native.Mathlib.Decide.{decLt, ℕ-discrete}
-use borrow.Author.Tests.{lt-ltb, le-ltb, eq-eqb, ne-eqb, eqb-true}
+use native.Mathlib.Decide.{decLt}
 use lib.ListN.{getD}
 use lib.IntN.{ℤ}
-use Rattle.variants_and_fragments.specs.First.{firstFail}
-use Rattle.variants_and_fragments.specs.Alleles.{allelesLength, allelesStart, isBase, baseOkAt, allelesOk, allelesFaultAt}
-use Rattle.variants_and_fragments.proofs.First.{first-all}
-
-pub bases-len : (len all v n : ℕ) → (len ≡ all → ⊥) → n ≡ allelesFaultAt len all v n
-unfolding allelesFaultAt
-bases-len len all v n h = simp (ne-eqb _ _ h)
-
-pub bases-at : (len all v n : ℕ) → len ≡ all → v < n → v ≡ allelesFaultAt len all v n
-unfolding allelesFaultAt
-bases-at len all v n h l = simp (eq-eqb _ _ h, lt-ltb _ _ l)
-
-pub bases-none : (len all v n : ℕ) → len ≡ all → n ≤ v → n + 1 ≡ allelesFaultAt len all v n
-unfolding allelesFaultAt
-bases-none len all v n h l = simp (eq-eqb _ _ h, le-ltb _ _ l)
+use Rattle.variants_and_fragments.specs.Alleles.{allelesLength, allelesStart, isBase, baseOkAt, allelesOk}
+use Rattle.variants_and_fragments.proofs.First.{all-below}
 
 pub off-on : (w : List ℤ) (v : ℕ) → allelesStart w v + allelesLength w v ≡ allelesStart w (v + 1)
 unfolding allelesStart
@@ -39,16 +25,6 @@ off-add w v (suc d) = let e : v + suc d ≡ suc (v + d) = omega arith in rw e (o
 pub off-le : (w : List ℤ) (v n : ℕ) → v ≤ n → allelesStart w v ≤ allelesStart w n
 off-le w v n h = let e : v + (n - v) ≡ n = omega arith in rw e at (off-add w v (n - v))
 
-pub bases-past : (len all v n : ℕ) → v ≤ n → n + 1 ≤ allelesFaultAt len all v n → (len ≡ all) × (n ≤ v)
-unfolding allelesFaultAt
-bases-past len all v n q h = elim (ℕ-discrete len all) [
-  | yes e ↦ elim (decLt v n) [
-    | yes l ↦ let z : n + 1 ≤ v = rw (eq-eqb len all e, lt-ltb v n l) at h in absurd (omega arith)
-    | no l ↦ (e, omega arith)
-  ]
-  | no e ↦ let z : n + 1 ≤ n = rw (ne-eqb len all e) at h in absurd (omega arith)
-]
-
 -- where each variant's bytes are bases, each byte is one
 pub base-at : (w : List ℤ) (b : List ℕ) (n : ℕ) → ((v : ℕ) → v < n → allelesOk w b v ≡ true) → (i : ℕ) → i < allelesStart w n → isBase (getD b i 0) ≡ true
 unfolding allelesStart allelesOk
@@ -56,7 +32,6 @@ base-at w b zero h i l = absurd (omega arith)
 base-at w b (suc n) h i l = elim (decLt i (allelesStart w n)) [
   | yes m ↦ base-at w b n (λ v k. h v (omega arith)) i m
   | no m ↦
-      let e : firstFail (baseOkAt b (allelesStart w n)) (allelesLength w n) ≡ allelesLength w n = eqb-true _ _ (h n (omega arith)) in
       let q : allelesStart w n + (i - allelesStart w n) ≡ i = omega arith in
-      subst (λ (x : ℕ). isBase (getD b x 0) ≡ true) q (first-all (baseOkAt b (allelesStart w n)) (allelesLength w n) (omega (arith, e)) (i - allelesStart w n) (omega arith))
+      subst (λ (x : ℕ). isBase (getD b x 0) ≡ true) q (all-below (baseOkAt b (allelesStart w n)) (allelesLength w n) (h n (omega arith)) (i - allelesStart w n) (omega arith))
 ]

@@ -25,6 +25,11 @@ pub both : (a b : Bool) → (a && b) ≡ true → (a ≡ true) × (b ≡ true)
 both true b h = (refl, h)
 both false b h = true-false h refl
 
+-- what follows a test that holds may go by it
+pub and-when : (a b c : Bool) → (a ≡ true → b ≡ c) → (a && b) ≡ (a && c)
+and-when true b c h = h refl
+and-when false b c h = refl
+
 pub or-off : (a b : Bool) → (a || b) ≡ false → (a ≡ false) × (b ≡ false)
 or-off true b h = true-false refl h
 or-off false b h = (refl, h)

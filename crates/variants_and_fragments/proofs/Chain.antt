@@ -1,72 +1,90 @@
--- The tests of a link and of a fragment, and the place of a fault under 5, case by case.
+-- The tests of a link and of a fragment, case by case, and where a chain starts.
 -- Assumes nothing.
-use mathlib.Core.Path.{_≡_, refl, sym}
+use mathlib.Core.Path.{_≡_, refl}
 use mathlib.Core.Bool.{Bool, true, false, cond, _&&_}
 use Prim.Native.Nat.{ℕ, zero, suc, _+_, _≤_, _<_}
 use native.Mathlib.Omega.{arith}
 use native.Mathlib.Decide.{decLt}
 use mathlib.Core.List.{List, [], _∷_}
-use lib.IntN.{ℤ}
-use lib.Dec.{leb, ltb}
-use borrow.Author.Tests.{lt-ltb, le-ltb, le-leb, lt-leb, eq-eqb, ne-eqb, leb-true}
+use lib.IntN.{ℤ, pos}
+use lib.Dec.{leb, ltb, lit<}
+use borrow.Author.Tests.{lt-ltb, le-leb, lt-leb, eq-eqb, ne-eqb, leb-true, ltb-true}
 use Rattle.variants_and_fragments.specs.declared.Sizes.{Sizes}
-use Rattle.variants_and_fragments.specs.Chain.{firstCallAt, nextCallAt, chainFrom, isRecord, fragmentTest, chainFaultAt, linkTest}
+use Rattle.variants_and_fragments.specs.Words.{within}
+use Rattle.variants_and_fragments.specs.Layout.{maxCalls, firstField, strandField, nextField, fragmentWord, callWord, callVariantAt}
+use Rattle.variants_and_fragments.specs.Chain.{firstCallAt, strandAt, nextCallAt, chainFrom, chainOf, isRecord, reached, linkOk, goodChain, fragmentOk}
 use Rattle.variants_and_fragments.specs.Inner.Chain.{firstRecordAt}
 use Rattle.variants_and_fragments.specs.Inner.Accepted.{allb}
 use Rattle.variants_and_fragments.proofs.Bools.{both}
+use Rattle.variants_and_fragments.proofs.Ranges.{upto-nat, within-top}
 
-pub link-end : (c r t v u : ℕ) → t ≡ 0 → true ≡ linkTest c r t v u
-unfolding linkTest
-link-end c r t v u e = simp (eq-eqb _ _ e)
+-- ---- a link
+module _ (w : List ℤ) (s : Sizes) (r : ℕ) where
+  -- a right one leads to zero or to a record, which is at a variant above
+  pub link-top : linkOk w s r ≡ true → nextCallAt w s r ≤ s .c
+  unfolding linkOk
+  link-top h = within-top 0 (s .c) (callWord w s r nextField) (both (within (pos 0) (pos (s .c)) (callWord w s r nextField)) _ h .0)
 
-pub link-over : (c r t v u : ℕ) → (t ≡ 0 → ⊥) → c < t → false ≡ linkTest c r t v u
-unfolding linkTest
-link-over c r t v u n h = simp (ne-eqb _ _ n, lt-leb _ _ h)
+  pub next-rises : linkOk w s r ≡ true → 1 ≤ nextCallAt w s r → callVariantAt w s r < callVariantAt w s (nextCallAt w s r)
+  unfolding linkOk
+  next-rises h l =
+      let t = nextCallAt w s r in
+      let up : Bool = ltb (callVariantAt w s r) (callVariantAt w s t) in
+      let k : (ltb r t && up) ≡ true = rw (ne-eqb t 0 (λ e. omega arith)) at (both (within (pos 0) (pos (s .c)) (callWord w s r nextField)) _ h .1) in
+      ltb-true _ _ (both (ltb r t) up k .1)
 
-pub link-in : (c r t v u : ℕ) → (t ≡ 0 → ⊥) → t ≤ c → (ltb r t && ltb v u) ≡ linkTest c r t v u
-unfolding linkTest
-link-in c r t v u n h = simp (ne-eqb _ _ n, le-leb _ _ h)
+  module _ (top : s .c ≤ maxCalls) where
+    next-in : within (pos 0) (pos (s .c)) (callWord w s r nextField) ≡ leb (nextCallAt w s r) (s .c)
+    next-in = upto-nat (s .c) (callWord w s r nextField) (omega arith)
 
--- a next that is the record after r is above r
-pub link-after-over : (c r t v u : ℕ) → t ≡ r + 1 → c < r + 1 → false ≡ linkTest c r t v u
-link-after-over c r t v u e h = link-over c r t v u (λ z. omega arith) (omega arith)
+    pub link-end : nextCallAt w s r ≡ 0 → true ≡ linkOk w s r
+    unfolding linkOk
+    link-end e = simp (next-in, le-leb (nextCallAt w s r) (s .c) (omega arith), eq-eqb (nextCallAt w s r) 0 e)
 
-pub link-after : (c r t v u : ℕ) → t ≡ r + 1 → r + 1 ≤ c → ltb v u ≡ linkTest c r t v u
-link-after c r t v u e h = let above : r < t = omega arith in rw (sym (link-in c r t v u (λ z. omega arith) (omega arith)), lt-ltb _ _ above) refl
+    pub link-over : s .c < nextCallAt w s r → false ≡ linkOk w s r
+    unfolding linkOk
+    link-over h = simp (next-in, lt-leb (nextCallAt w s r) (s .c) h)
 
-pub frag-strand : (t c a : ℕ) (g : Bool) → 1 < t → false ≡ fragmentTest t c a g
-unfolding fragmentTest
-frag-strand t c a g h = simp (lt-leb _ _ h)
+    pub link-in : (nextCallAt w s r ≡ 0 → ⊥) → nextCallAt w s r ≤ s .c → (ltb r (nextCallAt w s r) && ltb (callVariantAt w s r) (callVariantAt w s (nextCallAt w s r))) ≡ linkOk w s r
+    unfolding linkOk
+    link-in n h = simp (next-in, le-leb (nextCallAt w s r) (s .c) h, ne-eqb (nextCallAt w s r) 0 n)
 
-pub frag-first : (t c a : ℕ) (g : Bool) → t ≤ 1 → c < a → false ≡ fragmentTest t c a g
-unfolding fragmentTest
-frag-first t c a g h k = simp (le-leb _ _ h, lt-leb _ _ k)
+    -- a next that is the record after r is above r
+    pub link-after : nextCallAt w s r ≡ r + 1 → r + 1 ≤ s .c → ltb (callVariantAt w s r) (callVariantAt w s (nextCallAt w s r)) ≡ linkOk w s r
+    link-after e h = let above : r < nextCallAt w s r = omega arith in rw (← link-in (λ z. omega arith) (omega arith), lt-ltb r (nextCallAt w s r) above) refl
 
-pub frag-in : (t c a : ℕ) (g : Bool) → t ≤ 1 → a ≤ c → g ≡ fragmentTest t c a g
-unfolding fragmentTest
-frag-in t c a g h k = simp (le-leb _ _ h, le-leb _ _ k)
+-- ---- a fragment
+module _ (w : List ℤ) (s : Sizes) (f : ℕ) where
+  pub record FragmentTests : Type 0 where
+    pub strand-in : strandAt w s f ≤ 1
+    pub first-in : firstCallAt w s f ≤ s .c
+    pub right : goodChain w s (reached w s f) (chainOf w s f) ≡ true
 
-pub place-frag : (p n i c : ℕ) → p < n → p ≡ chainFaultAt p n i c
-unfolding chainFaultAt
-place-frag p n i c h = simp (lt-ltb _ _ h)
+  pub fragment-tests : fragmentOk w s f ≡ true → FragmentTests
+  unfolding fragmentOk
+  fragment-tests h =
+      let a = both (within (pos 0) (pos 1) (fragmentWord w s f strandField)) _ h in
+      let b = both (within (pos 0) (pos (s .c)) (fragmentWord w s f firstField)) (goodChain w s (reached w s f) (chainOf w s f)) (a .1) in
+      record { strand-in = within-top 0 1 _ (a .0); first-in = within-top 0 (s .c) _ (b .0); right = b .1 }
 
-pub place-free : (p n i c : ℕ) → n ≤ p → i < c → n ≡ chainFaultAt p n i c
-unfolding chainFaultAt
-place-free p n i c h k = simp (le-ltb _ _ h, lt-ltb _ _ k)
+  strand-test : within (pos 0) (pos 1) (fragmentWord w s f strandField) ≡ leb (strandAt w s f) 1
+  strand-test = upto-nat 1 (fragmentWord w s f strandField) (lit< tt)
 
-pub place-none : (p n i c : ℕ) → n ≤ p → c ≤ i → n + 1 ≡ chainFaultAt p n i c
-unfolding chainFaultAt
-place-none p n i c h k = simp (le-ltb _ _ h, le-ltb _ _ k)
+  pub frag-strand : 1 < strandAt w s f → false ≡ fragmentOk w s f
+  unfolding fragmentOk
+  frag-strand h = simp (strand-test, lt-leb (strandAt w s f) 1 h)
 
-pub place-past : (p n i c : ℕ) → p ≤ n → n + 1 ≤ chainFaultAt p n i c → (n ≤ p) × (c ≤ i)
-unfolding chainFaultAt
-place-past p n i c q h = elim (decLt p n) [
-  | yes l ↦ let z : n + 1 ≤ p = rw (lt-ltb p n l) at h in absurd (omega arith)
-  | no l ↦ let m : n ≤ p = omega arith in elim (decLt i c) [
-    | yes k ↦ let z : n + 1 ≤ n = rw (le-ltb p n m, lt-ltb i c k) at h in absurd (omega arith)
-    | no k ↦ (m, omega arith)
-  ]
-]
+  module _ (top : s .c ≤ maxCalls) (strand-in : strandAt w s f ≤ 1) where
+    first-test : within (pos 0) (pos (s .c)) (fragmentWord w s f firstField) ≡ leb (firstCallAt w s f) (s .c)
+    first-test = upto-nat (s .c) (fragmentWord w s f firstField) (omega arith)
+
+    pub frag-first : s .c < firstCallAt w s f → false ≡ fragmentOk w s f
+    unfolding fragmentOk
+    frag-first h = simp (strand-test, le-leb (strandAt w s f) 1 strand-in, first-test, lt-leb (firstCallAt w s f) (s .c) h)
+
+    pub frag-in : firstCallAt w s f ≤ s .c → goodChain w s (reached w s f) (chainOf w s f) ≡ fragmentOk w s f
+    unfolding fragmentOk
+    frag-in h = simp (strand-test, le-leb (strandAt w s f) 1 strand-in, first-test, le-leb (firstCallAt w s f) (s .c) h)
 
 -- ---- where a chain starts
 pub first-none : (w : List ℤ) (s : Sizes) (f : ℕ) → s .c < firstCallAt w s f → 0 ≡ firstRecordAt w s f

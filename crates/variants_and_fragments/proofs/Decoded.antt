@@ -5,22 +5,19 @@ use mathlib.Core.List.{List, [], map}
 use Prim.Native.Nat.{ℕ, zero, suc, _+_, _≤_, _<_}
 use native.Mathlib.Omega.{arith}
 use native.Mathlib.Nat.{add-zero, add-suc, suc-add}
-use borrow.Author.Tests.{lt-ltb, le-ltb, le-leb}
-use lib.Dec.{ltb, leb·suc-suc}
 use lib.IntN.{ℤ, pos, negsuc, negℤ}
 use lib.ListN.{length, getD, length-drop}
 use lib.Seq.{length-take-le, getD-take, getD-drop}
-use lib.Signed.{ltZ}
 use Rattle.variants_and_fragments.specs.declared.Sizes.{Sizes}
-use Rattle.variants_and_fragments.specs.Inner.Sums.{DownTo}
-use Rattle.variants_and_fragments.specs.Case.{Variant, Fragment, alleleCount, alleleOf, usable, variantOf, fragmentOf, noVariant, noFragment}
-use Rattle.variants_and_fragments.specs.Words.{none, natOf, debtOf}
-use Rattle.variants_and_fragments.specs.Layout.{sizesOf, pos0At, depthAt, genotypeAt, alleleCountAt, lengthAt, qualAt, cutoffAt}
+use Rattle.variants_and_fragments.specs.Case.{Variant, Fragment, alleleCount, alleleOf, variantOf, fragmentOf, noVariant, noFragment}
+use Rattle.variants_and_fragments.specs.Words.{none}
+use Rattle.variants_and_fragments.specs.Inner.Words.{debtOf}
+use Rattle.variants_and_fragments.specs.Layout.{sizesOf, pos0At, depthAt, genotypeAt, alleleCountAt, lengthAt, cutoffAt}
 use Rattle.variants_and_fragments.specs.Chain.{strandAt, chainOf}
 use Rattle.variants_and_fragments.specs.Alleles.{allelesLength, allelesStart}
 use Rattle.variants_and_fragments.proofs.AlleleBytes.{off-on, off-le}
 use Rattle.variants_and_fragments.proofs.Tabulated.{table-length}
-use Rattle.variants_and_fragments.specs.Inner.Accepted.{CallIn, CaseIn, BasesIn}
+use Rattle.variants_and_fragments.specs.Inner.Accepted.{CaseIn, BasesIn}
 use Rattle.variants_and_fragments.specs.Decode.{tabulateFrom, tabulate, alleleStart, alleleAt, variantFrom, callFrom, fragmentFrom, decode}
 
 from-at : {X : Type 0} (g : ℕ → X) (i n k : ℕ) (d : X) → k < n → getD (tabulateFrom g i n) k d ≡ g (i + k)
@@ -51,33 +48,11 @@ pub fragment-is : (w : List ℤ) (b : List ℕ) (f : ℕ) → f < sizesOf w .f �
 unfolding decode
 fragment-is w b f h = tabulate-at _ _ f noFragment h
 
--- ---- signed words: how far below 0
-pub debt-down : (n : ℕ) (x : ℤ) → n < none → debtOf x ≤ n → DownTo n x
-debt-down zero (pos zero) l h = record { low = refl; high = refl }
-debt-down (suc n) (pos zero) l h = record { low = refl; high = refl }
-debt-down n (pos (suc m)) l h = absurd (omega arith)
-debt-down zero (negsuc m) l h = absurd (omega arith)
-debt-down (suc n) (negsuc m) l h = record { low = le-leb m n (omega arith); high = refl }
-
--- a word is its number, or what it lacks to 0 taken from 0
-pub nat-is : (x : ℤ) → natOf x < none → x ≡ pos (natOf x)
-nat-is (pos n) h = refl
-nat-is (negsuc n) h = absurd (omega arith)
-
+-- ---- a word that is not above 0 is 0 less how far it lies below 0
 pub debt-is : (x : ℤ) → debtOf x < none → x ≡ negℤ (pos (debtOf x))
 debt-is (pos zero) h = refl
 debt-is (pos (suc n)) h = absurd (omega arith)
 debt-is (negsuc n) h = refl
-
--- a number is below another exactly when it lies further below 0
-pub debt-less : (x y : ℤ) → debtOf x < none → debtOf y < none → ltZ x y ≡ ltb (debtOf y) (debtOf x)
-debt-less (pos zero) (pos zero) h k = refl
-debt-less (pos zero) (negsuc m) h k = sym (le-ltb (suc m) 0 (omega arith))
-debt-less (negsuc n) (pos zero) h k = sym (lt-ltb 0 (suc n) (omega arith))
-debt-less (negsuc n) (negsuc m) h k = sym (leb·suc-suc (suc m) n)
-debt-less (pos (suc n)) y h k = absurd (omega arith)
-debt-less (pos zero) (pos (suc m)) h k = absurd (omega arith)
-debt-less (negsuc n) (pos (suc m)) h k = absurd (omega arith)
 
 -- ---- the items of an accepted case
 pub cutoff-is : (w : List ℤ) (b : List ℕ) → decode w b .cutoff ≡ cutoffAt w
@@ -95,13 +70,6 @@ allele-within w v (suc (suc (suc j))) h = absurd (omega arith)
 module _ {w : List ℤ} {s : Sizes} (k : CaseIn w s) where
   pub sizes-are : sizesOf w ≡ s
   sizes-are = sym (k .shape)
-
-  -- a call of a record in range is usable exactly when it lies further below 0 than the cutoff
-  pub usable-is : (fragment : Fragment) (r : ℕ) → CallIn w s r → usable (cutoffAt w) fragment (callFrom w s r) ≡ ltb (s .cut) (debtOf (qualAt w s r))
-  unfolding usable callFrom
-  usable-is fragment r i =
-      let e : s .cut ≡ debtOf (cutoffAt w) = ap (λ (t : Sizes). t .cut) (k .shape) in
-      rw e (debt-less (qualAt w s r) (cutoffAt w) (omega (arith, i .qual-in)) (omega (arith, k .cut-in)))
 
 module _ {w : List ℤ} {s : Sizes} (k : CaseIn w s) (b : List ℕ) where
   pub variants-are : length (decode w b .variants) ≡ s .n

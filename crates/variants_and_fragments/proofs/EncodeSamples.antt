@@ -5,15 +5,15 @@ use mathlib.Core.List.{[], _∷_, _++_}
 use Prim.Native.Nat.{ℕ}
 use lib.IntN.{ℤ, pos, negℤ}
 use lib.ListN.{replicate}
-use Rattle.variants_and_fragments.specs.Refusals.{done, stop}
-use Rattle.variants_and_fragments.specs.Words.{within}
-use Rattle.variants_and_fragments.specs.First.{firstFailFrom, firstFail, firstFalse}
+use Rattle.variants_and_fragments.specs.Refusals.{done, unless, each}
+use Rattle.variants_and_fragments.specs.Words.{within, below}
+use Rattle.variants_and_fragments.specs.First.{firstFailFrom, firstFail, holdsBelow}
 use Rattle.variants_and_fragments.specs.Sums.{countOver}
 use Rattle.variants_and_fragments.specs.Case.{Case, Fragment}
-use Rattle.variants_and_fragments.specs.Layout.{headFault, variantOk, callOk}
-use Rattle.variants_and_fragments.specs.Chain.{linkTest, chainFrom, chainOf, memb, pushAll, reached, goodChain, fragmentTest, isReached, chainFaultAt}
-use Rattle.variants_and_fragments.specs.Alleles.{allelesStart, allelesOk, allelesFaultAt}
-use Rattle.variants_and_fragments.specs.Check.{caseOf}
+use Rattle.variants_and_fragments.specs.Layout.{variantOk, callOk}
+use Rattle.variants_and_fragments.specs.Chain.{chainFrom, chainOf, memb, reached, linkOk, goodChain, fragmentOk, isReached}
+use Rattle.variants_and_fragments.specs.Alleles.{allelesStart, allelesOk}
+use Rattle.variants_and_fragments.specs.Check.{checkCaseOutcome}
 use Rattle.variants_and_fragments.specs.Decode.{tabulateFrom, alleleStart, alleleAt, variantFrom, callFrom, fragmentFrom, decode}
 use Rattle.variants_and_fragments.specs.Encode.{encodeWords, encodeBases}
 
@@ -29,8 +29,8 @@ pub empty-decoded : decode (encodeWords empty-case) (encodeBases empty-case) ≡
 unfolding decode tabulateFrom encodeWords encodeBases countOver
 empty-decoded = refl
 
-pub empty-accepted : caseOf (encodeWords empty-case) (encodeBases empty-case) ≡ done (record { n = 0; f = 0; c = 0; cut = 2000 })
-unfolding encodeWords encodeBases countOver caseOf stop within headFault firstFalse firstFail firstFailFrom chainFaultAt allelesFaultAt allelesStart isReached reached
+pub empty-accepted : checkCaseOutcome (encodeWords empty-case) (encodeBases empty-case) ≡ done (record { n = 0; f = 0; c = 0; cutoff = neg 2000 })
+unfolding encodeWords encodeBases countOver checkCaseOutcome unless each within firstFailFrom firstFail holdsBelow allelesStart isReached reached
 empty-accepted = refl
 
 -- an SNV A/G, then an indel A/AC/G with three alleles; one fragment calls both, one the second only
@@ -57,8 +57,8 @@ pub small-decoded : decode (encodeWords small-case) (encodeBases small-case) ≡
 unfolding decode tabulateFrom variantFrom alleleAt alleleStart allelesStart fragmentFrom callFrom chainOf chainFrom encodeWords encodeBases countOver
 small-decoded = refl
 
-pub small-accepted : caseOf (encodeWords small-case) (encodeBases small-case) ≡ done (record { n = 2; f = 2; c = 3; cut = 2000 })
-unfolding encodeWords encodeBases countOver caseOf stop within headFault firstFalse firstFail firstFailFrom variantOk callOk linkTest chainFrom chainOf memb pushAll reached goodChain fragmentTest isReached chainFaultAt allelesStart allelesOk allelesFaultAt
+pub small-accepted : checkCaseOutcome (encodeWords small-case) (encodeBases small-case) ≡ done (record { n = 2; f = 2; c = 3; cutoff = neg 2000 })
+unfolding encodeWords encodeBases countOver checkCaseOutcome unless each within below firstFailFrom firstFail holdsBelow variantOk callOk linkOk chainFrom chainOf memb reached goodChain fragmentOk isReached allelesStart allelesOk
 small-accepted = refl
 
 -- as many fragments of one call as 01's sample (j) has: 113 reads each of A and G
@@ -76,6 +76,6 @@ pub reads-decoded : decode (encodeWords reads-case) (encodeBases reads-case) ≡
 unfolding decode tabulateFrom variantFrom alleleAt alleleStart allelesStart fragmentFrom callFrom chainOf chainFrom encodeWords encodeBases countOver
 reads-decoded = refl
 
-pub reads-accepted : caseOf (encodeWords reads-case) (encodeBases reads-case) ≡ done (record { n = 1; f = 226; c = 226; cut = 2000 })
-unfolding encodeWords encodeBases countOver caseOf stop within headFault firstFalse firstFail firstFailFrom variantOk callOk linkTest chainFrom chainOf memb pushAll reached goodChain fragmentTest isReached chainFaultAt allelesStart allelesOk allelesFaultAt
+pub reads-accepted : checkCaseOutcome (encodeWords reads-case) (encodeBases reads-case) ≡ done (record { n = 1; f = 226; c = 226; cutoff = neg 2000 })
+unfolding encodeWords encodeBases countOver checkCaseOutcome unless each within below firstFailFrom firstFail holdsBelow variantOk callOk linkOk chainFrom chainOf memb reached goodChain fragmentOk isReached allelesStart allelesOk
 reads-accepted = refl

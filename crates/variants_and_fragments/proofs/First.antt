@@ -5,11 +5,13 @@ use mathlib.Core.Bool.{Bool, true, false, cond}
 use Prim.Native.Nat.{ℕ, zero, suc, _+_, _≤_, _<_}
 use native.Mathlib.Omega.{arith}
 use native.Mathlib.Decide.{decLt, ℕ-discrete}
+use borrow.Author.Tests.{eq-eqb, ne-eqb, eqb-true}
 use mathlib.Core.List.{List, [], _∷_}
 use lib.ListN.{length, getD}
-use Rattle.variants_and_fragments.specs.First.{firstFailFrom, firstFail, firstFalse}
+use Rattle.variants_and_fragments.specs.First.{firstFailFrom, firstFail, holdsBelow}
+use Rattle.variants_and_fragments.specs.Inner.First.{firstFalse}
 
-from-is : (p : ℕ → Bool) (i k r : ℕ) → i ≤ r → r ≤ i + k → ((j : ℕ) → i ≤ j → j < r → p j ≡ true) → (r < i + k → p r ≡ false) → r ≡ firstFailFrom p i k
+pub from-is : (p : ℕ → Bool) (i k r : ℕ) → i ≤ r → r ≤ i + k → ((j : ℕ) → i ≤ j → j < r → p j ≡ true) → (r < i + k → p r ≡ false) → r ≡ firstFailFrom p i k
 unfolding firstFailFrom
 from-is p i zero r a b good bad = omega arith
 from-is p i (suc k) r a b good bad = elim (decLt i r) [
@@ -48,7 +50,7 @@ pub first-le : (p : ℕ → Bool) (n : ℕ) → firstFail p n ≤ n
 unfolding firstFail
 first-le p n = omega (arith, from-le p 0 n)
 
-from-all : (p : ℕ → Bool) (i k : ℕ) → i + k ≤ firstFailFrom p i k → (j : ℕ) → i ≤ j → j < i + k → p j ≡ true
+pub from-all : (p : ℕ → Bool) (i k : ℕ) → i + k ≤ firstFailFrom p i k → (j : ℕ) → i ≤ j → j < i + k → p j ≡ true
 unfolding firstFailFrom
 from-all p i zero h j a b = absurd (omega arith)
 from-all p i (suc k) h j a b = go (p i) refl h (λ l. from-all p (suc i) k l j)
@@ -61,6 +63,19 @@ from-all p i (suc k) h j a b = go (p i) refl h (λ l. from-all p (suc i) k l j)
 pub first-all : (p : ℕ → Bool) (n : ℕ) → n ≤ firstFail p n → (j : ℕ) → j < n → p j ≡ true
 unfolding firstFail
 first-all p n h j l = from-all p 0 n (omega arith) j (omega arith) (omega arith)
+
+-- a test that holds of each number below n, and one that does not
+pub all-below : (p : ℕ → Bool) (n : ℕ) → holdsBelow p n ≡ true → (j : ℕ) → j < n → p j ≡ true
+unfolding holdsBelow
+all-below p n h = let e : firstFail p n ≡ n = eqb-true (firstFail p n) n h in first-all p n (omega arith)
+
+pub below-all : (p : ℕ → Bool) (n : ℕ) → n ≤ firstFail p n → holdsBelow p n ≡ true
+unfolding holdsBelow
+below-all p n h = eq-eqb (firstFail p n) n (omega (arith, first-le p n))
+
+pub below-not : (p : ℕ → Bool) (n : ℕ) → firstFail p n < n → holdsBelow p n ≡ false
+unfolding holdsBelow
+below-not p n h = ne-eqb (firstFail p n) n (λ e. omega arith)
 
 -- the same of a list of tests: where none is the first that fails, each holds
 pub false-none : (bs : List Bool) → length bs ≤ firstFalse bs → (i : ℕ) → getD bs i true ≡ true

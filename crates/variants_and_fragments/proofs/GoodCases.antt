@@ -5,8 +5,8 @@ use mathlib.Core.Bool.{Bool, true, false, not, cond, _&&_}
 use mathlib.Core.List.{List, [], _∷_, map}
 use Prim.Native.Nat.{ℕ, zero, suc, _+_, _-_, _≤_, _<_}
 use native.Mathlib.Omega.{arith}
-use borrow.Author.Tests.{le-leb, leb-true, ne-eqb}
-use lib.Dec.{leb, lit<}
+use borrow.Author.Tests.{le-leb, leb-true}
+use lib.Dec.{leb}
 use lib.IntN.{ℤ, pos}
 use lib.ListN.{length, getD, length-append, length-map}
 use mir.Syntax.{w32}
@@ -16,21 +16,21 @@ use Rattle.variants_and_fragments.specs.Sums.{countOver}
 use Rattle.variants_and_fragments.specs.Case.{Case, Call, alleleOf, variantOf, fragmentOf, noFragment}
 use Rattle.variants_and_fragments.specs.Inner.Case.{noCall, risingFrom, All, end, also, GoodAllele, GoodVariant, GoodCall, GoodFragment, GoodCase, SmallNumbers}
 use Rattle.variants_and_fragments.specs.Refusals.{done}
-use Rattle.variants_and_fragments.specs.Layout.{pos0Field, depthField, variantAt, alleleCountAt, lengthAt, pos0At, cutoffAt, callVariantAt, callOk}
+use Rattle.variants_and_fragments.specs.Layout.{pos0Field, depthField, variantAt, alleleCountAt, lengthAt, cutoffAt, callVariantAt, callOk}
 use Rattle.variants_and_fragments.specs.Inner.Layout.{VariantIn}
 use Rattle.variants_and_fragments.specs.Chain.{firstCallAt, nextCallAt, isRecord, linkOk, chainFrom, chainOf, memb, goodChain}
 use Rattle.variants_and_fragments.specs.Inner.Accepted.{allb, CallIn, CaseIn, BasesIn}
 use Rattle.variants_and_fragments.proofs.Bools.{both}
-use Rattle.variants_and_fragments.proofs.Records.{call-facts}
+use Rattle.variants_and_fragments.proofs.Records.{pos0-up, call-facts}
 use Rattle.variants_and_fragments.proofs.Accepted.{case-in, bases-in}
-use Rattle.variants_and_fragments.specs.Check.{caseOf}
+use Rattle.variants_and_fragments.specs.Check.{checkCaseOutcome}
 use Rattle.variants_and_fragments.specs.Inner.ChainCalls.{callId, callsFrom}
 use Rattle.variants_and_fragments.specs.Decode.{tabulateFrom, tabulate, alleleStart, callFrom, fragmentFrom, decode}
 use Rattle.variants_and_fragments.proofs.Pigeon.{calls-top}
-use Rattle.variants_and_fragments.proofs.Readings.{nat-top}
-use Rattle.variants_and_fragments.proofs.Linked.{next-rises}
+use Rattle.variants_and_fragments.proofs.Readings.{nat-top, quality-down}
+use Rattle.variants_and_fragments.proofs.Chain.{next-rises}
 use Rattle.variants_and_fragments.proofs.Alls.{all-at, all-tabulate}
-use Rattle.variants_and_fragments.proofs.Decoded.{debt-down, cutoff-is, sizes-are, variants-are, fragments-are, pos0-is, dp-is, genotype0-is, genotype1-is, allele-count-is, allele-end, allele-length, allele-byte}
+use Rattle.variants_and_fragments.proofs.Decoded.{cutoff-is, sizes-are, variants-are, fragments-are, pos0-is, dp-is, genotype0-is, genotype1-is, allele-count-is, allele-end, allele-length, allele-byte}
 
 -- ---- along a chain
 rise-from : (w : List ℤ) (s : Sizes) (k r b : ℕ) (past : List ℕ) → goodChain w s past (chainFrom w s k r) ≡ true → (1 ≤ r → b ≤ callVariantAt w s r) → risingFrom b (map (callFrom w s) (chainFrom w s k r)) ≡ true
@@ -96,18 +96,15 @@ module _ {w : List ℤ} {b : List ℕ} {s : Sizes} (k : CaseIn w s) (i : BasesIn
         }
 
   pos0-on : (v : ℕ) → suc v < s .n → variantOf (decode w b) v .pos0 ≤ variantOf (decode w b) (suc v) .pos0
-  pos0-on v h =
-      let e : suc v - 1 ≡ v = omega arith in
-      let r : pos0At w v ≤ pos0At w (suc v) = rw (ne-eqb (suc v) 0 (λ z. omega arith), e) at (k .variants .each (suc v) h .rises) in
-      omega (arith, pos0-is k b v (omega arith), pos0-is k b (suc v) h)
+  pos0-on v h = omega (arith, pos0-up (k .variants) v h, pos0-is k b v (omega arith), pos0-is k b (suc v) h)
 
   call-good : (r : ℕ) → CallIn w s r → GoodCall (decode w b .variants) (callFrom w s r)
   unfolding callFrom
   call-good r c = record {
     variant-in = omega (arith, variants-are k b, c .variant-in);
     allele-in = rw (allele-count-is k b (callVariantAt w s r) (c .variant-in)) (c .allele-in);
-    qual-in = debt-down 262144 _ (lit< tt) (c .qual-in);
-    one-minus-qual-in = debt-down 262144 _ (lit< tt) (c .other-in);
+    qual-in = quality-down _ (c .qual-in);
+    one-minus-qual-in = quality-down _ (c .other-in);
   }
 
   fragment-good : (f : ℕ) → f < s .f → GoodFragment (decode w b .variants) (fragmentFrom w s f)
@@ -129,7 +126,7 @@ module _ {w : List ℤ} {b : List ℕ} {s : Sizes} (k : CaseIn w s) (i : BasesIn
     variants-top = omega (arith, variants-are k b, k .sized .n-top);
     fragments-top = omega (arith, fragments-are k b, k .sized .f-top);
     calls-top = rw fragments-list (omega (arith, count-chains w s (s .f) 0, calls-top w s k, k .sized .c-top));
-    cutoff-in = rw (cutoff-is w b) (debt-down 262144 (cutoffAt w) (lit< tt) (omega (arith, k .cut-in, ap (λ (t : Sizes). t .cut) (k .shape))));
+    cutoff-in = rw (cutoff-is w b) (quality-down (cutoffAt w) (k .cutoff-in));
     variants-in = λ v h. variant-good v (omega (arith, variants-are k b));
     pos0-rises = λ v h. pos0-on v (omega (arith, variants-are k b));
     fragments-in = rw fragments-list (all-tabulate (s .f) (fragmentFrom w s) fragment-good);
@@ -142,11 +139,11 @@ module _ {w : List ℤ} {b : List ℕ} {s : Sizes} (k : CaseIn w s) (i : BasesIn
   }
 
 -- what the check accepts is a good case
-pub good-case : (w : List ℤ) (b : List ℕ) (s : Sizes) → caseOf w b ≡ done s → GoodCase (decode w b)
+pub good-case : (w : List ℤ) (b : List ℕ) (s : Sizes) → checkCaseOutcome w b ≡ done s → GoodCase (decode w b)
 good-case w b s h = case-good (case-in w b s h) (bases-in w b s h)
 
 -- and of i32 words, each position and depth is below 2^31
-pub small-numbers : (w : List ℤ) (b : List ℕ) (s : Sizes) → caseOf w b ≡ done s → ((j : ℕ) → SFits w32 (getD w j (pos 0))) → SmallNumbers (decode w b)
+pub small-numbers : (w : List ℤ) (b : List ℕ) (s : Sizes) → checkCaseOutcome w b ≡ done s → ((j : ℕ) → SFits w32 (getD w j (pos 0))) → SmallNumbers (decode w b)
 small-numbers w b s h fits = numbers-small (case-in w b s h) (bases-in w b s h) fits
 
 -- ---- a good case by index

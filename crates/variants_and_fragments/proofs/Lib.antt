@@ -16,6 +16,7 @@ pub mod Records
 pub mod Heads
 pub mod Chain
 pub mod Outcomes
+pub mod Ranges
 pub mod Short
 pub mod Bools
 pub mod Accepted

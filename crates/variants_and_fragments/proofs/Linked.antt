@@ -8,33 +8,23 @@ use Prim.Native.Nat.{ℕ, zero, suc, _+_, _≤_, _<_}
 use native.Mathlib.Nat.{le-refl}
 use native.Mathlib.Omega.{arith}
 use native.Mathlib.Decide.{decLt, ℕ-discrete}
-use borrow.Author.Tests.{ltb-true, ne-eqb}
+use borrow.Author.Tests.{ne-eqb}
 use lib.ListN.{length, getD}
 use lib.IntN.{ℤ}
-use lib.Dec.{leb, ltb}
 use Rattle.variants_and_fragments.specs.declared.Sizes.{Sizes}
 use Rattle.variants_and_fragments.specs.Layout.{callVariantAt, callOk}
-use Rattle.variants_and_fragments.specs.Chain.{firstCallAt, nextCallAt, isRecord, linkTest, linkOk, chainFrom, chainOf, memb, goodChain, reached}
+use Rattle.variants_and_fragments.specs.Chain.{firstCallAt, nextCallAt, isRecord, linkOk, chainFrom, chainOf, memb, goodChain, reached}
 use Rattle.variants_and_fragments.specs.Inner.Accepted.{allb, CallIn, FragmentIn}
 use Rattle.variants_and_fragments.proofs.Bools.{both}
 use Rattle.variants_and_fragments.proofs.Records.{call-facts}
-use Rattle.variants_and_fragments.proofs.Walks.{link-top, chain-on}
+use Rattle.variants_and_fragments.proofs.Walks.{chain-on}
+use Rattle.variants_and_fragments.proofs.Chain.{link-top, next-rises}
 use Rattle.variants_and_fragments.proofs.Pigeon.{distinct, Within, none, more, pigeon}
 
 -- rs are the records from r on, each a record of the case with a right link, and zero is met after the last
 pub data Linked (w : List ℤ) (s : Sizes) : ℕ → List ℕ → Type 0 where
   ends : Linked w s 0 []
   goes : {r : ℕ} {rs : List ℕ} → 1 ≤ r → r ≤ s .c → linkOk w s r ≡ true → Linked w s (nextCallAt w s r) rs → Linked w s r (r ∷ rs)
-
--- what a right link says of a next that is not zero
-link-rises : (c r t v u : ℕ) → linkTest c r t v u ≡ true → 1 ≤ t → v < u
-unfolding linkTest
-link-rises c r t v u h l =
-    let k : (leb t c && (ltb r t && ltb v u)) ≡ true = rw (ne-eqb t 0 (λ e. omega arith)) at h in
-    ltb-true _ _ (both (ltb r t) (ltb v u) (both (leb t c) (ltb r t && ltb v u) k .1) .1)
-
-pub next-rises : (w : List ℤ) (s : Sizes) (r : ℕ) → linkOk w s r ≡ true → 1 ≤ nextCallAt w s r → callVariantAt w s r < callVariantAt w s (nextCallAt w s r)
-next-rises w s r h l = link-rises (s .c) r (nextCallAt w s r) (callVariantAt w s r) (callVariantAt w s (nextCallAt w s r)) h l
 
 -- the records passed are distinct ones of the case, at variants below r's
 record Passed (w : List ℤ) (s : Sizes) (r : ℕ) (past : List ℕ) : Type 0 where
@@ -78,7 +68,7 @@ linked-from w s (suc k) (suc r) l past top p n g =
     let t = nextCallAt w s (suc r) in
     let a = both (not (memb (suc r) l)) (linkOk w s (suc r) && goodChain w s (suc r ∷ l) (chainFrom w s k t)) (rw e at g) in
     let b = both (linkOk w s (suc r)) (goodChain w s (suc r ∷ l) (chainFrom w s k t)) (a .1) in
-    rw e (goes {r = suc r} (omega arith) top (b .0) (linked-from w s k t (suc r ∷ l) (suc r ∷ past) (link-top (s .c) (suc r) t _ _ (b .0)) (more-passed (omega arith) p top (b .0)) (omega arith) (b .1)))
+    rw e (goes {r = suc r} (omega arith) top (b .0) (linked-from w s k t (suc r ∷ l) (suc r ∷ past) (link-top w s (suc r) (b .0)) (more-passed (omega arith) p top (b .0)) (omega arith) (b .1)))
 
 -- k steps give k records at most
 chain-short : (w : List ℤ) (s : Sizes) (k r : ℕ) → length (chainFrom w s k r) ≤ k

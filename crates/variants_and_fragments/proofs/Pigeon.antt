@@ -1,8 +1,8 @@
 -- The chains of an accepted case share no record, so that they have at most C records together: these are distinct numbers of 1..C.
 -- Assumes nothing.
-use mathlib.Core.Path.{_≡_, refl, _∙_, ap}
+use mathlib.Core.Path.{_≡_, refl, sym, _∙_, ap}
 use mathlib.Core.Bool.{Bool, true, false, not, cond, _&&_}
-use mathlib.Core.List.{List, [], _∷_}
+use mathlib.Core.List.{List, [], _∷_, _++_, map}
 use Prim.Native.Nat.{ℕ, zero, suc, _+_, _≤_, _<_}
 use native.Mathlib.Nat.{le-refl}
 use native.Mathlib.Omega.{arith}
@@ -12,10 +12,11 @@ use lib.ListN.{length, length-append, length-map}
 use lib.IntN.{ℤ}
 use lib.Dec.{eqb, leb}
 use Rattle.variants_and_fragments.specs.declared.Sizes.{Sizes}
-use Rattle.variants_and_fragments.specs.Chain.{nextCallAt, firstCallAt, isRecord, linkOk, chainFrom, chainOf, memb, pushAll, reached, goodChain}
+use Rattle.variants_and_fragments.specs.Chain.{nextCallAt, firstCallAt, isRecord, linkOk, chainFrom, chainOf, memb, reached, goodChain}
 use Rattle.variants_and_fragments.specs.Inner.Accepted.{CaseIn}
-use Rattle.variants_and_fragments.proofs.Bools.{both, or-off, or-right, not-on}
-use Rattle.variants_and_fragments.specs.Inner.ChainCalls.{callsFrom}
+use Rattle.variants_and_fragments.proofs.Bools.{both, or-off, or-right, not-on, true-false}
+use Rattle.variants_and_fragments.proofs.Walks.{memb-middle}
+use Rattle.variants_and_fragments.specs.Inner.ChainCalls.{callId, callsFrom}
 
 -- no number comes twice
 unfoldable pub distinct : List ℕ → Bool
@@ -93,34 +94,44 @@ pigeon zero l d w = within-zero l w
 pigeon (suc c) l d w = omega (arith, one-out (suc c) l d, pigeon c (without (suc c) l) (distinct-out (suc c) l d) (within-out c l w))
 
 -- ---- chains
-good-distinct : (w : List ℤ) (s : Sizes) (rs l : List ℕ) → goodChain w s l rs ≡ true → distinct l ≡ true → distinct (pushAll rs l) ≡ true
-unfolding goodChain pushAll distinct
+-- one moved within a list
+distinct-middle : (r : ℕ) (rs l : List ℕ) → distinct (rs ++ (r ∷ l)) ≡ true → distinct (r ∷ rs ++ l) ≡ true
+unfolding distinct memb
+distinct-middle r [] l h = h
+distinct-middle r (y ∷ rs) l h =
+    let a = both (not (memb y (rs ++ (r ∷ l)))) (distinct (rs ++ (r ∷ l))) h in
+    let b = both (not (memb r (rs ++ l))) (distinct (rs ++ l)) (distinct-middle r rs l (a .1)) in
+    let off : memb y (r ∷ rs ++ l) ≡ false = memb-middle y r rs l ∙ not-on _ (a .0) in
+    let parts = or-off (eqb y r) (memb y (rs ++ l)) off in
+    let apart : eqb r y ≡ false = ne-eqb r y (λ e. let z : eqb y r ≡ true = eq-eqb y r (sym e) in true-false z (parts .0)) in
+    let r-off : memb r (rs ++ l) ≡ false = not-on _ (b .0) in
+    let y-off : memb y (rs ++ l) ≡ false = parts .1 in
+    let rest : distinct (rs ++ l) ≡ true = b .1 in
+    rw (apart, r-off, y-off, rest) refl
+
+good-distinct : (w : List ℤ) (s : Sizes) (rs l : List ℕ) → goodChain w s l rs ≡ true → distinct l ≡ true → distinct (rs ++ l) ≡ true
+unfolding goodChain distinct
 good-distinct w s [] l h d = d
 good-distinct w s (r ∷ rs) l h d =
     let a = both (not (memb r l)) (linkOk w s r && goodChain w s (r ∷ l) rs) h in
     let b = both (linkOk w s r) (goodChain w s (r ∷ l) rs) (a .1) in
-    good-distinct w s rs (r ∷ l) (b .1) (rw (a .0) d)
+    distinct-middle r rs l (good-distinct w s rs (r ∷ l) (b .1) (rw (a .0) d))
 
-push-within : (w : List ℤ) (s : Sizes) (k r : ℕ) (l : List ℕ) → Within (s .c) l → Within (s .c) (pushAll (chainFrom w s k r) l)
-unfolding chainFrom pushAll
-push-within w s zero r l h = h
-push-within w s (suc k) r l h = go (isRecord s r) refl (λ m i. push-within w s k (nextCallAt w s r) m i)
+chain-within : (w : List ℤ) (s : Sizes) (k r : ℕ) (l : List ℕ) → Within (s .c) l → Within (s .c) (chainFrom w s k r ++ l)
+unfolding chainFrom
+chain-within w s zero r l h = h
+chain-within w s (suc k) r l h = go (isRecord s r) refl (chain-within w s k (nextCallAt w s r) l h)
   where
-    go : (t : Bool) → isRecord s r ≡ t → ((m : List ℕ) → Within (s .c) m → Within (s .c) (pushAll (chainFrom w s k (nextCallAt w s r)) m)) → Within (s .c) (pushAll (cond t (r ∷ chainFrom w s k (nextCallAt w s r)) []) l)
+    go : (t : Bool) → isRecord s r ≡ t → Within (s .c) (chainFrom w s k (nextCallAt w s r) ++ l) → Within (s .c) (cond t (r ∷ chainFrom w s k (nextCallAt w s r)) [] ++ l)
     go false e rec = h
-    go true e rec = let b = both (leb 1 r) (leb r (s .c)) e in rec (r ∷ l) (more (leb-true 1 r (b .0)) (leb-true r (s .c) (b .1)) h)
+    go true e rec = let b = both (leb 1 r) (leb r (s .c)) e in more (leb-true 1 r (b .0)) (leb-true r (s .c) (b .1)) rec
 
 reached-ok : (w : List ℤ) (s : Sizes) → CaseIn w s → (f : ℕ) → f ≤ s .f → (distinct (reached w s f) ≡ true) × Within (s .c) (reached w s f)
 unfolding reached chainOf distinct
 reached-ok w s k zero l = (refl, none)
 reached-ok w s k (suc f) l =
     let i = reached-ok w s k f (omega arith) in
-    (good-distinct w s (chainOf w s f) (reached w s f) (k .frags f (omega arith) .right) (i .0), push-within w s (s .c) (firstCallAt w s f) (reached w s f) (i .1))
-
-push-length : (rs l : List ℕ) → length (pushAll rs l) ≡ length rs + length l
-unfolding pushAll
-push-length [] l = omega arith
-push-length (r ∷ rs) l = push-length rs (r ∷ l) ∙ omega arith
+    (good-distinct w s (chainOf w s f) (reached w s f) (k .frags f (omega arith) .right) (i .0), chain-within w s (s .c) (firstCallAt w s f) (reached w s f) (i .1))
 
 -- how many records the chains of the fragments below f have together
 pub chainLengths : List ℤ → Sizes → ℕ → ℕ
@@ -130,7 +141,7 @@ chainLengths w s (suc f) = length (chainOf w s f) + chainLengths w s f
 reached-length : (w : List ℤ) (s : Sizes) (f : ℕ) → length (reached w s f) ≡ chainLengths w s f
 unfolding reached chainLengths
 reached-length w s zero = refl
-reached-length w s (suc f) = push-length (chainOf w s f) (reached w s f) ∙ ap (λ (n : ℕ). length (chainOf w s f) + n) (reached-length w s f)
+reached-length w s (suc f) = length-append (chainOf w s f) (reached w s f) ∙ ap (λ (n : ℕ). length (chainOf w s f) + n) (reached-length w s f)
 
 -- the calls of all chains are at most C
 pub chains-top : (w : List ℤ) (s : Sizes) → CaseIn w s → (f : ℕ) → f ≤ s .f → chainLengths w s f ≤ s .c
@@ -139,25 +150,22 @@ chains-top w s k f l =
     omega (arith, pigeon (s .c) (reached w s f) (r .0) (r .1), reached-length w s f)
 
 -- ---- a record lies in one chain at most
-push-keeps : (r : ℕ) (rs l : List ℕ) → memb r l ≡ true → memb r (pushAll rs l) ≡ true
-unfolding pushAll memb
-push-keeps r [] l h = h
-push-keeps r (x ∷ rs) l h = push-keeps r rs (x ∷ l) (or-right (eqb r x) (memb r l) h)
+memb-left : (r : ℕ) (rs l : List ℕ) → memb r rs ≡ true → memb r (rs ++ l) ≡ true
+unfolding memb
+memb-left r [] l h = true-false h refl
+memb-left r (x ∷ rs) l h = elim (ℕ-discrete r x) [ yes e ↦ rw (eq-eqb r x e) | no e ↦ or-right (eqb r x) (memb r (rs ++ l)) (memb-left r rs l (rw (ne-eqb r x e) at h)) ]
 
-push-has : (r : ℕ) (rs l : List ℕ) → memb r rs ≡ true → memb r (pushAll rs l) ≡ true
-unfolding pushAll memb
-push-has r [] l h = let z : _≡_ {A = ℕ} 0 1 = cc in absurd (omega arith)
-push-has r (x ∷ rs) l h = elim (ℕ-discrete r x) [
-  | yes e ↦ push-keeps r rs (x ∷ l) (rw (eq-eqb r x e))
-  | no e ↦ push-has r rs (x ∷ l) (rw (ne-eqb r x e) at h)
-]
+memb-right : (r : ℕ) (rs l : List ℕ) → memb r l ≡ true → memb r (rs ++ l) ≡ true
+unfolding memb
+memb-right r [] l h = h
+memb-right r (x ∷ rs) l h = or-right (eqb r x) (memb r (rs ++ l)) (memb-right r rs l h)
 
 reached-has : (w : List ℤ) (s : Sizes) (r f g : ℕ) → f < g → memb r (chainOf w s f) ≡ true → memb r (reached w s g) ≡ true
 unfolding reached
 reached-has w s r f zero l h = absurd (omega arith)
 reached-has w s r f (suc g) l h = elim (ℕ-discrete f g) [
-  | yes e ↦ push-has r (chainOf w s g) (reached w s g) (rw e at h)
-  | no e ↦ push-keeps r (chainOf w s g) (reached w s g) (reached-has w s r f g (omega arith) h)
+  | yes e ↦ memb-left r (chainOf w s g) (reached w s g) (rw e at h)
+  | no e ↦ memb-right r (chainOf w s g) (reached w s g) (reached-has w s r f g (omega arith) h)
 ]
 
 good-fresh : (w : List ℤ) (s : Sizes) (r : ℕ) (rs l : List ℕ) → goodChain w s l rs ≡ true → memb r rs ≡ true → memb r l ≡ false
@@ -191,7 +199,7 @@ unfolding callsFrom reached
 count-calls w s zero f = let e : f + 0 ≡ f = omega arith in rw e (omega arith)
 count-calls w s (suc j) f =
     let e : f + suc j ≡ suc f + j = omega arith in
-    rw e (count-calls w s j (suc f) ∙ rw (push-length, length-append, length-map) (omega arith))
+    rw e (count-calls w s j (suc f) ∙ rw (length-append (chainOf w s f) (reached w s f), length-append (map (callId f) (chainOf w s f)) (callsFrom w s j (suc f)), length-map) (omega arith))
 
 pub calls-top : (w : List ℤ) (s : Sizes) → CaseIn w s → length (callsFrom w s (s .f) 0) ≤ s .c
 unfolding reached

@@ -4,13 +4,13 @@ use mathlib.Core.Path.{_≡_, refl}
 use mathlib.Core.List.{List, [], _∷_, _++_}
 use Prim.Native.Nat.{ℕ}
 use lib.IntN.{ℤ, pos, negsuc, negℤ}
-use Rattle.variants_and_fragments.specs.First.{firstFail, firstFailFrom, firstFalse}
-use Rattle.variants_and_fragments.specs.Words.{within}
-use Rattle.variants_and_fragments.specs.Layout.{headWords, fragmentWords, callWords, variantsField, fragmentsField, callsField, cutoffField, firstField, strandField, variantField, alleleField, qualField, oneMinusQualField, nextField, headFault, variantOk, callOk}
-use Rattle.variants_and_fragments.specs.Chain.{chainFrom, chainOf, memb, pushAll, reached, linkTest, goodChain, fragmentTest, isReached, chainFaultAt}
-use Rattle.variants_and_fragments.specs.Alleles.{allelesStart, allelesOk, allelesFaultAt}
-use Rattle.variants_and_fragments.specs.Refusals.{refused, done, stop}
-use Rattle.variants_and_fragments.specs.Check.{caseOf}
+use Rattle.variants_and_fragments.specs.First.{firstFailFrom, firstFail, holdsBelow}
+use Rattle.variants_and_fragments.specs.Words.{within, below}
+use Rattle.variants_and_fragments.specs.Layout.{headWords, fragmentWords, callWords, variantsField, fragmentsField, callsField, cutoffField, firstField, strandField, variantField, alleleField, qualField, oneMinusQualField, nextField, variantOk, callOk}
+use Rattle.variants_and_fragments.specs.Chain.{chainFrom, chainOf, memb, reached, linkOk, goodChain, fragmentOk, isReached}
+use Rattle.variants_and_fragments.specs.Alleles.{allelesStart, allelesOk}
+use Rattle.variants_and_fragments.specs.Refusals.{refused, done, unless, each}
+use Rattle.variants_and_fragments.specs.Check.{checkCaseOutcome}
 use Rattle.variants_and_fragments.specs.Encode.{laid, variantRecord}
 
 head : ℕ → ℕ → ℕ → ℕ → List ℤ
@@ -30,30 +30,30 @@ ag : List ℕ
 ag = 65 ∷ 71 ∷ []
 
 record Places : Type 0 where
-  accepted : caseOf (head 1 1 1 2000 ++ snv 10 ++ fragment 1 0 ++ call 0 1 0) ag ≡ done (record { n = 1; f = 1; c = 1; cut = 2000 })
+  accepted : checkCaseOutcome (head 1 1 1 2000 ++ snv 10 ++ fragment 1 0 ++ call 0 1 0) ag ≡ done (record { n = 1; f = 1; c = 1; cutoff = negℤ (pos 2000) })
   -- 1: under four words; a negative count; a cutoff one too low; a word too many
-  few-words : caseOf (pos 0 ∷ pos 0 ∷ pos 0 ∷ []) [] ≡ refused 1 0
-  negative-count : caseOf (laid headWords ((fragmentsField, negsuc 0) ∷ [])) [] ≡ refused 1 1
-  low-cutoff : caseOf (head 0 0 0 262145) [] ≡ refused 1 3
-  long-case : caseOf (head 0 0 0 0 ++ (pos 0 ∷ [])) [] ≡ refused 1 4
+  few-words : checkCaseOutcome (pos 0 ∷ pos 0 ∷ pos 0 ∷ []) [] ≡ refused 1 0
+  negative-count : checkCaseOutcome (laid headWords ((fragmentsField, negsuc 0) ∷ [])) [] ≡ refused 1 1
+  low-cutoff : checkCaseOutcome (head 0 0 0 262145) [] ≡ refused 1 3
+  long-case : checkCaseOutcome (head 0 0 0 0 ++ (pos 0 ∷ [])) [] ≡ refused 1 4
   -- 2: pos0 falls at the later one
-  falling : caseOf (head 2 0 0 0 ++ snv 10 ++ snv 9) (ag ++ ag) ≡ refused 2 1
-  level : caseOf (head 2 0 0 0 ++ snv 10 ++ snv 10) (ag ++ ag) ≡ done (record { n = 2; f = 0; c = 0; cut = 0 })
+  falling : checkCaseOutcome (head 2 0 0 0 ++ snv 10 ++ snv 9) (ag ++ ag) ≡ refused 2 1
+  level : checkCaseOutcome (head 2 0 0 0 ++ snv 10 ++ snv 10) (ag ++ ag) ≡ done (record { n = 2; f = 0; c = 0; cutoff = pos 0 })
   -- 3: the wrong length comes before a wrong byte
-  wrong-byte : caseOf (head 2 0 0 0 ++ snv 10 ++ snv 11) (65 ∷ 71 ∷ 65 ∷ 103 ∷ []) ≡ refused 3 1
-  wrong-length : caseOf (head 2 0 0 0 ++ snv 10 ++ snv 11) (103 ∷ []) ≡ refused 3 2
+  wrong-byte : checkCaseOutcome (head 2 0 0 0 ++ snv 10 ++ snv 11) (65 ∷ 71 ∷ 65 ∷ 103 ∷ []) ≡ refused 3 1
+  wrong-length : checkCaseOutcome (head 2 0 0 0 ++ snv 10 ++ snv 11) (103 ∷ []) ≡ refused 3 2
   -- 4: records are numbered from 1
-  wrong-allele : caseOf (head 1 1 1 0 ++ snv 10 ++ fragment 1 0 ++ call 0 2 0) ag ≡ refused 4 1
-  no-variant : caseOf (head 0 1 1 0 ++ fragment 1 0 ++ call 0 0 0) [] ≡ refused 4 1
+  wrong-allele : checkCaseOutcome (head 1 1 1 0 ++ snv 10 ++ fragment 1 0 ++ call 0 2 0) ag ≡ refused 4 1
+  no-variant : checkCaseOutcome (head 0 1 1 0 ++ fragment 1 0 ++ call 0 0 0) [] ≡ refused 4 1
   -- 5: the strand; the later of two that share a record; a variant that does not rise; a record that none reaches
-  wrong-strand : caseOf (head 1 1 1 0 ++ snv 10 ++ fragment 1 2 ++ call 0 1 0) ag ≡ refused 5 0
-  shared : caseOf (head 1 2 1 0 ++ snv 10 ++ fragment 1 0 ++ fragment 1 0 ++ call 0 1 0) ag ≡ refused 5 1
-  not-rising : caseOf (head 1 1 2 0 ++ snv 10 ++ fragment 1 0 ++ call 0 1 2 ++ call 0 1 0) ag ≡ refused 5 0
-  unreached : caseOf (head 1 2 2 0 ++ snv 10 ++ fragment 1 0 ++ fragment 0 0 ++ call 0 1 0 ++ call 0 1 0) ag ≡ refused 5 2
-  no-fragment : caseOf (head 1 0 1 0 ++ snv 10 ++ call 0 1 0) ag ≡ refused 5 0
+  wrong-strand : checkCaseOutcome (head 1 1 1 0 ++ snv 10 ++ fragment 1 2 ++ call 0 1 0) ag ≡ refused 5 0
+  shared : checkCaseOutcome (head 1 2 1 0 ++ snv 10 ++ fragment 1 0 ++ fragment 1 0 ++ call 0 1 0) ag ≡ refused 5 1
+  not-rising : checkCaseOutcome (head 1 1 2 0 ++ snv 10 ++ fragment 1 0 ++ call 0 1 2 ++ call 0 1 0) ag ≡ refused 5 0
+  unreached : checkCaseOutcome (head 1 2 2 0 ++ snv 10 ++ fragment 1 0 ++ fragment 0 0 ++ call 0 1 0 ++ call 0 1 0) ag ≡ refused 5 2
+  no-fragment : checkCaseOutcome (head 1 0 1 0 ++ snv 10 ++ call 0 1 0) ag ≡ refused 5 0
 
 places : Places
-unfolding head snv fragment call ag laid variantRecord caseOf stop headFault firstFalse within firstFail firstFailFrom variantOk callOk allelesStart allelesOk allelesFaultAt chainFrom chainOf memb pushAll reached linkTest goodChain fragmentTest isReached chainFaultAt
+unfolding head snv fragment call ag laid variantRecord checkCaseOutcome unless each within below firstFailFrom firstFail holdsBelow variantOk callOk linkOk chainFrom chainOf memb reached goodChain fragmentOk isReached allelesStart allelesOk
 places = record {
   accepted = refl;
   few-words = refl;

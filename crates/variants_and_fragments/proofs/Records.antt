@@ -1,24 +1,29 @@
 -- What the tests of one record say: the head, a variant, a call.
 -- Assumes nothing.
-use mathlib.Core.Path.{_≡_, refl}
+use mathlib.Core.Path.{_≡_, refl, ap}
 use mathlib.Core.Bool.{Bool, true, false, cond, _&&_}
 use mathlib.Core.List.{List, [], _∷_}
-use Prim.Native.Nat.{ℕ, zero, suc, _≤_, _<_}
+use Prim.Native.Nat.{ℕ, zero, suc, _+_, _-_, _≤_, _<_}
 use native.Mathlib.Omega.{arith}
-use borrow.Author.Tests.{lt-ltb, le-ltb, ltb-true, leb-true, eqb-true}
+use native.Mathlib.Decide.{decLt}
+use borrow.Author.Tests.{lt-ltb, le-ltb, ne-eqb, leb-true, eqb-true}
 use lib.ListN.{length, getD}
 use lib.IntN.{ℤ, pos}
-use lib.Dec.{leb, ltb, eqb}
+use lib.Dec.{leb, ltb, lit<}
+use lib.Signed.{leZ}
 use Rattle.variants_and_fragments.specs.declared.Sizes.{Sizes}
-use Rattle.variants_and_fragments.specs.Words.{within}
-use Rattle.variants_and_fragments.specs.First.{firstFail, firstFalse}
-use Rattle.variants_and_fragments.specs.Layout.{headWords, maxVariants, maxFragments, maxCalls, maxAlleleLength, lowestQuality, totalWords, sizesOf, cutoffAt, headTests, headFault, lengthOk, alleleCountAt, lengthAt, allOf, variantTests, variantOk, callVariantAt, calledAlleleAt, qualAt, oneMinusQualAt, callOk}
-use Rattle.variants_and_fragments.specs.Inner.Layout.{Sized, VariantIn}
+use Rattle.variants_and_fragments.specs.Words.{word, within, below, none}
+use Rattle.variants_and_fragments.specs.First.{firstFail}
+use Rattle.variants_and_fragments.specs.Inner.First.{firstFalse}
+use Rattle.variants_and_fragments.specs.Layout.{headWords, maxVariants, maxFragments, maxCalls, maxAlleles, maxAlleleLength, lowestQuality, variantsField, fragmentsField, callsField, pos0Field, depthField, genotypeField, alleleCountField, variantField, alleleField, totalWords, sizesOf, cutoffAt, variantWord, callWord, lengthOk, pos0At, genotypeAt, alleleCountAt, lengthAt, priorPos0At, allOf, variantTests, variantOk, callVariantAt, calledAlleleAt, qualAt, oneMinusQualAt, callOk}
+use Rattle.variants_and_fragments.specs.Inner.Head.{headTests, headFault}
+use Rattle.variants_and_fragments.specs.Inner.Layout.{Sized, VariantIn, lengthTest}
 use Rattle.variants_and_fragments.specs.Inner.Alleles.{VariantsIn}
 use Rattle.variants_and_fragments.specs.Inner.Accepted.{CallIn}
-use Rattle.variants_and_fragments.proofs.Bools.{both}
+use Rattle.variants_and_fragments.proofs.Bools.{both, and-when}
 use Rattle.variants_and_fragments.proofs.First.{first-all, false-none}
-use Rattle.variants_and_fragments.proofs.Readings.{quality-debt}
+use Rattle.variants_and_fragments.proofs.Readings.{nat-le}
+use Rattle.variants_and_fragments.proofs.Ranges.{within-nat, within-low, within-top, below-nat, below-less, length-nat}
 
 -- ---- the head
 pub record HeadIn (w : List ℤ) : Type 0 where
@@ -26,7 +31,7 @@ pub record HeadIn (w : List ℤ) : Type 0 where
   pub n-in : sizesOf w .n ≤ maxVariants
   pub f-in : sizesOf w .f ≤ maxFragments
   pub c-in : sizesOf w .c ≤ maxCalls
-  pub cut-in : within lowestQuality (pos 0) (cutoffAt w) ≡ true
+  pub cutoff-in : within lowestQuality (pos 0) (cutoffAt w) ≡ true
   pub all-in : length w ≡ totalWords (sizesOf w)
 
 cond-in : (b : Bool) (x : ℕ) → 5 ≤ cond b x 0 → (b ≡ true) × (5 ≤ x)
@@ -40,10 +45,10 @@ head-in w h =
     let at : (i : ℕ) → getD (headTests w) i true ≡ true = false-none (headTests w) (c .1) in
     record {
       len-in = leb-true _ _ (c .0);
-      n-in = leb-true _ _ (at 0);
-      f-in = leb-true _ _ (at 1);
-      c-in = leb-true _ _ (at 2);
-      cut-in = at 3;
+      n-in = within-top 0 maxVariants (word w variantsField) (at 0);
+      f-in = within-top 0 maxFragments (word w fragmentsField) (at 1);
+      c-in = within-top 0 maxCalls (word w callsField) (at 2);
+      cutoff-in = at 3;
       all-in = eqb-true _ _ (at 4);
     }
 
@@ -62,42 +67,42 @@ all-nth (true ∷ c ∷ bs) h zero = refl
 all-nth (true ∷ c ∷ bs) h (suc i) = all-nth (c ∷ bs) h i
 all-nth (false ∷ c ∷ bs) h i = let z : _≡_ {A = ℕ} 0 1 = cc in absurd (omega arith)
 
-module _ (j k x : ℕ) (h : lengthOk j k x ≡ true) where
-  len-present : j < k → (1 ≤ x) × (x ≤ maxAlleleLength)
+-- the length of an allele, present or not
+module _ (w : List ℤ) (v j : ℕ) (h : lengthOk w v j ≡ true) where
+  len-is : lengthTest j (alleleCountAt w v) (lengthAt w v j) ≡ true
+  len-is = rw (length-nat w v j) at h
+
+  len-present : j < alleleCountAt w v → (1 ≤ lengthAt w v j) × (lengthAt w v j ≤ maxAlleleLength)
   len-present l =
-      let b = both (leb 1 x) (leb x maxAlleleLength) (rw (lt-ltb j k l) at h) in
+      let b = both (leb 1 (lengthAt w v j)) (leb (lengthAt w v j) maxAlleleLength) (rw (lt-ltb j (alleleCountAt w v) l) at len-is) in
       (leb-true _ _ (b .0), leb-true _ _ (b .1))
 
-  len-absent : k ≤ j → x ≡ 0
-  len-absent l = eqb-true x 0 (rw (le-ltb j k l) at h)
+  len-absent : alleleCountAt w v ≤ j → lengthAt w v j ≡ 0
+  len-absent l = eqb-true (lengthAt w v j) 0 (rw (le-ltb j (alleleCountAt w v) l) at len-is)
 
-len-top : (j k x : ℕ) → lengthOk j k x ≡ true → x ≤ maxAlleleLength
-len-top j k x h = go (ltb j k) h
-  where
-    go : (b : Bool) → cond b (leb 1 x && leb x maxAlleleLength) (eqb x 0) ≡ true → x ≤ maxAlleleLength
-    go true t = leb-true x maxAlleleLength (both (leb 1 x) (leb x maxAlleleLength) t .1)
-    go false t = let e : x ≡ 0 = eqb-true x 0 t in omega arith
+  len-top : lengthAt w v j ≤ maxAlleleLength
+  len-top = elim (decLt j (alleleCountAt w v)) [ yes l ↦ len-present l .1 | no l ↦ let e = len-absent (omega arith) in omega arith ]
 
 pub variant-facts : (w : List ℤ) (v : ℕ) → variantOk w v ≡ true → VariantIn w v
 unfolding variantOk
 variant-facts w v h =
     let at : (i : ℕ) → getD (variantTests w v) i true ≡ true = all-nth (variantTests w v) h in
     let k = alleleCountAt w v in
-    let top : k ≤ 3 = leb-true _ _ (at 4) in
-    let ok : (j : ℕ) → j < 3 → lengthOk j k (lengthAt w v j) ≡ true = below-three (λ j. lengthOk j k (lengthAt w v j)) (at 7) (at 8) (at 9) in
+    let top : k ≤ 3 = within-top 1 maxAlleles (variantWord w v alleleCountField) (at 3) in
+    let ok : (j : ℕ) → j < 3 → lengthOk w v j ≡ true = below-three (lengthOk w v) (at 6) (at 7) (at 8) in
     record {
       pos-in = at 0;
-      rises = leb-true _ _ (at 1);
+      rises = at 1;
       dp-in = at 2;
-      k-low = leb-true _ _ (at 3);
+      k-low = within-low 1 (pos maxAlleles) (variantWord w v alleleCountField) (at 3);
       k-high = top;
-      a-in = ltb-true _ _ (at 5);
-      b-in = ltb-true _ _ (at 6);
-      len0 = len-top 0 k _ (at 7);
-      len1 = len-top 1 k _ (at 8);
-      len2 = len-top 2 k _ (at 9);
-      present = λ j l. len-present j k (lengthAt w v j) (ok j (omega arith)) l .0;
-      absent = λ j l m. len-absent j k (lengthAt w v j) (ok j m) l;
+      a-in = below-less k (variantWord w v (genotypeField + 0)) (at 4);
+      b-in = below-less k (variantWord w v (genotypeField + 1)) (at 5);
+      len0 = len-top w v 0 (at 6);
+      len1 = len-top w v 1 (at 7);
+      len2 = len-top w v 2 (at 8);
+      present = λ j l. len-present w v j (ok j (omega arith)) l .0;
+      absent = λ j l m. len-absent w v j (ok j m) l;
     }
   where
     below-three : (p : ℕ → Bool) → p 0 ≡ true → p 1 ≡ true → p 2 ≡ true → (j : ℕ) → j < 3 → p j ≡ true
@@ -109,18 +114,47 @@ variant-facts w v h =
 pub variants-in : (w : List ℤ) (s : Sizes) → s .n ≤ firstFail (variantOk w) (s .n) → VariantsIn w s
 variants-in w s h = record { each = λ v l. variant-facts w v (first-all (variantOk w) (s .n) h v l) }
 
+-- positions do not fall
+pub pos0-up : {w : List ℤ} {s : Sizes} → VariantsIn w s → (v : ℕ) → suc v < s .n → pos0At w v ≤ pos0At w (suc v)
+pos0-up {w} k v h =
+    let e : suc v - 1 ≡ v = omega arith in
+    let q : leZ (variantWord w v pos0Field) (variantWord w (suc v) pos0Field) ≡ true = rw (ne-eqb (suc v) 0 (λ z. omega arith), e) at (k .each (suc v) h .rises) in
+    nat-le (variantWord w v pos0Field) (variantWord w (suc v) pos0Field) (k .each v (omega arith) .pos-in) q
+
+-- where the code's tests of a variant, on numbers, are the definition's
+pub variant-tests : (w : List ℤ) (v : ℕ) → variantOk w v ≡ (
+    leZ (pos 0) (variantWord w v pos0Field)
+    && (leZ (priorPos0At w v) (variantWord w v pos0Field)
+    && (leZ (pos 0) (variantWord w v depthField)
+    && ((leb 1 (alleleCountAt w v) && leb (alleleCountAt w v) maxAlleles)
+    && (ltb (genotypeAt w v 0) (alleleCountAt w v)
+    && (ltb (genotypeAt w v 1) (alleleCountAt w v)
+    && (lengthTest 0 (alleleCountAt w v) (lengthAt w v 0) && (lengthTest 1 (alleleCountAt w v) (lengthAt w v 1) && lengthTest 2 (alleleCountAt w v) (lengthAt w v 2)))))))))
+unfolding variantOk
+variant-tests w v =
+    let k = within-nat 1 maxAlleles (variantWord w v alleleCountField) (lit< tt) in
+    rw (length-nat w v 0, length-nat w v 1, length-nat w v 2, k)
+    (ap (λ (b : Bool). leZ (pos 0) (variantWord w v pos0Field) && (leZ (priorPos0At w v) (variantWord w v pos0Field) && (leZ (pos 0) (variantWord w v depthField) && b)))
+    (and-when (leb 1 (alleleCountAt w v) && leb (alleleCountAt w v) maxAlleles) _ _ (λ h.
+    let top : alleleCountAt w v ≤ none = omega (arith, leb-true (alleleCountAt w v) maxAlleles (both (leb 1 (alleleCountAt w v)) (leb (alleleCountAt w v) maxAlleles) h .1)) in
+    rw (below-nat (alleleCountAt w v) (variantWord w v (genotypeField + 0)) top, below-nat (alleleCountAt w v) (variantWord w v (genotypeField + 1)) top))))
+
 -- ---- a call
 pub call-facts : (w : List ℤ) (s : Sizes) (r : ℕ) → callOk w s r ≡ true → CallIn w s r
 unfolding callOk
 call-facts w s r h =
-    let a = both (ltb (callVariantAt w s r) (s .n)) _ h in
-    let b = both (ltb (calledAlleleAt w s r) (alleleCountAt w (callVariantAt w s r))) _ (a .1) in
+    let a = both (below (s .n) (callWord w s r variantField)) _ h in
+    let b = both (below (alleleCountAt w (callVariantAt w s r)) (callWord w s r alleleField)) _ (a .1) in
     let c = both (within lowestQuality (pos 0) (qualAt w s r)) (within lowestQuality (pos 0) (oneMinusQualAt w s r)) (b .1) in
-    record {
-      variant-in = ltb-true _ _ (a .0);
-      allele-in = ltb-true _ _ (b .0);
-      qual-in = quality-debt _ (c .0);
-      other-in = quality-debt _ (c .1);
-      qual-range = c .0;
-      other-range = c .1;
-    }
+    record { variant-in = below-less _ _ (a .0); allele-in = below-less _ _ (b .0); qual-in = c .0; other-in = c .1 }
+
+-- where its variant is one of the case, the code's tests are the definition's
+pub call-tests : (w : List ℤ) (s : Sizes) (r : ℕ) → Sized w s → VariantsIn w s → callVariantAt w s r < s .n → callOk w s r ≡ (
+    ltb (calledAlleleAt w s r) (alleleCountAt w (callVariantAt w s r)) && (within lowestQuality (pos 0) (qualAt w s r) && within lowestQuality (pos 0) (oneMinusQualAt w s r)))
+unfolding callOk
+call-tests w s r z k h =
+    rw (below-nat (s .n) (callWord w s r variantField) (omega (arith, z .n-top)), lt-ltb (callVariantAt w s r) (s .n) h, below-nat (alleleCountAt w (callVariantAt w s r)) (callWord w s r alleleField) (omega (arith, k .each (callVariantAt w s r) h .k-high)))
+
+pub call-off : (w : List ℤ) (s : Sizes) (r : ℕ) → Sized w s → s .n ≤ callVariantAt w s r → false ≡ callOk w s r
+unfolding callOk
+call-off w s r z h = rw (below-nat (s .n) (callWord w s r variantField) (omega (arith, z .n-top)), le-ltb (callVariantAt w s r) (s .n) h)

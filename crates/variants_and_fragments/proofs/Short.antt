@@ -1,12 +1,13 @@
 -- The smallest count that a slice too short needs: what `earlier` gives, case by case, and what it says that none is too short.
 -- Assumes nothing.
-use mathlib.Core.Path.{_≡_, sym, _∙_}
+use mathlib.Core.Path.{_≡_, refl, sym, _∙_}
+use mathlib.Core.List.{List, [], _∷_}
 use mathlib.Core.Logic.{_⊎_, inl, inr, ⊎-elim}
 use Prim.Native.Nat.{ℕ, _≤_, _<_}
 use native.Mathlib.Omega.{arith}
 use native.Mathlib.Decide.{decLe, ℕ-discrete}
 use borrow.Author.Tests.{le-leb, lt-leb, eq-eqb, ne-eqb}
-use Rattle.variants_and_fragments.specs.Refusals.{shortOf, earlier}
+use Rattle.variants_and_fragments.specs.Refusals.{shortOf, earlier, smallestShort}
 
 pub earlier-right : (a b : ℕ) → a ≡ 0 → b ≡ earlier a b
 unfolding earlier
@@ -54,3 +55,31 @@ none-earlier a b e = elim (ℕ-discrete a 0) [
 pub short-none : (need long : ℕ) → shortOf need long ≡ 0 → need ≤ long
 unfolding shortOf
 short-none need long e = elim (decLe need long) [ yes l ↦ l | no l ↦ let z : need ≡ 0 = rw (lt-leb need long (omega arith)) at e in omega arith ]
+
+-- ---- a list of slices, each with what it needs
+pub earlier-none : (a : ℕ) → earlier a 0 ≡ a
+earlier-none a = elim (ℕ-discrete a 0) [ yes e ↦ sym (earlier-right a 0 e) ∙ sym e | no d ↦ sym (earlier-left a 0 d refl) ]
+
+-- the last of them
+pub short-last : (x need long : ℕ) → x ≡ shortOf need long → x ≡ smallestShort ((need, long) ∷ [])
+unfolding smallestShort
+short-last x need long e = e ∙ sym (earlier-none (shortOf need long))
+
+-- one more
+pub short-more : (x need long r : ℕ) (rest : List (ℕ × ℕ)) → x ≡ shortOf need long → r ≡ smallestShort rest → earlier x r ≡ smallestShort ((need, long) ∷ rest)
+unfolding smallestShort
+short-more x need long r rest e f = rw (e, f)
+
+-- where none is too short, each is long enough
+pub short-fits : (need long : ℕ) (rest : List (ℕ × ℕ)) → smallestShort ((need, long) ∷ rest) ≡ 0 → (need ≤ long) × (smallestShort rest ≡ 0)
+unfolding smallestShort
+short-fits need long rest e = let b = none-earlier (shortOf need long) (smallestShort rest) e in (short-none need long (b .0), b .1)
+
+-- one slice: too short, and long enough
+pub one-short : (need long : ℕ) → long < need → need ≡ smallestShort ((need, long) ∷ [])
+unfolding shortOf
+one-short need long h = short-last need need long (rw (lt-leb need long h))
+
+pub one-fits : (need long : ℕ) → need ≤ long → smallestShort ((need, long) ∷ []) ≡ 0
+unfolding shortOf
+one-fits need long h = sym (short-last 0 need long (rw (le-leb need long h)))

@@ -1,11 +1,11 @@
 -- The walk along a chain: what one step of it does to the definitions.
 -- Assumes nothing.
-use mathlib.Core.Path.{_≡_, refl, sym, _∙_, subst}
-use mathlib.Core.Bool.{Bool, true, false}
-use mathlib.Core.List.{List, [], _∷_}
+use mathlib.Core.Path.{_≡_, refl, sym, ap, _∙_, subst}
+use mathlib.Core.Bool.{Bool, true, false, _||_}
+use mathlib.Core.List.{List, [], _∷_, _++_}
 use Prim.Native.Nat.{ℕ, zero, suc, _+_, _-_, _≤_, _<_}
 use native.Mathlib.Omega.{arith}
-use native.Mathlib.Decide.{decLt, ℕ-discrete}
+use native.Mathlib.Decide.{ℕ-discrete}
 use native.Mathlib.Nat.{sub-zero}
 use borrow.Author.Tests.{le-leb, lt-leb, eq-eqb, ne-eqb}
 use lib.ListN.{getD, set, replicate, length-set, length-replicate, getD-replicate}
@@ -13,9 +13,9 @@ use lib.Seq.{getD-set-same, getD-set-other}
 use lib.IntN.{ℤ}
 use lib.Dec.{eqb}
 use Rattle.variants_and_fragments.specs.declared.Sizes.{Sizes}
-use Rattle.variants_and_fragments.specs.Chain.{nextCallAt, linkTest, linkOk, chainFrom, chainOf, memb, pushAll, reached, goodChain, isReached}
+use Rattle.variants_and_fragments.specs.Chain.{nextCallAt, linkOk, chainFrom, chainOf, memb, reached, goodChain, isReached}
 use Rattle.variants_and_fragments.specs.Inner.Chain.{firstRecordAt, Walked, flag, Marked, markedAt}
-use Rattle.variants_and_fragments.proofs.Chain.{link-over, first-top, first-chain}
+use Rattle.variants_and_fragments.proofs.Chain.{link-top, first-top, first-chain}
 use Rattle.variants_and_fragments.specs.First.{firstFail}
 use Rattle.variants_and_fragments.proofs.First.{first-cong}
 
@@ -51,13 +51,16 @@ pub good-on : (w : List ℤ) (s : Sizes) (l : List ℕ) (r : ℕ) (rs : List ℕ
 unfolding goodChain
 good-on w s l r rs h k = simp (h, k)
 
-pub link-top : (c r t v u : ℕ) → linkTest c r t v u ≡ true → t ≤ c
-unfolding linkTest
-link-top c r zero v u h = omega arith
-link-top c r (suc t) v u h = elim (decLt c (suc t)) [
-  | yes l ↦ let z : _≡_ {A = Bool} false true = link-over c r (suc t) v u (λ e. omega arith) l ∙ h in let z2 : _≡_ {A = ℕ} 0 1 = cc in absurd (omega arith)
-  | no l ↦ omega arith
-]
+-- a record reached is reached, wherever it stands in the list
+pub memb-middle : (x r : ℕ) (rs l : List ℕ) → memb x (r ∷ rs ++ l) ≡ memb x (rs ++ (r ∷ l))
+unfolding memb
+memb-middle x r [] l = refl
+memb-middle x r (y ∷ rs) l = or-swap (eqb x r) (eqb x y) (memb x (rs ++ l)) ∙ ap (λ (b : Bool). eqb x y || b) (memb-middle x r rs l)
+  where
+    or-swap : (a b c : Bool) → (a || (b || c)) ≡ (b || (a || c))
+    or-swap true true c = refl
+    or-swap true false c = refl
+    or-swap false b c = refl
 
 -- ---- flags
 pub flag-off : (b : Bool) → flag b ≡ 0 → b ≡ false
@@ -85,7 +88,7 @@ pub record Walking (w : List ℤ) (s : Sizes) (f : ℕ) (seen : List ℕ) (r k :
   pub k-top : k ≤ s .c
   pub now-marked : Marked seen acc
   pub good : goodChain w s (reached w s f) (chainOf w s f) ≡ goodChain w s acc (chainFrom w s (s .c - k) r)
-  pub pushed : reached w s (suc f) ≡ pushAll (chainFrom w s (s .c - k) r) acc
+  pub has : (x : ℕ) → memb x (reached w s (suc f)) ≡ memb x (chainFrom w s (s .c - k) r ++ acc)
 
 pub walk-start : (w : List ℤ) (s : Sizes) (f : ℕ) (seen : List ℕ) (r : ℕ) → r ≡ firstRecordAt w s f → Marked seen (reached w s f) → Walking w s f seen r 0
 unfolding chainOf reached
@@ -95,14 +98,17 @@ walk-start w s f seen r e m = record {
   k-top = omega arith;
   now-marked = m;
   good = rw (e, sub-zero, first-chain);
-  pushed = rw (e, sub-zero, first-chain);
+  has = λ x. rw (e, sub-zero, first-chain);
 }
 
 module _ {w : List ℤ} {s : Sizes} {f : ℕ} {seen : List ℕ} {r k : ℕ} (c-top : s .c ≤ 16384) (i : Walking w s f seen r k) where
   -- the chain ends
   pub walk-done : chainFrom w s (s .c - k) r ≡ [] → Walked w s f seen true
-  unfolding goodChain pushAll
-  walk-done e = record { ok = sym (rw e at (i .good)); marked = λ _. rw (i .pushed, e) (i .now-marked) }
+  unfolding goodChain
+  walk-done e = record {
+    ok = sym (rw e at (i .good));
+    marked = λ _. record { long = i .now-marked .long; marks = λ x le. i .now-marked .marks x le ∙ ap flag (sym (rw e at (i .has x))) };
+  }
 
   pub walk-end : r ≡ 0 → Walked w s f seen true
   walk-end e = walk-done (chain-end w s (s .c - k) r e)
@@ -134,14 +140,13 @@ module _ {w : List ℤ} {s : Sizes} {f : ℕ} {seen : List ℕ} {r k : ℕ} (c-t
       walk-link h = fails (rw step (sym (good-link w s (i .acc) r _ fresh h))) seen
 
       pub walk-on : linkOk w s r ≡ true → (t : ℕ) → t ≡ nextCallAt w s r → Walking w s f (set seen r 1) t (k + 1)
-      unfolding pushAll
       walk-on h t e = record {
         acc = r ∷ i .acc;
-        r-top = rw e (link-top (s .c) r (nextCallAt w s r) _ _ h);
+        r-top = rw e (link-top w s r h);
         k-top = omega arith;
         now-marked = mark-more r (omega (arith, i .r-top)) (i .now-marked);
         good = i .good ∙ rw (step, e) (good-on w s (i .acc) r _ fresh h);
-        pushed = i .pushed ∙ rw (step, e);
+        has = λ x. i .has x ∙ rw (step, e) (memb-middle x r (chainFrom w s (s .c - (k + 1)) (nextCallAt w s r)) (i .acc));
       }
 
 -- ---- after the walks

@@ -1,13 +1,12 @@
 -- 01, section 2 and number 3 of the table: the allele bytes are A, C, G, T, in variant then allele order. w is the words, b the bytes.
 -- Assumes nothing.
-use mathlib.Core.Bool.{Bool, cond, _||_}
+use mathlib.Core.Bool.{Bool, _||_}
 use mathlib.Core.List.{List}
 use Prim.Native.Nat.{ℕ, zero, suc, _+_}
-use lib.ListN.{length, getD}
+use lib.ListN.{getD}
 use lib.IntN.{ℤ}
-use lib.Dec.{eqb, ltb}
-use Rattle.variants_and_fragments.specs.declared.Sizes.{Sizes}
-use Rattle.variants_and_fragments.specs.First.{firstFail}
+use lib.Dec.{eqb}
+use Rattle.variants_and_fragments.specs.First.{holdsBelow}
 use Rattle.variants_and_fragments.specs.Layout.{lengthAt}
 
 -- how many bytes variant v's alleles have; an absent allele has length 0
@@ -28,12 +27,4 @@ baseOkAt b at i = isBase (getD b (at + i) 0)
 
 -- each of variant v's bytes is a base
 unfoldable pub allelesOk : List ℤ → List ℕ → ℕ → Bool
-allelesOk w b v = eqb (firstFail (baseOkAt b (allelesStart w v)) (allelesLength w v)) (allelesLength w v)
-
--- the place of what is wrong, len bytes being there and all being asked: n for the wrong length, which comes before any variant v
--- of n with a wrong byte; n + 1 where nothing is
-unfoldable pub allelesFaultAt : ℕ → ℕ → ℕ → ℕ → ℕ
-allelesFaultAt len all v n = cond (eqb len all) (cond (ltb v n) v (n + 1)) n
-
-abbrev pub allelesFault : List ℤ → Sizes → List ℕ → ℕ
-allelesFault w s b = allelesFaultAt (length b) (allelesStart w (s .n)) (firstFail (allelesOk w b) (s .n)) (s .n)
+allelesOk w b v = holdsBelow (baseOkAt b (allelesStart w v)) (allelesLength w v)

@@ -1,4 +1,4 @@
--- 01, section 2: words and allele bytes made of a case, from which `decode` gives back every case of at most three alleles a variant
+-- 01, section 2: words and allele bytes made of a case, from which `decode` gives back every case of at most three alleles per variant
 -- (`decode-encode` of proofs/Encoded.antt). Records are numbered fragment after fragment, and a fragment's chain goes through consecutive
 -- records. Samples make their words here; that the check accepts them is shown of these samples, and not in general. Assumes nothing.
 use mathlib.Core.List.{List, [], _∷_, _++_, map}

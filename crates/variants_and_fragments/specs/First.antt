@@ -1,8 +1,8 @@
 -- The first place at which a test fails: a refusal names the lowest place.
 -- Assumes nothing.
 use mathlib.Core.Bool.{Bool, cond}
-use mathlib.Core.List.{List, [], _∷_}
 use Prim.Native.Nat.{ℕ, zero, suc}
+use lib.Dec.{eqb}
 
 -- of the k numbers from i on, the first at which p fails; i + k where there is none
 unfoldable pub firstFailFrom : (ℕ → Bool) → ℕ → ℕ → ℕ
@@ -14,7 +14,6 @@ unfoldable pub firstFail : (ℕ → Bool) → ℕ → ℕ
 unfolding firstFailFrom
 firstFail p n = firstFailFrom p 0 n
 
--- the index of the first of some tests that fails; their number where none does
-unfoldable pub firstFalse : List Bool → ℕ
-firstFalse [] = 0
-firstFalse (b ∷ bs) = cond b (suc (firstFalse bs)) 0
+-- p holds of each of 0..n−1
+unfoldable pub holdsBelow : (ℕ → Bool) → ℕ → Bool
+holdsBelow p n = eqb (firstFail p n) n

@@ -1,7 +1,9 @@
 pub mod Sums
 pub mod Case
 pub mod Words
+pub mod First
 pub mod Layout
+pub mod Head
 pub mod Chain
 pub mod Accepted
 pub mod Fold

@@ -1,16 +1,14 @@
--- 01, section 2: the layout of a case, the one place that knows where a word stands; and under the numbers 1, 2 and 4 of
--- "Refusals by number and place" what is asked of the head, of a variant record and of a call record. w is the words, s the sizes.
+-- 01, section 2: the layout of a case, the one place that knows where a word stands; and under the numbers 2 and 4 of
+-- "Refusals by number and place" what is asked of a variant record and of a call record. w is the words, s the sizes.
 -- Assumes nothing.
 use mathlib.Core.Bool.{Bool, true, cond, _&&_}
 use mathlib.Core.List.{List, [], _∷_}
 use Prim.Native.Nat.{ℕ, _+_, _*_, _-_}
-use lib.ListN.{length}
 use lib.IntN.{ℤ, pos, negℤ}
 use lib.Signed.{leZ}
-use lib.Dec.{leb, ltb, eqb}
+use lib.Dec.{ltb, eqb}
 use Rattle.variants_and_fragments.specs.declared.Sizes.{Sizes}
-use Rattle.variants_and_fragments.specs.Words.{word, within, natOf, debtOf, natAt}
-use Rattle.variants_and_fragments.specs.First.{firstFalse}
+use Rattle.variants_and_fragments.specs.Words.{word, within, below, natOf, natAt}
 
 -- ---- the numbers of section 2
 -- words of the head, of a variant, a fragment, a call
@@ -101,12 +99,12 @@ abbrev pub nextField : ℕ
 nextField = 4
 
 -- ---- where things stand
--- what the head says: N, F, C, and how far the cutoff lies below 0
+-- what the head says: N, F, C and the cutoff
 abbrev pub cutoffAt : List ℤ → ℤ
 cutoffAt w = word w cutoffField
 
 abbrev pub sizesOf : List ℤ → Sizes
-sizesOf w = record { n = natAt w variantsField; f = natAt w fragmentsField; c = natAt w callsField; cut = debtOf (cutoffAt w) }
+sizesOf w = record { n = natAt w variantsField; f = natAt w fragmentsField; c = natAt w callsField; cutoff = cutoffAt w }
 
 abbrev pub totalWords : Sizes → ℕ
 totalWords s = headWords + variantWords * (s .n) + fragmentWords * (s .f) + callWords * (s .c)
@@ -121,75 +119,63 @@ fragmentAt s f = headWords + variantWords * (s .n) + fragmentWords * f
 abbrev pub callAt : Sizes → ℕ → ℕ
 callAt s r = headWords + variantWords * (s .n) + fragmentWords * (s .f) + callWords * (r - 1)
 
--- the fields of variant v: pos0 and dp as they stand, and each as a number; the genotype's two alleles are i = 0 and 1, the allele
--- lengths j = 0, 1 and 2
-abbrev pub pos0WordAt : List ℤ → ℕ → ℤ
-pos0WordAt w v = word w (variantAt v + pos0Field)
+-- the word of a field of variant v, of fragment f and of call r
+abbrev pub variantWord : List ℤ → ℕ → ℕ → ℤ
+variantWord w v field = word w (variantAt v + field)
 
-abbrev pub depthWordAt : List ℤ → ℕ → ℤ
-depthWordAt w v = word w (variantAt v + depthField)
+abbrev pub fragmentWord : List ℤ → Sizes → ℕ → ℕ → ℤ
+fragmentWord w s f field = word w (fragmentAt s f + field)
 
+abbrev pub callWord : List ℤ → Sizes → ℕ → ℕ → ℤ
+callWord w s r field = word w (callAt s r + field)
+
+-- the numbers of variant v; the genotype's two alleles are i = 0 and 1, the allele lengths j = 0, 1 and 2
 abbrev pub pos0At : List ℤ → ℕ → ℕ
-pos0At w v = natOf (pos0WordAt w v)
+pos0At w v = natOf (variantWord w v pos0Field)
 
 abbrev pub depthAt : List ℤ → ℕ → ℕ
-depthAt w v = natOf (depthWordAt w v)
+depthAt w v = natOf (variantWord w v depthField)
 
 abbrev pub genotypeAt : List ℤ → ℕ → ℕ → ℕ
-genotypeAt w v i = natAt w (variantAt v + (genotypeField + i))
+genotypeAt w v i = natOf (variantWord w v (genotypeField + i))
 
 abbrev pub alleleCountAt : List ℤ → ℕ → ℕ
-alleleCountAt w v = natAt w (variantAt v + alleleCountField)
+alleleCountAt w v = natOf (variantWord w v alleleCountField)
 
 abbrev pub lengthAt : List ℤ → ℕ → ℕ → ℕ
-lengthAt w v j = natAt w (variantAt v + (lengthField + j))
+lengthAt w v j = natOf (variantWord w v (lengthField + j))
 
--- the fields of fragment f
+-- of fragment f
 abbrev pub firstCallAt : List ℤ → Sizes → ℕ → ℕ
-firstCallAt w s f = natAt w (fragmentAt s f + firstField)
+firstCallAt w s f = natOf (fragmentWord w s f firstField)
 
 abbrev pub strandAt : List ℤ → Sizes → ℕ → ℕ
-strandAt w s f = natAt w (fragmentAt s f + strandField)
+strandAt w s f = natOf (fragmentWord w s f strandField)
 
--- the fields of call r
+-- of call r, and its qualities
 abbrev pub callVariantAt : List ℤ → Sizes → ℕ → ℕ
-callVariantAt w s r = natAt w (callAt s r + variantField)
+callVariantAt w s r = natOf (callWord w s r variantField)
 
 abbrev pub calledAlleleAt : List ℤ → Sizes → ℕ → ℕ
-calledAlleleAt w s r = natAt w (callAt s r + alleleField)
+calledAlleleAt w s r = natOf (callWord w s r alleleField)
 
 abbrev pub qualAt : List ℤ → Sizes → ℕ → ℤ
-qualAt w s r = word w (callAt s r + qualField)
+qualAt w s r = callWord w s r qualField
 
 abbrev pub oneMinusQualAt : List ℤ → Sizes → ℕ → ℤ
-oneMinusQualAt w s r = word w (callAt s r + oneMinusQualField)
+oneMinusQualAt w s r = callWord w s r oneMinusQualField
 
 abbrev pub nextCallAt : List ℤ → Sizes → ℕ → ℕ
-nextCallAt w s r = natAt w (callAt s r + nextField)
-
--- ---- 1, the head: words 0 to 3, and at 4 the length
-abbrev pub headTests : List ℤ → List Bool
-headTests w =
-    leb (sizesOf w .n) maxVariants
-    ∷ leb (sizesOf w .f) maxFragments
-    ∷ leb (sizesOf w .c) maxCalls
-    ∷ within lowestQuality (pos 0) (cutoffAt w)
-    ∷ eqb (length w) (totalWords (sizesOf w))
-    ∷ []
-
--- the place of the head's fault, 5 where there is none; under four words it is 0
-unfoldable pub headFault : List ℤ → ℕ
-unfolding firstFalse
-headFault w = cond (leb headWords (length w)) (firstFalse (headTests w)) 0
+nextCallAt w s r = natOf (callWord w s r nextField)
 
 -- ---- 2, a variant record
 -- the position that variant v's may not fall below
-abbrev pub priorPos0At : List ℤ → ℕ → ℕ
-priorPos0At w v = cond (eqb v 0) 0 (pos0At w (v - 1))
+abbrev pub priorPos0At : List ℤ → ℕ → ℤ
+priorPos0At w v = cond (eqb v 0) (pos 0) (variantWord w (v - 1) pos0Field)
 
--- the length x of allele j of k: 1..64 where present, 0 where absent
-abbrev pub lengthOk : ℕ → ℕ → ℕ → Bool
-lengthOk j k x = cond (ltb j k) (leb 1 x && leb x maxAlleleLength) (eqb x 0)
+-- the length of allele j of k: 1..64 where present, 0 where absent
+abbrev pub lengthOk : List ℤ → ℕ → ℕ → Bool
+lengthOk w v j = let z = variantWord w v (lengthField + j) in cond (ltb j (alleleCountAt w v)) (within (pos 1) (pos maxAlleleLength) z) (within (pos 0) (pos 0) z)
 
 -- all of some tests
 abbrev pub allOf : List Bool → Bool
@@ -200,16 +186,15 @@ allOf (b ∷ c ∷ bs) = b && allOf (c ∷ bs)
 -- pos0 ≥ 0, not falling; dp ≥ 0; k in 1..3; genotype a, b, each in 0..k−1; three allele lengths
 abbrev pub variantTests : List ℤ → ℕ → List Bool
 variantTests w v =
-    leZ (pos 0) (pos0WordAt w v)
-    ∷ leb (priorPos0At w v) (pos0At w v)
-    ∷ leZ (pos 0) (depthWordAt w v)
-    ∷ leb 1 (alleleCountAt w v)
-    ∷ leb (alleleCountAt w v) maxAlleles
-    ∷ ltb (genotypeAt w v 0) (alleleCountAt w v)
-    ∷ ltb (genotypeAt w v 1) (alleleCountAt w v)
-    ∷ lengthOk 0 (alleleCountAt w v) (lengthAt w v 0)
-    ∷ lengthOk 1 (alleleCountAt w v) (lengthAt w v 1)
-    ∷ lengthOk 2 (alleleCountAt w v) (lengthAt w v 2)
+    leZ (pos 0) (variantWord w v pos0Field)
+    ∷ leZ (priorPos0At w v) (variantWord w v pos0Field)
+    ∷ leZ (pos 0) (variantWord w v depthField)
+    ∷ within (pos 1) (pos maxAlleles) (variantWord w v alleleCountField)
+    ∷ below (alleleCountAt w v) (variantWord w v (genotypeField + 0))
+    ∷ below (alleleCountAt w v) (variantWord w v (genotypeField + 1))
+    ∷ lengthOk w v 0
+    ∷ lengthOk w v 1
+    ∷ lengthOk w v 2
     ∷ []
 
 unfoldable pub variantOk : List ℤ → ℕ → Bool
@@ -219,10 +204,6 @@ variantOk w v = allOf (variantTests w v)
 -- its variant is one of the case, its allele below that variant's k, and both qualities are in −262144..0
 unfoldable pub callOk : List ℤ → Sizes → ℕ → Bool
 callOk w s r =
-    ltb (callVariantAt w s r) (s .n)
-    && (ltb (calledAlleleAt w s r) (alleleCountAt w (callVariantAt w s r))
+    below (s .n) (callWord w s r variantField)
+    && (below (alleleCountAt w (callVariantAt w s r)) (callWord w s r alleleField)
     && (within lowestQuality (pos 0) (qualAt w s r) && within lowestQuality (pos 0) (oneMinusQualAt w s r)))
-
--- the calls, counted from 0
-abbrev pub callsOk : List ℤ → Sizes → ℕ → Bool
-callsOk w s i = callOk w s (i + 1)

@@ -1,12 +1,12 @@
--- 01, section 2: what is read of one word. A word is an i32, so a whole number with a sign; signed ranges are stated of it as it stands.
--- Counts, indexes and lengths are read in ℕ, where a negative word passes no range.
+-- 01, section 2: what is read of one word. A word is an i32, so a whole number with a sign. Every range is stated of the word as it stands;
+-- counts, indexes and lengths are then read as numbers.
 -- Assumes nothing.
 use mathlib.Core.Bool.{Bool, _&&_}
 use mathlib.Core.List.{List}
-use Prim.Native.Nat.{ℕ, zero, suc}
+use Prim.Native.Nat.{ℕ}
 use lib.ListN.{getD}
 use lib.IntN.{ℤ, pos, negsuc}
-use lib.Signed.{leZ}
+use lib.Signed.{leZ, ltZ}
 
 -- word i of w
 abbrev pub word : List ℤ → ℕ → ℤ
@@ -15,6 +15,10 @@ word w i = getD w i (pos 0)
 -- z is in lo..hi, both ends included
 unfoldable pub within : ℤ → ℤ → ℤ → Bool
 within lo hi z = leZ lo z && leZ z hi
+
+-- z is one of 0..n−1
+unfoldable pub below : ℕ → ℤ → Bool
+below n z = leZ (pos 0) z && ltZ z (pos n)
 
 -- no word's number, and above every bound of the layout
 abbrev pub none : ℕ
@@ -25,12 +29,6 @@ abbrev pub natOf : ℤ → ℕ
 natOf (pos n) = n
 natOf (negsuc n) = none
 
--- how far a word lies below 0; a positive one is none
-abbrev pub debtOf : ℤ → ℕ
-debtOf (pos zero) = 0
-debtOf (pos (suc n)) = none
-debtOf (negsuc n) = suc n
-
--- word i of w, in each reading
+-- the number of word i of w
 abbrev pub natAt : List ℤ → ℕ → ℕ
-natAt w i = natOf (getD w i (pos 0))
+natAt w i = natOf (word w i)

@@ -4,7 +4,7 @@ ghost use Prim.Native.Nat.{_+_, _<_, _≤_};
 ghost use lib.ListN.{length};
 ghost use Rattle.variants_and_fragments.specs.First.{firstFail};
 ghost use Rattle.variants_and_fragments.specs.Inner.Layout.{Sized};
-ghost use Rattle.variants_and_fragments.specs.Alleles.{allelesLength, allelesStart, isBase, baseOkAt, allelesOk, allelesFault};
+ghost use Rattle.variants_and_fragments.specs.Alleles.{allelesLength, allelesStart, isBase, baseOkAt, allelesOk};
 ghost use Rattle.variants_and_fragments.specs.Inner.Alleles.{VariantsIn};
 use crate::Sizes;
 use crate::layout::allele_length;
@@ -80,22 +80,4 @@ pub fn first_bad_alleles(words: &[i32], s: Sizes, bases: &[u8]) -> usize
         v += 1;
     }
     v
-}
-
-// The place of a fault of the allele bytes: N for their length, else the first variant with a wrong byte; N + 1 where there is none.
-pub fn alleles_fault(words: &[i32], s: Sizes, bases: &[u8]) -> usize
-    requires { ⌜ Sized (now words) s ⌝ }
-    requires { ⌜ VariantsIn (now words) s ⌝ }
-    ensures { λ r. ⌜ r ≡ allelesFault (now (words .entry)) s (now (bases .entry)) ⌝ }
-{
-    let n = s.n;
-    let all = all_alleles_length(words, s);
-    if bases.len() != all {
-        return n;
-    }
-    let v = first_bad_alleles(words, s, bases);
-    if v < n {
-        return v;
-    }
-    n + 1
 }

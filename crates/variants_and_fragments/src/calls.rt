@@ -1,9 +1,10 @@
 // The check of the call records: number 4 of document 01's table.
 ghost use mathlib.Core.Path.{_≡_};
 ghost use Prim.Native.Nat.{_≤_};
-ghost use Rattle.variants_and_fragments.specs.First.{firstFail};
-ghost use Rattle.variants_and_fragments.specs.Layout.{callOk, callsOk};
+ghost use Rattle.variants_and_fragments.specs.First.{firstFailFrom};
+ghost use Rattle.variants_and_fragments.specs.Layout.{callOk};
 ghost use Rattle.variants_and_fragments.specs.Inner.Layout.{Sized};
+ghost use Rattle.variants_and_fragments.specs.Inner.Alleles.{VariantsIn};
 use crate::Sizes;
 use crate::layout::allele_count;
 use crate::layout::call_variant;
@@ -14,6 +15,7 @@ use crate::layout::qual_ok;
 // Call r's record is right: its variant, its allele and both qualities are in range.
 pub fn call_ok(words: &[i32], s: Sizes, r: usize) -> bool
     requires { ⌜ Sized (now words) s ⌝ }
+    requires { ⌜ VariantsIn (now words) s ⌝ }
     requires { ⌜ (1 ≤ r) × (r ≤ s .c) ⌝ }
     ensures { λ ok. ⌜ ok ≡ callOk (now (words .entry)) s r ⌝ }
 {
@@ -29,18 +31,19 @@ pub fn call_ok(words: &[i32], s: Sizes, r: usize) -> bool
     (a < k) & (qual & one_minus_qual)
 }
 
-// The first call whose record is wrong, counted from 0, or C. At the loop's head the records before i are right.
+// The first call whose record is wrong, counted from 1, or C + 1. At the loop's head the records before r are right.
 pub fn first_bad_call(words: &[i32], s: Sizes) -> usize
     requires { ⌜ Sized (now words) s ⌝ }
-    ensures { λ r. ⌜ r ≡ firstFail (callsOk (now (words .entry)) s) (s .c) ⌝ }
+    requires { ⌜ VariantsIn (now words) s ⌝ }
+    ensures { λ r. ⌜ r ≡ firstFailFrom (callOk (now (words .entry)) s) 1 (s .c) ⌝ }
 {
     let c = s.c;
-    let mut i = 0;
-    while i < c {
-        if !call_ok(words, s, i + 1) {
-            return i;
+    let mut r = 1;
+    while r <= c {
+        if !call_ok(words, s, r) {
+            return r;
         }
-        i += 1;
+        r += 1;
     }
-    i
+    r
 }

@@ -4,7 +4,7 @@ ghost use Prim.Native.Nat.{_+_, _<_, _≤_};
 ghost use lib.ListN.{length};
 ghost use Rattle.variants_and_fragments.specs.First.{firstFail};
 ghost use Rattle.variants_and_fragments.specs.Inner.Layout.{Sized};
-ghost use Rattle.variants_and_fragments.specs.Chain.{nextCallAt, linkOk, reached, chainFault};
+ghost use Rattle.variants_and_fragments.specs.Chain.{nextCallAt, linkOk, reached};
 ghost use Rattle.variants_and_fragments.specs.Inner.Chain.{Walked, FragmentChecked, FragmentsChecked, markedAt, Marked};
 ghost use mathlib.Core.List.{[]};
 use crate::Sizes;
@@ -138,23 +138,4 @@ pub fn first_unreached(seen: &[u8], c: usize) -> usize
         i += 1;
     }
     i
-}
-
-// The place of a fault of the chains: the first fragment that is wrong, F where a record is not reached; F + 1 where there is none.
-pub fn chain_fault(words: &[i32], s: Sizes, seen: &mut [u8]) -> usize
-    requires { ⌜ Sized (now words) s ⌝ }
-    requires { ⌜ Marked (now seen) [] ⌝ }
-    ensures { λ r. ⌜ r ≡ chainFault (now (words .entry)) s ⌝ }
-{
-    let n = s.f;
-    let c = s.c;
-    let f = first_bad_fragment(words, s, seen);
-    if f < n {
-        return f;
-    }
-    let i = first_unreached(seen, c);
-    if i < c {
-        return n;
-    }
-    n + 1
 }

@@ -1,6 +1,6 @@
 // The check of the head: number 1 of document 01's table.
 ghost use mathlib.Core.Path.{_≡_};
-ghost use Rattle.variants_and_fragments.specs.Layout.{headFault};
+ghost use Rattle.variants_and_fragments.specs.Inner.Head.{headFault};
 use crate::layout::HEAD_WORDS;
 use crate::layout::MAX_CALLS;
 use crate::layout::MAX_FRAGMENTS;

@@ -4,9 +4,8 @@ ghost use Prim.Native.Nat.{_+_, _<_, _≤_};
 ghost use lib.ListN.{length};
 ghost use lib.IntN.{pos};
 ghost use lib.Signed.{leZ};
-ghost use Rattle.variants_and_fragments.specs.Words.{natOf, debtOf, word, within, natAt};
-ghost use Rattle.variants_and_fragments.specs.Inner.Words.{debtAt};
-ghost use Rattle.variants_and_fragments.specs.Layout.{sizesOf, lowestQuality, headWords, variantWords, fragmentWords, callWords, totalWords, maxVariants, maxFragments, maxCalls, variantAt, fragmentAt, callAt, cutoffAt, qualAt, oneMinusQualAt, pos0WordAt, depthWordAt, pos0At, depthAt, genotypeAt, alleleCountAt, lengthAt, callVariantAt, calledAlleleAt, firstCallAt, strandAt, nextCallAt};
+ghost use Rattle.variants_and_fragments.specs.Words.{natOf, word, within, natAt};
+ghost use Rattle.variants_and_fragments.specs.Layout.{sizesOf, lowestQuality, headWords, variantWords, fragmentWords, callWords, totalWords, maxVariants, maxFragments, maxCalls, variantAt, fragmentAt, callAt, cutoffAt, qualAt, oneMinusQualAt, pos0Field, depthField, variantWord, callWord, pos0At, depthAt, genotypeAt, alleleCountAt, lengthAt, callVariantAt, calledAlleleAt, firstCallAt, strandAt, nextCallAt};
 ghost use Rattle.variants_and_fragments.specs.Inner.Layout.{Sized};
 ghost use Rattle.variants_and_fragments.specs.Inner.Chain.{firstRecordAt};
 ghost use Rattle.variants_and_fragments.specs.Inner.Alleles.{VariantsIn};
@@ -84,39 +83,12 @@ pub fn nat_of(x: i32) -> usize
     x as usize
 }
 
-// How far a word lies below 0, where a positive word is NONE.
-pub fn debt_of(x: i32) -> usize
-    ensures { λ r. ⌜ r ≡ debtOf x ⌝ }
-{
-    if 0 < x {
-        return NONE;
-    }
-    (0 - x as i64) as usize
-}
-
 // Word i, where a negative word is NONE.
 pub fn nat_at(words: &[i32], i: usize) -> usize
     requires { ⌜ i < length (now words) ⌝ }
     ensures { λ r. ⌜ r ≡ natAt (now (words .entry)) i ⌝ }
 {
     nat_of(words[i])
-}
-
-// How far word i lies below 0, where a positive word is NONE.
-pub fn debt_at(words: &[i32], i: usize) -> usize
-    requires { ⌜ i < length (now words) ⌝ }
-    ensures { λ r. ⌜ r ≡ debtAt (now (words .entry)) i ⌝ }
-{
-    debt_of(words[i])
-}
-
-// Word i is 0 or more.
-pub fn not_negative(words: &[i32], i: usize) -> bool
-    requires { ⌜ i < length (now words) ⌝ }
-    ensures { λ r. ⌜ r ≡ leZ (pos 0) (word (now (words .entry)) i) ⌝ }
-{
-    let z = words[i];
-    0 <= z
 }
 
 // Word i is in −262144..0, as the cutoff and both qualities are.
@@ -156,7 +128,7 @@ pub fn read_sizes(words: &[i32]) -> Sizes
         n: nat_at(words, VARIANTS),
         f: nat_at(words, FRAGMENTS),
         c: nat_at(words, CALLS),
-        cut: debt_at(words, CUTOFF),
+        cutoff: word_at(words, CUTOFF),
     }
 }
 
@@ -202,36 +174,28 @@ fn variant_field(words: &[i32], s: Sizes, v: usize, k: usize) -> usize
     nat_at(words, variant_at(v) + k)
 }
 
-// Field k of variant v is not negative.
-fn variant_field_ok(words: &[i32], s: Sizes, v: usize, k: usize) -> bool
+// Field k of variant v, as its word has it.
+fn variant_word(words: &[i32], s: Sizes, v: usize, k: usize) -> i32
     requires { ⌜ Sized (now words) s × (v < s .n) × (k < variantWords) ⌝ }
-    ensures { λ r. ⌜ r ≡ leZ (pos 0) (word (now (words .entry)) (variantAt v + k)) ⌝ }
+    ensures { λ r. ⌜ r ≡ variantWord (now (words .entry)) v k ⌝ }
 {
-    not_negative(words, variant_at(v) + k)
+    word_at(words, variant_at(v) + k)
 }
 
-// Variant v's position is not negative.
-pub fn pos0_ok(words: &[i32], s: Sizes, v: usize) -> bool
+// Variant v's position, as its word has it.
+pub fn pos0_word(words: &[i32], s: Sizes, v: usize) -> i32
     requires { ⌜ Sized (now words) s × (v < s .n) ⌝ }
-    ensures { λ r. ⌜ r ≡ leZ (pos 0) (pos0WordAt (now (words .entry)) v) ⌝ }
+    ensures { λ r. ⌜ r ≡ variantWord (now (words .entry)) v pos0Field ⌝ }
 {
-    variant_field_ok(words, s, v, POS0)
+    variant_word(words, s, v, POS0)
 }
 
-// Variant v's depth is not negative.
-pub fn depth_ok(words: &[i32], s: Sizes, v: usize) -> bool
+// Variant v's depth, as its word has it.
+pub fn depth_word(words: &[i32], s: Sizes, v: usize) -> i32
     requires { ⌜ Sized (now words) s × (v < s .n) ⌝ }
-    ensures { λ r. ⌜ r ≡ leZ (pos 0) (depthWordAt (now (words .entry)) v) ⌝ }
+    ensures { λ r. ⌜ r ≡ variantWord (now (words .entry)) v depthField ⌝ }
 {
-    variant_field_ok(words, s, v, DEPTH)
-}
-
-// Variant v's position, NONE where it is negative.
-pub fn pos0_at(words: &[i32], s: Sizes, v: usize) -> usize
-    requires { ⌜ Sized (now words) s × (v < s .n) ⌝ }
-    ensures { λ r. ⌜ r ≡ pos0At (now (words .entry)) v ⌝ }
-{
-    variant_field(words, s, v, POS0)
+    variant_word(words, s, v, DEPTH)
 }
 
 // The position of a variant v that is checked.
@@ -389,13 +353,21 @@ pub fn one_minus_qual_ok(words: &[i32], s: Sizes, r: usize) -> bool
     call_field_ok(words, s, r, ONE_MINUS_QUAL)
 }
 
+// Field k of call r, as its word has it.
+fn call_word(words: &[i32], s: Sizes, r: usize, k: usize) -> i32
+    requires { ⌜ Sized (now words) s × (1 ≤ r) × (r ≤ s .c) × (k < callWords) ⌝ }
+    ensures { λ t. ⌜ t ≡ callWord (now (words .entry)) s r k ⌝ }
+{
+    word_at(words, call_at(s, r) + k)
+}
+
 // The quality of record r.
 pub fn qual_of(words: &[i32], s: Sizes, r: usize) -> i32
     requires { ⌜ Sized (now words) s ⌝ }
     requires { ⌜ (1 ≤ r) × (r ≤ s .c) ⌝ }
     ensures { λ q. ⌜ q ≡ qualAt (now (words .entry)) s r ⌝ }
 {
-    word_at(words, call_at(s, r) + QUAL)
+    call_word(words, s, r, QUAL)
 }
 
 // The other quality of record r, one_minus_qual.
@@ -404,16 +376,7 @@ pub fn one_minus_qual_of(words: &[i32], s: Sizes, r: usize) -> i32
     requires { ⌜ (1 ≤ r) × (r ≤ s .c) ⌝ }
     ensures { λ q. ⌜ q ≡ oneMinusQualAt (now (words .entry)) s r ⌝ }
 {
-    word_at(words, call_at(s, r) + ONE_MINUS_QUAL)
-}
-
-// How far the quality of record r lies below 0.
-pub fn qual_debt(words: &[i32], s: Sizes, r: usize) -> usize
-    requires { ⌜ Sized (now words) s ⌝ }
-    requires { ⌜ (1 ≤ r) × (r ≤ s .c) ⌝ }
-    ensures { λ d. ⌜ d ≡ debtOf (qualAt (now (words .entry)) s r) ⌝ }
-{
-    debt_at(words, call_at(s, r) + QUAL)
+    call_word(words, s, r, ONE_MINUS_QUAL)
 }
 
 // The record after call r in its chain, or 0.

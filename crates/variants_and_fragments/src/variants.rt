@@ -2,20 +2,19 @@
 ghost use mathlib.Core.Path.{_≡_};
 ghost use Prim.Native.Nat.{_<_};
 ghost use Rattle.variants_and_fragments.specs.First.{firstFail};
-ghost use Rattle.variants_and_fragments.specs.Layout.{priorPos0At, lengthOk, variantOk};
-ghost use Rattle.variants_and_fragments.specs.Inner.Layout.{Sized};
+ghost use Rattle.variants_and_fragments.specs.Layout.{priorPos0At, variantOk};
+ghost use Rattle.variants_and_fragments.specs.Inner.Layout.{Sized, lengthTest};
 use crate::Sizes;
 use crate::layout::MAX_ALLELE_LENGTH;
 use crate::layout::MAX_ALLELES;
 use crate::layout::allele_count;
 use crate::layout::allele_length;
-use crate::layout::depth_ok;
+use crate::layout::depth_word;
 use crate::layout::genotype_of;
-use crate::layout::pos0_at;
-use crate::layout::pos0_ok;
+use crate::layout::pos0_word;
 
 // The position that variant v's may not fall below.
-pub fn prior_pos0(words: &[i32], s: Sizes, v: usize) -> usize
+pub fn prior_pos0(words: &[i32], s: Sizes, v: usize) -> i32
     requires { ⌜ Sized (now words) s ⌝ }
     requires { ⌜ v < s .n ⌝ }
     ensures { λ r. ⌜ r ≡ priorPos0At (now (words .entry)) v ⌝ }
@@ -23,12 +22,12 @@ pub fn prior_pos0(words: &[i32], s: Sizes, v: usize) -> usize
     if v == 0 {
         return 0;
     }
-    pos0_at(words, s, v - 1)
+    pos0_word(words, s, v - 1)
 }
 
 // The length x of allele j of k is right: 1..64 where present, 0 where absent.
 pub fn length_ok(j: usize, k: usize, x: usize) -> bool
-    ensures { λ r. ⌜ r ≡ lengthOk j k x ⌝ }
+    ensures { λ r. ⌜ r ≡ lengthTest j k x ⌝ }
 {
     if j < k {
         return (1 <= x) & (x <= MAX_ALLELE_LENGTH);
@@ -42,20 +41,19 @@ pub fn variant_ok(words: &[i32], s: Sizes, v: usize) -> bool
     requires { ⌜ v < s .n ⌝ }
     ensures { λ r. ⌜ r ≡ variantOk (now (words .entry)) v ⌝ }
 {
-    let p_low = pos0_ok(words, s, v);
-    let p = pos0_at(words, s, v);
+    let p = pos0_word(words, s, v);
     let q = prior_pos0(words, s, v);
-    let dp_low = depth_ok(words, s, v);
+    let dp = depth_word(words, s, v);
     let a = genotype_of(words, s, v, 0);
     let b = genotype_of(words, s, v, 1);
     let k = allele_count(words, s, v);
     let l0 = length_ok(0, k, allele_length(words, s, v, 0));
     let l1 = length_ok(1, k, allele_length(words, s, v, 1));
     let l2 = length_ok(2, k, allele_length(words, s, v, 2));
-    p_low
+    (0 <= p)
         & ((q <= p)
-            & (dp_low
-                & ((1 <= k) & ((k <= MAX_ALLELES) & ((a < k) & ((b < k) & (l0 & (l1 & l2))))))))
+            & ((0 <= dp)
+                & (((1 <= k) & (k <= MAX_ALLELES)) & ((a < k) & ((b < k) & (l0 & (l1 & l2)))))))
 }
 
 // The first variant whose record is wrong, or N. At the loop's head the records before v are right.

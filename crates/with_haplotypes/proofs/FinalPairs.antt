@@ -1,16 +1,16 @@
 -- The final answer's pair of each variant is the one that the last sweep left: that sweep visits the variant once, and its visit takes the first
 -- pair with the greatest score, which normalising does not change. Assumes nothing.
-use mathlib.Core.Path.{_≡_, refl, sym, ap, _∙_}
+use mathlib.Core.Path.{_≡_, refl, sym, _∙_}
 use mathlib.Core.Logic.{_≢_}
-use mathlib.Core.Bool.{true, cond}
+use mathlib.Core.Bool.{true}
 use mathlib.Core.List.{List, [], _∷_}
-use Prim.Native.Nat.{ℕ, zero, suc, _+_, _-_, _*_, _/_, _%_, _<_, _≤_}
+use Prim.Native.Nat.{ℕ, suc, _+_, _-_, _*_, _/_, _%_, _<_, _≤_}
 use native.Mathlib.Omega.{arith}
 use native.Mathlib.Nat.{div-add-mod'}
 use borrow.Author.Tests.{eqb-true, eqb-false, lt-ltb}
 use lib.Dec.{eqb}
 use lib.IntN.{ℤ, pos, _-ℤ_}
-use lib.ListN.{length, getD}
+use lib.ListN.{length}
 use Rattle.steps.proofs.Signed.{by-test}
 use Rattle.variants_and_fragments.specs.Case.{alleleCount, variantOf}
 use Rattle.variants_and_fragments.specs.Decode.{tabulate}
@@ -19,7 +19,7 @@ use Rattle.genotype_probs.specs.Posteriors.{tableSum, normalized, entryAt, post
 use Rattle.genotype_probs.proofs.AlleleLaws.{nine}
 use Rattle.genotype_probs.proofs.Maxima.{maximum-same, maximum-shifted}
 use Rattle.shuffle.specs.Permutation.{Permutation, times}
-use Rattle.sweeps.specs.Sweeps.{SweepCase, allele0, allele1, bestPair, visit, sweep}
+use Rattle.sweeps.specs.Sweeps.{SweepCase, bestPair, visit, sweep}
 use Rattle.sweeps.specs.Inner.Sweeps.{GoodHaps}
 use Rattle.sweeps.specs.Demand3.{after}
 use Rattle.sweeps.proofs.Basics.{length-put, at0-same, at1-same, at0-other, at1-other}

@@ -230,11 +230,11 @@ module _ {w : List ℤ} {b : List ℕ} {rates : Rates} (z : RoundSizes) (G : Cas
           (λ p l. getD-drop (9 * v) post' p (pos 0) ∙ after-at v p h (omega arith))
 
       module _ {quals gqs quals' gqs' : List Float} (F : FinalsWritten w post' (z .s .n) quals gqs quals' gqs') where
-        pub quals-written : quals' ≡ written (λ v. final input v .qual) (z .s .n) quals
-        quals-written = F .quals-are ∙ written-same (λ v. finalAt w post' v .qual) (λ v. final input v .qual) (z .s .n) quals (λ v h. ap (λ x. x .qual) (final-is v h))
+        pub quals-written : quals' ≡ written (λ v. final input v .qual .0) (z .s .n) quals
+        quals-written = F .quals-are ∙ written-same (λ v. finalAt w post' v .qual .0) (λ v. final input v .qual .0) (z .s .n) quals (λ v h. ap (λ x. x .qual .0) (final-is v h))
 
-        pub gqs-written : gqs' ≡ written (λ v. final input v .gq) (z .s .n) gqs
-        gqs-written = F .gqs-are ∙ written-same (λ v. finalAt w post' v .gq) (λ v. final input v .gq) (z .s .n) gqs (λ v h. ap (λ x. x .gq) (final-is v h))
+        pub gqs-written : gqs' ≡ written (λ v. final input v .gq .0) (z .s .n) gqs
+        gqs-written = F .gqs-are ∙ written-same (λ v. finalAt w post' v .gq .0) (λ v. final input v .gq .0) (z .s .n) gqs (λ v h. ap (λ x. x .gq .0) (final-is v h))
 
 -- ---- the haplotypes and the likelihoods, of which the fronts were lent
 module _ {w : List ℤ} {b : List ℕ} {rates : Rates} (z : RoundSizes) (G : CaseGiven w b rates (z .s)) (phased : ℕ → Bool) (from orders : List ℕ) {before after : SweepState} {r : RoundAnswer} (R : RunMade (runInput w b rates phased from orders (z .limit)) before after r) where

@@ -1,6 +1,6 @@
 -- A run over an accepted case from given haplotypes: what stands before its first sweep, and the totals before and after it.
 -- Assumes nothing.
-use mathlib.Core.Path.{_≡_, refl, sym, ap, _∙_}
+use mathlib.Core.Path.{_≡_, sym, ap, _∙_}
 use mathlib.Core.Bool.{Bool, true}
 use mathlib.Core.List.{List, [], _∷_}
 use Prim.Native.Nat.{ℕ, zero, suc, _*_, _^_, _<_, _≤_}
@@ -167,7 +167,7 @@ module _ {w : List ℤ} {b : List ℕ} {rates : Rates} {z : RoundSizes} {ks ph o
         rw (e .reached, orders-here)
         (after-good C (case-held .good) (orderOfSweep run) (orders-good z (G .given) phased (state .hap) orders (z .limit) (G .good-orders)) (state .hap) (suc (e .last)) (G .good-start))
 
-    pub run-made : (a : RoundAnswer) → a .sweeps ≡ r .sweeps → a .settled ≡ r .settled → a .start ≡ phasedTotal C (state .hap) → a .end ≡ phasedTotal C (after .hap) → a .source ≡ sourceTotal C (after .hap) → RunMade run state after a
+    pub run-made : (a : RoundAnswer) → a .sweeps ≡ r .sweeps → a .settled ≡ r .settled → a .start .0 ≡ phasedTotal C (state .hap) → a .end .0 ≡ phasedTotal C (after .hap) → a .source .0 ≡ sourceTotal C (after .hap) → RunMade run state after a
     unfolding result
     run-made a p q c d e =
         let o = orders-here in

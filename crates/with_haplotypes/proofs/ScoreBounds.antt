@@ -14,7 +14,7 @@ use Rattle.steps.proofs.AddExp.{add-least, add-below}
 use Rattle.variants_and_fragments.specs.declared.Sizes.{Sizes}
 use Rattle.variants_and_fragments.specs.Case.{Case, Variant, Fragment, Call, variantOf, alleleOf}
 use Rattle.variants_and_fragments.specs.Inner.Case.{rising, All, GoodCase, GoodFragment}
-use Rattle.variants_and_fragments.specs.Check.{caseOf}
+use Rattle.variants_and_fragments.specs.Check.{checkCaseOutcome}
 use Rattle.variants_and_fragments.specs.Refusals.{done}
 use Rattle.variants_and_fragments.specs.Decode.{decode}
 use Rattle.variants_and_fragments.specs.Pileup.{usableCalls}
@@ -25,12 +25,13 @@ use Rattle.variants_and_fragments.proofs.Bounds.{down-low, down-high, down-in, 
 use Rattle.variants_and_fragments.proofs.GoodCases.{good-case}
 use Rattle.variants_and_fragments.proofs.Usable.{usable-fewer, usable-in, usable-rises}
 use Rattle.genotype_probs.specs.declared.Rates.{Rates}
-use Rattle.genotype_probs.specs.Rates.{ratesFault}
+use Rattle.genotype_probs.specs.Inner.Rates.{ratesFault}
 use Rattle.genotype_probs.specs.Priors.{getPrior}
 use Rattle.genotype_probs.proofs.ListLaws.{down-abs}
 use Rattle.genotype_probs.proofs.PriorBounds.{Down, prior-down}
 use Rattle.genotype_probs.proofs.RateLaws.{rates-in}
-use Rattle.sweeps.specs.Sweeps.{SweepCase, allele0, allele1, putPair, likelihood, perCall, readShare, withOwn, scoreWith, score, totalOf, mixOf}
+use Rattle.sweeps.specs.Sweeps.{SweepCase, allele0, allele1, putPair, likelihood, perCall, readShare, withOwn, scoreWith, score, totalOf}
+use Rattle.steps.specs.Logs.{mixOf}
 use Rattle.sweeps.specs.Inner.Sweeps.{hasCall}
 use Rattle.sweeps.proofs.Basics.{one-call}
 use Rattle.likelihoods.specs.Inner.Likelihoods.{callShare}
@@ -99,7 +100,7 @@ sum-to-down zero f h = down-zero 0
 sum-to-down (suc n) f h = down-more (1052672 * n + 1052672) (1052672 * suc n) _ (omega arith) (down-add (1052672 * n) 1052672 _ _ (sum-to-down n f h) (h n))
 
 -- ---- the case of the sweeps of an accepted case
-module _ (rates : Rates) (phased : ℕ → Bool) (w : List ℤ) (b : List ℕ) (s : Sizes) (accepted : caseOf w b ≡ done s) (good-rates : ratesFault rates ≡ 7) where
+module _ (rates : Rates) (phased : ℕ → Bool) (w : List ℤ) (b : List ℕ) (s : Sizes) (accepted : checkCaseOutcome w b ≡ done s) (good-rates : ratesFault rates ≡ 7) where
   abbrev case : Case
   case = decode w b
 

@@ -12,7 +12,7 @@ use lib.Seq.{ext-getD}
 use Rattle.variants_and_fragments.specs.Written.{written}
 use Rattle.variants_and_fragments.proofs.GoodCases.{good-case}
 use Rattle.variants_and_fragments.proofs.Written.{written-at, written-length, written-past}
-use Rattle.haplotype_assembly.specs.Phase.{flagOf, phasedFlags, startHaplotypes}
+use Rattle.haplotype_assembly.specs.Phase.{flagOf}
 use Rattle.haplotype_assembly.specs.Inner.PhaseRead.{startAt, flagsAt}
 use Rattle.haplotype_assembly.proofs.Decodes.{count-is, start-is, flag-is}
 use Rattle.haplotype_assembly.proofs.Start.{start-length, start-written, start-first-below, start-second-below}

@@ -17,7 +17,7 @@ use Rattle.with_haplotypes.specs.declared.finals.FinalAnswer.{FinalAnswe
 unfoldable pub finalOf : List ℤ → ℕ → FinalAnswer
 finalOf tab k = let p = maxGenotype true tab k in record {
   genotype = record { 0 = p / k; 1 = p % k };
-  qual = capped (phredOf (steps (getD tab 0 (pos 0))));
-  gq = capped (phredOf (otherSum tab k p));
+  qual = record { 0 = capped (phredOf (steps (getD tab 0 (pos 0)))) };
+  gq = record { 0 = capped (phredOf (otherSum tab k p)) };
   filter = Pass;
 }

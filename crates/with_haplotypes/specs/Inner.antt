@@ -1,3 +1,4 @@
+pub mod Checks
 pub mod Steps
 pub mod Finals
 pub mod NormalizedPosteriors

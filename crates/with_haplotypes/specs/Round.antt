@@ -54,9 +54,9 @@ module _ (input : RunInput) where
   returned = record {
     sweeps = result .sweeps;
     settled = result .settled;
-    start = phasedTotal sweepCase (input .start);
-    end = phasedTotal sweepCase (result .haps);
-    source = sourceTotal sweepCase (result .haps);
+    start = record { 0 = phasedTotal sweepCase (input .start) };
+    end = record { 0 = phasedTotal sweepCase (result .haps) };
+    source = record { 0 = sourceTotal sweepCase (result .haps) };
   }
 
   -- ---- "written"

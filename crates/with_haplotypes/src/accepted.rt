@@ -1,6 +1,6 @@
 // A round over an accepted input: prepare, run, finish.
 ghost use mathlib.Core.Path.{_≡_};
-ghost use Prim.Native.Nat.{_*_, _≤_};
+ghost use Prim.Native.Nat.{_*_};
 ghost use lib.ListN.{length};
 ghost use Rattle.with_haplotypes.specs.Round.{roundInput, runOf};
 ghost use Rattle.with_haplotypes.specs.Inner.Steps.{Admitted, RoundRoom, RoundMade};

@@ -2,8 +2,7 @@
 ghost use mathlib.Core.Path.{_≡_};
 ghost use Prim.Native.Nat.{_≤_};
 ghost use Rattle.steps.specs.Table.{knots};
-ghost use Rattle.with_haplotypes.specs.Promise.{roundShort, limitChecks, roundChecks};
-ghost use Rattle.with_haplotypes.specs.Inner.Steps.{checkedAs};
+ghost use Rattle.with_haplotypes.specs.Inner.Checks.{roundShort, limitChecks, roundChecks, checkedAs};
 use genotype_probs::Rates;
 use genotype_probs::table::rates_fault;
 use haplotype_assembly::phase::phase_fault;

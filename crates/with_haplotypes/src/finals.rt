@@ -11,6 +11,7 @@ use genotype_probs::posteriors::Genotype;
 use genotype_probs::posteriors::max_genotype;
 use genotype_probs::posteriors::other_sum;
 use steps::LogProb;
+use steps::PHREDProb;
 use steps::phred::capped_phred;
 use variants_and_fragments::Sizes;
 use variants_and_fragments::VarFilter;
@@ -19,8 +20,8 @@ use variants_and_fragments::layout;
 // The called pair, the quality of the variant, that of the pair, and the filter.
 pub struct FinalAnswer {
     pub genotype: Genotype,
-    pub qual: f64,
-    pub gq: f64,
+    pub qual: PHREDProb,
+    pub gq: PHREDProb,
     pub filter: VarFilter,
 }
 
@@ -33,8 +34,8 @@ pub fn final_answer(t: &[u16; 1665], post: &[i64], at: usize, k: usize) -> Final
     let others = other_sum(t, post, at, k, p);
     FinalAnswer {
         genotype: Genotype((p / k) as u8, (p % k) as u8),
-        qual: capped_phred(LogProb(post[at])).0,
-        gq: capped_phred(LogProb(others)).0,
+        qual: capped_phred(LogProb(post[at])),
+        gq: capped_phred(others),
         filter: VarFilter::Pass,
     }
 }
@@ -57,8 +58,8 @@ pub fn write_finals(
     while v < n {
         let k = layout::allele_count(words, s, v);
         let r = final_answer(t, post, 9 * v, k);
-        quals[v] = r.qual;
-        gqs[v] = r.gq;
+        quals[v] = r.qual.0;
+        gqs[v] = r.gq.0;
         v += 1;
     }
 }

@@ -1,11 +1,12 @@
 // One round of calling genotypes with haplotypes, after HapCUT2: document 01, sections 6 and 7.
 ghost use Rattle.with_haplotypes.specs.Round.{roundInput};
-ghost use Rattle.with_haplotypes.specs.Promise.{roundSlices, CalledWithHaplotypes};
+ghost use Rattle.with_haplotypes.specs.Promise.{roundSlices, outcomeOf, CalledWithHaplotypes};
 use crate::accepted::round_accepted;
 use crate::checks::RoundChecked;
 use crate::checks::round_checks;
 use crate::checks::round_short;
 use genotype_probs::Rates;
+use steps::LogProb;
 use variants_and_fragments::Checked;
 use variants_and_fragments::Refusal;
 use variants_and_fragments::Sizes;
@@ -24,9 +25,9 @@ mod scratch;
 pub struct RoundAnswer {
     pub sweeps: usize,
     pub settled: bool,
-    pub start: i64,
-    pub end: i64,
-    pub source: i64,
+    pub start: LogProb,
+    pub end: LogProb,
+    pub source: LogProb,
 }
 
 // What a round goes by: the sizes of its case, how many orders are lent, and the most sweeps.
@@ -59,7 +60,7 @@ pub fn call_genotypes_with_haplotypes(
     quals: &mut [f64],
     gqs: &mut [f64],
 ) -> Round
-    ensures { λ r. ⌜ CalledWithHaplotypes (roundInput (now (words .entry)) (now (bases .entry)) rates (now (phase .entry)) (now (orders .entry)) limit) (now (sets .entry)) (roundSlices (now (haplotypes .entry)) (now (likelihoods .entry)) (now (posteriors .entry)) (now (quals .entry)) (now (gqs .entry))) r (roundSlices (now (haplotypes .exit)) (now (likelihoods .exit)) (now (posteriors .exit)) (now (quals .exit)) (now (gqs .exit))) ⌝ }
+    ensures { λ r. ⌜ CalledWithHaplotypes (roundInput (now (words .entry)) (now (bases .entry)) rates (now (phase .entry)) (now (orders .entry)) limit) (now (sets .entry)) (roundSlices (now (haplotypes .entry)) (now (likelihoods .entry)) (now (posteriors .entry)) (now (quals .entry)) (now (gqs .entry))) (outcomeOf r) (roundSlices (now (haplotypes .exit)) (now (likelihoods .exit)) (now (posteriors .exit)) (now (quals .exit)) (now (gqs .exit))) ⌝ }
 {
     match check_case(words, bases) {
         Checked::Refused(x) => Round::Refused(x),

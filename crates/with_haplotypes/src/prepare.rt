@@ -1,5 +1,4 @@
 // The first step of a round: the usable calls as rows and as piles, and the priors, in lent scratch.
-ghost use Prim.Native.Nat.{_≤_};
 ghost use Rattle.with_haplotypes.specs.Inner.Steps.{CaseGiven, scratch, ScratchRoom, Prepared};
 use genotype_probs::Rates;
 use genotype_probs::case_priors::make_priors;

@@ -1,5 +1,4 @@
 // A run with scratch of its own: as long as the largest case needs, or a small one, which costs a small case less to clear.
-ghost use mathlib.Core.Path.{_≡_};
 ghost use Prim.Native.Nat.{_≤_};
 ghost use Rattle.call_genotypes.specs.Inner.Scores.{sweepState};
 ghost use Rattle.with_haplotypes.specs.Inner.Steps.{RunGiven, RunPromise, SomePhased};

@@ -3,9 +3,10 @@
 use mathlib.Core.Path.{_≡_, sym, ap, _∙_}
 use borrow.Author.Needs.{needs}
 use denote.Ref.{now}
-use Rattle.variants_and_fragments.specs.Refusals.{number, place, refused, done}
-use Rattle.variants_and_fragments.specs.Check.{outcomeOf, caseOf}
-use Rattle.genotype_probs.proofs.Outcomes.{case-refused}
+use Rattle.variants_and_fragments.specs.Refusals.{done}
+use Rattle.variants_and_fragments.specs.Check.{outcomeOf, checkCaseOutcome}
+use Rattle.variants_and_fragments.proofs.Outcomes.{case-stops, refuses}
+use Rattle.genotype_probs.specs.Answers.{genotypePriorsOutcome}
 use Rattle.genotype_probs.proofs.genotype_priors.Statement.{statement}
 use Rattle.genotype_probs.proofs.genotype_priors.Tie as tie
 
@@ -15,13 +16,9 @@ check-case-requires c κs = search needs
 abbrev start : tie.After-check-case → tie.Start
 start c = c .before .before
 
-is-accepted : (c : tie.After-checked2) → caseOf (now (start (c .before .before) .args .words)) (now (start (c .before .before) .args .bases)) ≡ done (c .checked2 .given .0 .0)
+is-accepted : (c : tie.After-checked2) → checkCaseOutcome (now (start (c .before .before) .args .words)) (now (start (c .before .before) .args .bases)) ≡ done (c .checked2 .given .0 .0)
 unfolding outcomeOf
 is-accepted c = sym (c .before .before .check-case .ensures) ∙ ap outcomeOf (c .checked2 .given .1)
-
-is-refused : (c : tie.After-checked) → refused (number (c .checked .given .0 .0)) (place (c .checked .given .0 .0)) ≡ caseOf (now (start (c .before .before) .args .words)) (now (start (c .before .before) .args .bases))
-unfolding outcomeOf
-is-refused c = ap outcomeOf (sym (c .checked .given .1)) ∙ c .before .before .check-case .ensures
 
 enum-known-checked : tie.Need-enum-known-checked
 enum-known-checked c = search needs
@@ -33,10 +30,8 @@ accepted-priors-requires : tie.Need-accepted-priors-requires
 accepted-priors-requires c κs = is-accepted (c .before .before)
 
 returns : tie.Need-returns
-returns c =
-    let d = c .before in
-    let s = start (d .before .before) in
-    case-refused (now (s .args .words)) (now (s .args .bases)) (s .args .rates) (now (s .args .priors)) (d .checked .given .0 .0) (is-refused d)
+unfolding genotypePriorsOutcome
+returns c = let d = c .before in refuses _ (case-stops _ _ _ _ (ap outcomeOf (sym (d .checked .given .1)) ∙ d .before .before .check-case .ensures))
 
 same-length : tie.Need-same-length
 same-length c = search needs

@@ -1,24 +1,30 @@
--- `generate_flist_buffer` meets its contract: the rows that it makes are those of the case, and each return is one answer of
--- `BufferAnswers`.
+-- `generate_flist_buffer` meets its contract: the rows that it makes are those of the case, and each way out is one line of the table, or the
+-- lines written.
 -- Assumes nothing.
-use mathlib.Core.List.{List}
-use mathlib.Core.Path.{_≡_}
+use mathlib.Core.List.{List, [], _∷_}
+use mathlib.Core.Path.{_≡_, sym, ap, _∙_}
 use Prim.Native.Nat.{ℕ}
 use native.Mathlib.Omega.{arith}
 use borrow.Author.Needs.{needs}
 use denote.Ref.{now}
+use lib.ListN.{length}
 use Rattle.variants_and_fragments.specs.declared.Sizes.{Sizes}
+use Rattle.variants_and_fragments.specs.declared.Refusal.the-variants.{Short}
+use Rattle.variants_and_fragments.specs.declared.Checked.the-variants.{Accepted}
 use Rattle.variants_and_fragments.specs.Inner.Accepted.{CaseIn}
-use Rattle.variants_and_fragments.specs.Check.{caseOf}
+use Rattle.variants_and_fragments.specs.Check.{checkCaseOutcome}
+use Rattle.variants_and_fragments.specs.Check as check
 use Rattle.variants_and_fragments.specs.Decode.{decode}
 use Rattle.variants_and_fragments.specs.Inner.Pileup.{fragmentRows}
-use Rattle.variants_and_fragments.specs.Refusals.{done}
+use Rattle.variants_and_fragments.specs.Refusals.{refused, done, longEnough}
+use Rattle.variants_and_fragments.proofs.Outcomes.{enough-on, enough-at, case-stops, case-past, is-done, promise-refused, promise-done}
 use Rattle.pileup.specs.Inner.Packed.{Grouped}
+use Rattle.haplotype_assembly.specs.Lines.{flistBuffer}
+use Rattle.haplotype_assembly.specs.FlistBuffer.{Amount, amountOf, flistBufferOutcome, outcomeOf}
 use Rattle.haplotype_assembly.specs.Inner.LinesRead.{LinesGiven}
-use Rattle.haplotype_assembly.proofs.BufferAnswers.{buffer-case, buffer-short, buffer-done}
 use Rattle.haplotype_assembly.proofs.Decodes.{accepted-in}
-use Rattle.haplotype_assembly.proofs.LinesDecoded.{given}
-use Rattle.haplotype_assembly.proofs.PhaseAnswers.{case-accepted, case-refused}
+use Rattle.haplotype_assembly.proofs.LinesDecoded.{given, bytes-are, amount-is, buffer-written}
+use Rattle.variants_and_fragments.proofs.Short.{one-short, one-fits}
 use Rattle.haplotype_assembly.proofs.generate_flist_buffer.Statement.{statement}
 use Rattle.haplotype_assembly.proofs.generate_flist_buffer.Tie as tie
 
@@ -29,11 +35,28 @@ st c = c .before .before .before .before .before
 abbrev sizes : tie.After-checked2 → Sizes
 sizes c = c .checked2 .given .0 .0
 
-accepted : (c : tie.After-checked2) → caseOf (now (st c .args .words)) (now (st c .args .bases)) ≡ done (sizes c)
-accepted c = case-accepted _ _ _ _ (c .before .before .check-case .ensures) (c .checked2 .given .1)
+checked : (c : tie.After-checked2) → check.outcomeOf (Accepted (sizes c)) ≡ checkCaseOutcome (now (st c .args .words)) (now (st c .args .bases))
+checked c = ap check.outcomeOf (sym (c .checked2 .given .1)) ∙ c .before .before .check-case .ensures
+
+accepted : (c : tie.After-checked2) → checkCaseOutcome (now (st c .args .words)) (now (st c .args .bases)) ≡ done (sizes c)
+accepted c = is-done _ _ _ (checked c)
 
 inside : (c : tie.After-checked2) → CaseIn (now (st c .args .words)) (sizes c)
 inside c = accepted-in _ _ _ (accepted c)
+
+-- ---- its outcome: what is left past the case
+abbrev lines : tie.Start → List ℕ
+lines c = flistBuffer (decode (now (c .args .words)) (now (c .args .bases))) (c .args .single-reads)
+
+abbrev amount : tie.Start → Amount
+amount c = amountOf (decode (now (c .args .words)) (now (c .args .bases))) (c .args .single-reads)
+
+abbrev slices : tie.Start → List (ℕ × ℕ)
+slices c = (length (lines c), length (now (c .args .buffer))) ∷ []
+
+past-case : (c : tie.After-checked2) → longEnough (slices (st c)) (done (amount (st c))) ≡ flistBufferOutcome (now (st c .args .words)) (now (st c .args .bases)) (st c .args .single-reads) (now (st c .args .buffer))
+unfolding flistBufferOutcome
+past-case c = case-past _ _ _ _ (checked c)
 
 -- ---- its rows
 abbrev case : tie.After-none → tie.After-checked2
@@ -99,8 +122,15 @@ count-lines-requires : tie.Need-count-lines-requires
 count-lines-requires c κs = lines-given (made c)
 
 returns : tie.Need-returns
-returns c = let m = made (c .before .before) in
-    buffer-short _ _ _ _ _ (accepted (here m)) _ _ (grouped m) _ (c .before .count-lines .ensures) (c .if1 .taken)
+unfolding outcomeOf
+returns c =
+    let n = c .before in
+    let m = made (n .before) in
+    let need = bytes-are _ _ _ (accepted (here m)) _ _ (grouped m) _ _ (n .count-lines .ensures) in
+    let short = one-short _ (length (now (st (here m) .args .buffer))) (rw need at (c .if1 .taken)) in
+    promise-refused
+    (Short (n .count-lines .result .bytes))
+    (ap (refused 10) (need ∙ short) ∙ enough-at (slices (st (here m))) _ (λ z. omega (arith, short, c .if1 .taken, need, z)) ∙ past-case (here m))
 
 slice-aggregate-write-lines : tie.Need-slice-aggregate-write-lines
 slice-aggregate-write-lines c = search needs
@@ -113,16 +143,24 @@ write-lines-requires c κs = let n = counted c in
     (lines-given (made (n .before)), omega (arith, n .count-lines .ensures .bytes-are, c .before .before .before .if1 .left))
 
 returns-2 : tie.Need-returns-2
-returns-2 c = buffer-case _ _ _ _ _ (case-refused _ _ _ _ (c .before .before .before .check-case .ensures) (c .before .checked .given .1))
+unfolding outcomeOf flistBufferOutcome
+returns-2 c = promise-refused (c .before .checked .given .0 .0) (case-stops _ _ _ _ (ap check.outcomeOf (sym (c .before .checked .given .1)) ∙ c .before .before .before .check-case .ensures))
 
 same-length : tie.Need-same-length
 same-length c = search needs
 
 returns-3 : tie.Need-returns-3
-returns-3 c = let wrote = c .before .before in
+unfolding outcomeOf
+returns-3 c =
+    let wrote = c .before .before in
     let n = counted (wrote .before) in
     let m = made (n .before) in
-    buffer-done _ _ _ _ _ (accepted (here m)) _ _ (grouped m) _ (n .count-lines .ensures) (wrote .before .before .before .before .if1 .left) _ (wrote .write-lines .ensures)
+    let need = bytes-are _ _ _ (accepted (here m)) _ _ (grouped m) _ _ (n .count-lines .ensures) in
+    let fits = rw need at (wrote .before .before .before .before .if1 .left) in
+    promise-done
+    _
+    (ap done (amount-is _ _ _ (accepted (here m)) _ _ (grouped m) _ _ (n .count-lines .ensures)) ∙ enough-on (slices (st (here m))) _ (one-fits _ _ fits) ∙ past-case (here m))
+    (wrote .write-lines .ensures ∙ buffer-written _ _ _ (accepted (here m)) _ _ (grouped m) _ _ fits)
 
 pub generate-flist-buffer-spec : {M : Type 1} → statement M
 generate-flist-buffer-spec =

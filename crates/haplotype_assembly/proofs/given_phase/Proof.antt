@@ -1,36 +1,61 @@
--- `given_phase` meets its contract: each return is one answer of `PhaseAnswers`, and the writes are those of an accepted case.
+-- `given_phase` meets its contract: each way out is one line of the table, or what is written of an accepted case.
 -- Assumes nothing.
-use mathlib.Core.Path.{_≡_, sym, _∙_}
-use Prim.Native.Nat.{_<_}
+use mathlib.Core.List.{List, [], _∷_}
+use mathlib.Core.Path.{_≡_, sym, ap, _∙_}
+use Prim.Native.Nat.{ℕ, _*_, _<_}
 use native.Mathlib.Omega.{arith}
 use borrow.Author.Needs.{needs}
 use denote.Ref.{now}
 use lib.ListN.{length}
-use Rattle.variants_and_fragments.specs.Inner.Accepted.{CaseIn}
-use Rattle.variants_and_fragments.specs.Check.{caseOf}
-use Rattle.variants_and_fragments.specs.Refusals.{done}
 use Rattle.variants_and_fragments.specs.declared.Sizes.{Sizes}
-use Rattle.haplotype_assembly.specs.GivenPhase.{phaseFault, phaseShort}
+use Rattle.variants_and_fragments.specs.declared.Checked.the-variants.{Accepted}
+use Rattle.variants_and_fragments.specs.Inner.Accepted.{CaseIn}
+use Rattle.variants_and_fragments.specs.Refusals.{Outcome, refused, done, longEnough, smallestShort}
+use Rattle.variants_and_fragments.specs.Check.{outcomeOf, checkCaseOutcome}
+use Rattle.variants_and_fragments.proofs.Outcomes.{enough-on, enough-at, case-stops, case-past, is-done, refuses, does}
+use Rattle.haplotype_assembly.specs.GivenPhase.{phaseTests, PhaseSlices, phaseSlices, givenPhaseOutcome}
+use Rattle.haplotype_assembly.specs.Inner.GivenPhase.{phaseFault}
 use Rattle.haplotype_assembly.proofs.Decodes.{accepted-in}
-use Rattle.haplotype_assembly.proofs.PhaseAnswers.{case-accepted, case-refused, answer-case, answer-fault, answer-short, answer-done, Faultless, faultless, Room, room}
+use Rattle.haplotype_assembly.proofs.PhaseLaws.{phase-on, phase-at, Faultless, faultless, phase-written}
+use Rattle.variants_and_fragments.proofs.Short.{short-fits}
 use Rattle.haplotype_assembly.proofs.given_phase.Statement.{statement}
 use Rattle.haplotype_assembly.proofs.given_phase.Tie as tie
 
--- the start, the sizes and the places past the tests
+-- ---- the start, the sizes and the places past the tests
 abbrev st : tie.After-checked2 → tie.Start
 st c = c .before .before .before .before .before .before .before .before
 
 abbrev sizes : tie.After-checked2 → Sizes
 sizes c = c .checked2 .given .0 .0
 
-accepted : (c : tie.After-checked2) → caseOf (now (st c .args .words)) (now (st c .args .bases)) ≡ done (sizes c)
-accepted c = case-accepted _ _ _ _ (c .before .before .check-case .ensures) (c .checked2 .given .1)
+abbrev from1 : tie.Else1 → tie.After-checked2
+from1 c = c .before .before .before
+
+abbrev from2 : tie.Else2 → tie.Else1
+from2 c = c .before .before
+
+checked : (c : tie.After-checked2) → outcomeOf (Accepted (sizes c)) ≡ checkCaseOutcome (now (st c .args .words)) (now (st c .args .bases))
+checked c = ap outcomeOf (sym (c .checked2 .given .1)) ∙ c .before .before .check-case .ensures
+
+accepted : (c : tie.After-checked2) → checkCaseOutcome (now (st c .args .words)) (now (st c .args .bases)) ≡ done (sizes c)
+accepted c = is-done _ _ _ (checked c)
 
 inside : (c : tie.After-checked2) → CaseIn (now (st c .args .words)) (sizes c)
 inside c = accepted-in _ _ _ (accepted c)
 
-abbrev from1 : tie.Else1 → tie.After-checked2
-from1 c = c .before .before .before
+-- ---- the outcome, and what is left of it past the case and past 7
+abbrev lent : tie.Start → PhaseSlices
+lent c = phaseSlices (now (c .args .haplotypes)) (now (c .args .phased)) (now (c .args .names))
+
+abbrev outcome : tie.Start → Outcome Unit
+outcome c = givenPhaseOutcome (now (c .args .words)) (now (c .args .bases)) (now (c .args .phase)) (now (c .args .sets)) (lent c)
+
+abbrev slices : tie.After-checked2 → List (ℕ × ℕ)
+slices c = (2 * sizes c .n, length (now (st c .args .haplotypes))) ∷ (sizes c .n, length (now (st c .args .phased))) ∷ (sizes c .n, length (now (st c .args .names))) ∷ []
+
+past-case : (c : tie.After-checked2) → phaseTests (sizes c .n) (now (st c .args .phase)) (now (st c .args .sets)) (longEnough (slices c) (done tt)) ≡ outcome (st c)
+unfolding givenPhaseOutcome
+past-case c = case-past _ _ _ _ (checked c)
 
 clean : (c : tie.Else1) → sizes (from1 c) .n < phaseFault (sizes (from1 c) .n) (now (st (from1 c) .args .phase)) (now (st (from1 c) .args .sets))
 clean c = rw (c .before .phase-fault .ensures) at (c .if1 .left)
@@ -38,17 +63,12 @@ clean c = rw (c .before .phase-fault .ensures) at (c .if1 .left)
 right : (c : tie.Else1) → Faultless (sizes (from1 c) .n) (now (st (from1 c) .args .phase)) (now (st (from1 c) .args .sets))
 right c = faultless _ _ _ (clean c)
 
-abbrev from2 : tie.Else2 → tie.Else1
-from2 c = c .before .before
+past-phase : (c : tie.Else1) → longEnough (slices (from1 c)) (done tt) ≡ outcome (st (from1 c))
+past-phase c = phase-on _ _ _ _ (clean c) ∙ past-case (from1 c)
 
-abbrev st2 : tie.Else2 → tie.Start
-st2 c = st (from1 (from2 c))
-
-none-short : (c : tie.Else2) → phaseShort (sizes (from1 (from2 c)) .n) (length (now (st2 c .args .haplotypes))) (length (now (st2 c .args .phased))) (length (now (st2 c .args .names))) ≡ 0
+-- no slice is too short
+none-short : (c : tie.Else2) → smallestShort (slices (from1 (from2 c))) ≡ 0
 none-short c = sym (c .before .phase-short .ensures) ∙ c .if2 .left
-
-roomy : (c : tie.Else2) → Room (sizes (from1 (from2 c)) .n) (length (now (st2 c .args .haplotypes))) (length (now (st2 c .args .phased))) (length (now (st2 c .args .names)))
-roomy c = room _ _ _ _ (none-short c)
 
 -- what is written before the names
 abbrev wrote : tie.After-name-sets-arg → tie.After-write-phase
@@ -70,28 +90,36 @@ phase-fault-requires : tie.Need-phase-fault-requires
 phase-fault-requires c κs = inside (c .before) .sized .n-top
 
 returns : tie.Need-returns
-returns c = answer-fault _ _ _ _ _ _ _ _ (accepted (c .before .before .before)) _ (c .before .phase-fault .ensures) (c .if1 .taken)
+returns c =
+    let p = c .before .phase-fault .ensures in
+    refuses _ (ap (refused 7) p ∙ phase-at _ _ _ _ (rw p at (c .if1 .taken)) ∙ past-case (c .before .before .before))
 
 phase-short-requires : tie.Need-phase-short-requires
 phase-short-requires c κs = inside (from1 c) .sized .n-top
 
 returns-2 : tie.Need-returns-2
-returns-2 c = let e1 = c .before .before in
-    answer-short _ _ _ _ _ _ _ _ (accepted (from1 e1)) (clean e1) _ (c .before .phase-short .ensures) (c .if2 .taken)
+returns-2 c =
+    let e1 = c .before .before in
+    let p = c .before .phase-short .ensures in
+    refuses _ (ap (refused 10) p ∙ enough-at (slices (from1 e1)) (done tt) (λ z. c .if2 .taken (p ∙ z)) ∙ past-phase e1)
 
 write-phase-requires : tie.Need-write-phase-requires
-write-phase-requires c κs = let e2 = c .before .before in
-    let r = roomy e2 in
-    (inside (from1 (from2 e2)), (omega (arith, right (from2 e2) .bytes-long), (r .haplotypes-room, r .phased-room)))
+write-phase-requires c κs =
+    let e2 = c .before .before in
+    let h = short-fits _ _ _ (none-short e2) in
+    (inside (from1 (from2 e2)), (omega (arith, right (from2 e2) .bytes-long), (h .0, short-fits _ _ _ (h .1) .0)))
 
 name-sets-requires : tie.Need-name-sets-requires
-name-sets-requires c κs = let e2 = fits (wrote c) in
-    let r = roomy e2 in
+name-sets-requires c κs =
+    let e2 = fits (wrote c) in
+    let h = short-fits _ _ _ (none-short e2) in
+    let p = short-fits _ _ _ (h .1) in
     let f = right (from2 e2) in
-    (inside (from1 (from2 e2)), ((omega (arith, f .bytes-long), (omega (arith, f .sets-long), r .names-room)), f .sets-ok))
+    (inside (from1 (from2 e2)), ((omega (arith, f .bytes-long), (omega (arith, f .sets-long), short-fits _ _ _ (p .1) .0)), f .sets-ok))
 
 returns-3 : tie.Need-returns-3
-returns-3 c = answer-case _ _ _ _ _ _ _ _ (case-refused _ _ _ _ (c .before .before .before .check-case .ensures) (c .before .checked .given .1))
+unfolding givenPhaseOutcome
+returns-3 c = refuses _ (case-stops _ _ _ _ (ap outcomeOf (sym (c .before .checked .given .1)) ∙ c .before .before .before .check-case .ensures))
 
 same-length : tie.Need-same-length
 same-length c = search needs
@@ -103,10 +131,13 @@ same-length-3 : tie.Need-same-length-3
 same-length-3 c = search needs
 
 returns-4 : tie.Need-returns-4
-returns-4 c = let named = c .before .before in
+returns-4 c =
+    let named = c .before .before in
     let w = wrote (named .before) in
     let e2 = fits w in
-    answer-done _ _ _ _ _ _ _ _ (accepted (from1 (from2 e2))) (clean (from2 e2)) (none-short e2) _ _ _ (w .write-phase .ensures .0) (w .write-phase .ensures .1) (named .name-sets .ensures)
+    does
+    (enough-on (slices (from1 (from2 e2))) (done tt) (none-short e2) ∙ past-phase (from2 e2))
+    (phase-written _ _ _ (accepted (from1 (from2 e2))) _ _ (lent (st (from1 (from2 e2)))) _ _ _ (w .write-phase .ensures .0) (w .write-phase .ensures .1) (named .name-sets .ensures))
 
 pub given-phase-spec : {M : Type 1} → statement M
 given-phase-spec =

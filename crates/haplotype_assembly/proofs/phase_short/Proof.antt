@@ -1,7 +1,8 @@
--- `phase_short` meets its contract: each call gives its part of the definition.
+-- `phase_short` meets its contract: each call adds one slice to the list.
 -- Assumes nothing.
+use mathlib.Core.Path.{_∙_}
 use borrow.Author.Needs.{needs}
-use Rattle.haplotype_assembly.specs.GivenPhase.{phaseShort}
+use Rattle.variants_and_fragments.proofs.Short.{short-last, short-more}
 use Rattle.haplotype_assembly.proofs.phase_short.Statement.{statement}
 use Rattle.haplotype_assembly.proofs.phase_short.Tie as tie
 
@@ -24,8 +25,10 @@ earlier-requires-2 : tie.Need-earlier-requires-2
 earlier-requires-2 c κs = search needs
 
 returns : tie.Need-returns
-unfolding phaseShort
-returns c = cc
+returns c =
+    let third = c .before .before in
+    c .earlier2 .ensures
+    ∙ short-more _ _ _ _ _ (third .before .before .short-of .ensures) (c .before .earlier .ensures ∙ short-more _ _ _ _ _ (third .before .short-of2 .ensures) (short-last _ _ _ (third .short-of3 .ensures)))
 
 pub phase-short-spec : {M : Type 1} → statement M
 phase-short-spec =

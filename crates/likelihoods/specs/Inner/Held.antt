@@ -8,7 +8,8 @@ use lib.ListN.{length, getD}
 use lib.IntN.{ℤ, pos, natAbs}
 use Rattle.pileup.specs.Inner.Packed.{Grouped}
 use Rattle.variants_and_fragments.specs.Inner.Sums.{DownTo}
-use Rattle.sweeps.specs.Sweeps.{SweepCase, allele0, allele1, likelihood, mixOf}
+use Rattle.sweeps.specs.Sweeps.{SweepCase, allele0, allele1, likelihood}
+use Rattle.steps.specs.Logs.{mixOf}
 use Rattle.sweeps.specs.Inner.Sweeps.{GoodSweepCase}
 use Rattle.sweeps.specs.Inner.Incremental.{pileupFrom}
 

@@ -61,7 +61,7 @@ pub record EndsIn (ends : List ℕ) (n : ℕ) : Type 0 where
 
 -- r has both likelihoods over the calls from a to e
 pub record LikelihoodsAre (rows : List ℕ) (a e : ℕ) (hap mask : List ℕ) (r : ReadLikelihoods) : Type 0 where
-  pub first-is : r .first ≡ likelihood (flagged mask) (alleleOn hap 0) (callsBetween rows a e)
-  pub second-is : r .second ≡ likelihood (flagged mask) (alleleOn hap 1) (callsBetween rows a e)
-  pub first-small : natAbs (r .first) ≤ 262144 * (e - a)
-  pub second-small : natAbs (r .second) ≤ 262144 * (e - a)
+  pub first-is : r .first .0 ≡ likelihood (flagged mask) (alleleOn hap 0) (callsBetween rows a e)
+  pub second-is : r .second .0 ≡ likelihood (flagged mask) (alleleOn hap 1) (callsBetween rows a e)
+  pub first-small : natAbs (r .first .0) ≤ 262144 * (e - a)
+  pub second-small : natAbs (r .second .0) ≤ 262144 * (e - a)

@@ -7,7 +7,8 @@ use lib.IntN.{ℤ, pos, natAbs, _+ℤ_}
 use lib.ListN.{length, getD}
 use Rattle.variants_and_fragments.specs.Decode.{tabulate}
 use Rattle.variants_and_fragments.specs.Sums.{sumTo}
-use Rattle.sweeps.specs.Sweeps.{SweepCase, allele0, allele1, likelihood, mixOf}
+use Rattle.sweeps.specs.Sweeps.{SweepCase, allele0, allele1, likelihood}
+use Rattle.steps.specs.Logs.{mixOf}
 use Rattle.likelihoods.specs.Inner.Likelihoods.{callsOf, flagged, alleleOn}
 
 -- the prior of the pair (i, j) at v, 9 places per variant

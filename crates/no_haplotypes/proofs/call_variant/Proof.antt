@@ -1,6 +1,6 @@
 -- `call_variant` meets its contract: its nine places fix the genotype and both qualities, its counts the other words.
 -- Assumes nothing.
-use mathlib.Core.Path.{_≡_, ap, _∙_}
+use mathlib.Core.Path.{_≡_, ap}
 use mathlib.Core.Bool.{true}
 use mathlib.Core.List.{List}
 use Prim.Native.Nat.{ℕ, _+_, _*_, _^_, _≤_, _<_}
@@ -9,12 +9,6 @@ use denote.Ref.{now}
 use lib.IntN.{ℤ, pos, natAbs}
 use lib.ListN.{length, drop}
 use lib.Signed.{leZ}
-use mir.Syntax.{w64}
-use mir.Val.{toZ, ofZ}
-use Rattle.steps.specs.Logs.{steps}
-use Rattle.steps.specs.OneMinus.{lnOneMinusExp}
-use Rattle.steps.specs.Phred.{phredOf, capped}
-use Rattle.steps.proofs.Signed.{read-small}
 use Rattle.variants_and_fragments.specs.Layout.{alleleCountAt}
 use Rattle.genotype_probs.specs.declared.posteriors.GenotypePost.{GenotypePost}
 use Rattle.genotype_probs.specs.Inner.Posteriors.{TableAt}
@@ -45,7 +39,7 @@ abbrev maximum : tie.After-qual-of → tie.After-max-genotype-post
 maximum q = q .before .before
 
 abbrev gq-from : tie.After-gq-of → tie.After-qual-of
-gq-from g = g .before .before
+gq-from g = g .before
 
 -- ---- the posteriors
 write-posteriors-requires : tie.Need-write-posteriors-requires
@@ -103,13 +97,9 @@ kept-small r = rw (ap (λ (g : GenotypePost). g .post .0) (called r)) (maximum-s
 kept-low : (r : tie.After-max-genotype-post) → leZ (kept r) (pos 0) ≡ true
 kept-low r = rw (ap (λ (g : GenotypePost). g .post .0) (called r)) (maximum-low (after (made r)) (9 * v-of (made r)) (k-of (made r)) (table (made r)))
 
-kept-read : (r : tie.After-max-genotype-post) → toZ w64 (ofZ w64 (kept r)) ≡ kept r
-kept-read r = let h = kept-small r in read-small w64 (kept r) (omega arith)
-
 gq-of-requires : tie.Need-gq-of-requires
 gq-of-requires c κs =
-    let r = maximum (c .before) in
-    rw (kept-read r) (st (made r) .pre .0 .0, kept-small r, kept-low r)
+    let r = maximum c in (st (made r) .pre .0 .0, kept-small r, kept-low r)
 
 mul-gqs : tie.Need-mul-gqs
 mul-gqs c = omega (arith, index-fits (made (maximum (gq-from c))))
@@ -164,7 +154,7 @@ returns c =
     let q = gq-from g in
     let r = maximum q in
     let y = made r in
-    variant-called (held y) (y .write-posteriors .ensures) (room y) (r .max-genotype-post .result) _ _ _ (called r) (d .depth-after .ensures .0) (a .write-answer .ensures) (q .qual-of .ensures) (g .gq-of .ensures ∙ ap (λ (z : ℤ). capped (phredOf (lnOneMinusExp (steps z)))) (kept-read r))
+    variant-called (held y) (y .write-posteriors .ensures) (room y) (r .max-genotype-post .result) _ _ _ (called r) (d .depth-after .ensures .0) (a .write-answer .ensures) (q .qual-of .ensures) (g .gq-of .ensures)
 
 pub call-variant-spec : {M : Type 1} → statement M
 call-variant-spec =

@@ -17,7 +17,8 @@ use Rattle.variants_and_fragments.specs.Sums.{sumOver}
 use Rattle.pileup.specs.Inner.Packed.{rowsAt, RowsIn}
 use Rattle.genotype_probs.specs.Posteriors.{normalized}
 use Rattle.no_haplotypes.specs.declared.tally.Pile.{Pile}
-use Rattle.no_haplotypes.specs.NoHaplotypes.{mixed, callScore}
+use Rattle.no_haplotypes.specs.NoHaplotypes.{callScore}
+use Rattle.steps.specs.Logs.{mixOf}
 
 -- ---- one pass over a pile
 
@@ -38,7 +39,7 @@ abbrev pub bothGain : Call → ℤ
 bothGain call = call .one-minus-qual -ℤ call .qual
 
 abbrev pub oneGain : Call → ℤ
-oneGain call = mixed (call .qual) (call .one-minus-qual) -ℤ call .qual
+oneGain call = mixOf (call .qual) (call .one-minus-qual) -ℤ call .qual
 
 -- the same of a row, where it shows allele x
 unfoldable pub gainAt : (Call → ℤ) → ℕ → Row → ℤ

@@ -7,7 +7,7 @@ use Prim.Native.Nat.{ℕ, zero, suc, _+_, _*_, _-_, _/_, _%_, _≤_, _<_}
 use lib.IntN.{ℤ, pos, negℤ, _-ℤ_}
 use lib.ListN.{length, getD}
 use lib.Seq.{slice}
-use Rattle.variants_and_fragments.specs.Words.{debtOf}
+use Rattle.variants_and_fragments.specs.Inner.Words.{debtOf}
 use Rattle.variants_and_fragments.specs.Inner.Sums.{DownTo}
 use Rattle.variants_and_fragments.specs.Case.{Call, Fragment, usable}
 use Rattle.variants_and_fragments.specs.Inner.Case.{All}
@@ -18,10 +18,10 @@ use Rattle.pileup.specs.declared.reader.Call.{Call as CallHeld}
 
 -- a row as the code's struct holds it, and back
 abbrev pub heldRow : Row → RowHeld
-heldRow row = record { fragment = row .fragment; variant = row .call .variant; allele = row .call .allele; qual = row .call .qual; «one_minus_qual» = row .call .one-minus-qual }
+heldRow row = record { fragment = row .fragment; variant = row .call .variant; allele = row .call .allele; qual = record { 0 = row .call .qual }; «one_minus_qual» = record { 0 = row .call .one-minus-qual } }
 
 abbrev pub rowFrom : RowHeld → Row
-rowFrom row = rowOf (row .fragment) (record { variant = row .variant; allele = row .allele; qual = row .qual; one-minus-qual = row .«one_minus_qual» })
+rowFrom row = rowOf (row .fragment) (record { variant = row .variant; allele = row .allele; qual = row .qual .0; one-minus-qual = row .«one_minus_qual» .0 })
 
 -- the row of a call that the code has read
 abbrev pub rowOfCall : ℕ → CallHeld → Row

@@ -1,4 +1,4 @@
--- `check_orders` meets its contract, one law a return. Assumes nothing.
+-- `check_orders` meets its contract, one law per return. Assumes nothing.
 use native.Mathlib.Omega.{arith}
 use borrow.Author.Needs.{needs}
 use Rattle.shuffle.specs.Inner.Answers.{checkedAs}

@@ -1,15 +1,21 @@
--- `sweep_orders` meets its contract: the outcome of the case's check, then that of the slice's length, one law a return. Assumes nothing.
+-- `sweep_orders` meets its contract: the outcome of the case's check, then that of the slice's length, one law per return. Assumes nothing.
 use mathlib.Core.Path.{_≡_, sym, ap, _∙_}
+use Prim.Native.Nat.{ℕ}
 use native.Mathlib.Omega.{arith}
 use denote.Ref.{now}
 use borrow.Author.Needs.{needs}
+use borrow.Author.Tests.{lt-ltb, le-ltb}
+use lib.Dec.{ltb}
+use lib.ListN.{length}
 use Rattle.variants_and_fragments.specs.declared.Sizes.{Sizes}
-use Rattle.variants_and_fragments.specs.declared.Refusal.the-variants.{Orders}
-use Rattle.variants_and_fragments.specs.Refusals.{Outcome, refused, done, number, place}
-use Rattle.variants_and_fragments.specs.Check.{caseOf, outcomeOf}
+use Rattle.variants_and_fragments.specs.Refusals.{Outcome, done, unless}
+use Rattle.variants_and_fragments.specs.Check.{checkCaseOutcome, outcomeOf}
 use Rattle.variants_and_fragments.proofs.Accepted.{case-in}
+use Rattle.variants_and_fragments.proofs.Decoded.{variants-are}
+use Rattle.variants_and_fragments.proofs.Outcomes.{unless-on, unless-at, then-on, case-stops, refuses, does}
+use Rattle.shuffle.specs.Orders.{orderCount}
+use Rattle.shuffle.specs.Answers.{sweepOrdersOutcome, sweepOrdersWritten}
 use Rattle.shuffle.proofs.Slices.{count-fills}
-use Rattle.shuffle.proofs.Outcomes.{case-refused, length-refused, orders-done, sweep-refused, sweep-done}
 use Rattle.shuffle.proofs.sweep_orders.Statement.{statement}
 use Rattle.shuffle.proofs.sweep_orders.Tie as tie
 
@@ -18,15 +24,20 @@ abbrev st : tie.After-check-case → tie.Start
 st c = c .before .before .before
 
 abbrev case-outcome : tie.After-check-case → Outcome Sizes
-case-outcome c = caseOf (now (st c .args .words)) (now (st c .args .bases))
-
-turned-down : (c : tie.After-x) → case-outcome (c .before .before) ≡ refused (number (c .x .given .0 .0)) (place (c .x .given .0 .0))
-unfolding outcomeOf
-turned-down c = sym (c .before .before .check-case .ensures) ∙ ap outcomeOf (c .x .given .1)
+case-outcome c = checkCaseOutcome (now (st c .args .words)) (now (st c .args .bases))
 
 accepted : (c : tie.After-s) → case-outcome (c .before .before) ≡ done (c .s .given .0 .0)
 unfolding outcomeOf
 accepted c = sym (c .before .before .check-case .ensures) ∙ ap outcomeOf (c .s .given .1)
+
+-- how many orders the slice has room for
+abbrev room : tie.After-s → ℕ
+room c = orderCount (c .s .given .0 .0 .n) (length (now (st (c .before .before) .args .orders)))
+
+-- past the case
+past-case : (c : tie.After-s) → unless (ltb 0 (room c)) 8 0 (done tt) ≡ sweepOrdersOutcome (now (st (c .before .before) .args .words)) (now (st (c .before .before) .args .bases)) (now (st (c .before .before) .args .orders))
+unfolding sweepOrdersOutcome
+past-case c = then-on _ _ _ (accepted c)
 
 check-case-requires : tie.Need-check-case-requires
 check-case-requires c κs = search needs
@@ -42,7 +53,8 @@ order-count-requires c κs = search needs
 
 returns : tie.Need-returns
 returns c =
-    sweep-refused _ _ _ _ (Orders 0) (length-refused _ _ _ _ _ (accepted (c .before .before .before)) (sym (c .before .order-count .ensures) ∙ c .if1 .taken))
+    let k = c .before .before .before in
+    refuses _ (unless-at _ 8 0 _ (le-ltb 0 (room k) (omega (arith, c .before .order-count .ensures, c .if1 .taken))) ∙ past-case k)
 
 write-orders-requires : tie.Need-write-orders-requires
 write-orders-requires c κs = (
@@ -51,17 +63,21 @@ write-orders-requires c κs = (
 )
 
 returns-2 : tie.Need-returns-2
-returns-2 c = sweep-refused _ _ _ _ _ (case-refused _ _ _ _ _ _ (turned-down (c .before)))
+unfolding sweepOrdersOutcome
+returns-2 c = let d = c .before in refuses _ (case-stops _ _ _ _ (ap outcomeOf (sym (d .x .given .1)) ∙ d .before .before .check-case .ensures))
 
 same-length : tie.Need-same-length
 same-length c = search needs
 
 returns-3 : tie.Need-returns-3
+unfolding sweepOrdersWritten
 returns-3 c =
     let arg = c .before .before .before in
     let counted = arg .before .before in
-    sweep-done _ _ _ _ _
-    (orders-done _ _ _ _ _ _ _ (accepted (counted .before .before)) (counted .order-count .ensures) (omega (arith, arg .before .if1 .left)) (c .before .before .write-orders .ensures))
+    let k = counted .before .before in
+    let n = variants-are (case-in _ _ _ (accepted k)) (now (st (k .before .before) .args .bases)) in
+    does (unless-on _ 8 0 _ (lt-ltb 0 (room k) (omega (arith, counted .order-count .ensures, arg .before .if1 .left))) ∙ past-case k)
+    (c .before .before .write-orders .ensures ∙ rw (counted .order-count .ensures, n))
 
 pub sweep-orders-spec : {M : Type 1} → statement M
 sweep-orders-spec =

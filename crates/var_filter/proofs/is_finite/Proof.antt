@@ -24,11 +24,11 @@ not-below-infinity (fin s m e) h = absurd (subst T h tt)
 
 returns : tie.Need-returns
 unfolding div ofBits neg
-returns c = below-infinity (c .before .args .x) (c .if1 .taken)
+returns c = below-infinity (c .before .before .before .args .x .0) (c .before .if1 .taken)
 
 returns-2 : tie.Need-returns-2
 unfolding div ofBits
-returns-2 c = not-below-infinity (c .before .args .x) (c .if1 .left)
+returns-2 c = not-below-infinity (c .before .before .args .x .0) (c .if1 .left)
 
 pub is-finite-spec : {M : Type 1} → statement M
 is-finite-spec = tie.close (tie.spec returns returns-2)

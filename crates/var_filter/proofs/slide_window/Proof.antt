@@ -14,11 +14,11 @@ abbrev start-of : tie.After-extend-window → tie.Start
 start-of c = c .before .before
 
 -- v's quality, tested
-is-weak : (c : tie.Then1) → strong (now (start-of (c .before .before .before) .args .quals)) (start-of (c .before .before .before) .args .density .gq) (start-of (c .before .before .before) .args .v) ≡ false
+is-weak : (c : tie.Then1) → strong (now (start-of (c .before .before .before) .args .quals)) (start-of (c .before .before .before) .args .density .gq .0) (start-of (c .before .before .before) .args .v) ≡ false
 unfolding strong
 is-weak c = ap not (c .if1 .taken)
 
-is-strong : (c : tie.Else1) → strong (now (start-of (c .before .before .before) .args .quals)) (start-of (c .before .before .before) .args .density .gq) (start-of (c .before .before .before) .args .v) ≡ true
+is-strong : (c : tie.Else1) → strong (now (start-of (c .before .before .before) .args .quals)) (start-of (c .before .before .before) .args .density .gq .0) (start-of (c .before .before .before) .args .v) ≡ true
 unfolding strong
 is-strong c = ap not (c .if1 .left)
 

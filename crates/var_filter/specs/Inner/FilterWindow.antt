@@ -22,8 +22,8 @@ module _ (w : List ℤ) (s : Sizes) (quals : List Float) (density : DensityParam
   -- the window goes from v to end: any two of its variants are in reach of each other, and ahead of them are strong
   pub record WindowAt (v : ℕ) (x : Window) : Type 0 where
     pub end-in : x .end ≤ s .n
-    pub ahead-is : x .ahead + countBelow v (strong quals (density .gq)) ≡ countBelow (x .end) (strong quals (density .gq))
-    pub last-is : x .last ≡ pastLast (x .end) (strong quals (density .gq))
+    pub ahead-is : x .ahead + countBelow v (strong quals (density .gq .0)) ≡ countBelow (x .end) (strong quals (density .gq .0))
+    pub last-is : x .last ≡ pastLast (x .end) (strong quals (density .gq .0))
     pub until-in : x .until ≤ x .last
     pub within : (i m : ℕ) → v ≤ i → i ≤ m → m < x .end → pos0At w m ≤ pos0At w i + density .len
 
@@ -43,4 +43,4 @@ module _ (w : List ℤ) (s : Sizes) (quals : List Float) (density : DensityParam
     pub window : WindowAt (suc v) y
     pub ends : WindowEnd v y
     pub grows : x .until ≤ y .last
-    pub marks : y .until ≡ cond (strong quals (density .gq) v && ltb (density .n) (y .ahead)) (y .last) (x .until)
+    pub marks : y .until ≡ cond (strong quals (density .gq .0) v && ltb (density .n) (y .ahead)) (y .last) (x .until)

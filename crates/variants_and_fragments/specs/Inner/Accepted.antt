@@ -7,7 +7,7 @@ use Prim.Native.Nat.{ℕ, _≤_, _<_}
 use lib.ListN.{length, getD}
 use lib.IntN.{ℤ, pos}
 use Rattle.variants_and_fragments.specs.declared.Sizes.{Sizes}
-use Rattle.variants_and_fragments.specs.Words.{within, debtOf}
+use Rattle.variants_and_fragments.specs.Words.{within}
 use Rattle.variants_and_fragments.specs.Layout.{sizesOf, cutoffAt, lowestQuality, alleleCountAt, callVariantAt, calledAlleleAt, qualAt, oneMinusQualAt, callOk}
 use Rattle.variants_and_fragments.specs.Inner.Layout.{Sized}
 use Rattle.variants_and_fragments.specs.Chain.{firstCallAt, strandAt, chainOf, goodChain, reached}
@@ -23,10 +23,8 @@ allb p (x ∷ xs) = p x && allb p xs
 pub record CallIn (w : List ℤ) (s : Sizes) (r : ℕ) : Type 0 where
   pub variant-in : callVariantAt w s r < s .n
   pub allele-in : calledAlleleAt w s r < alleleCountAt w (callVariantAt w s r)
-  pub qual-in : debtOf (qualAt w s r) ≤ 262144
-  pub other-in : debtOf (oneMinusQualAt w s r) ≤ 262144
-  pub qual-range : within lowestQuality (pos 0) (qualAt w s r) ≡ true
-  pub other-range : within lowestQuality (pos 0) (oneMinusQualAt w s r) ≡ true
+  pub qual-in : within lowestQuality (pos 0) (qualAt w s r) ≡ true
+  pub other-in : within lowestQuality (pos 0) (oneMinusQualAt w s r) ≡ true
 
 -- a fragment and its own chain
 pub record FragmentIn (w : List ℤ) (s : Sizes) (f : ℕ) : Type 0 where
@@ -41,8 +39,7 @@ pub record CaseIn (w : List ℤ) (s : Sizes) : Type 0 where
   pub sized : Sized w s
   pub variants : VariantsIn w s
   pub frags : (f : ℕ) → f < s .f → FragmentIn w s f
-  pub cut-in : s .cut ≤ 262144
-  pub cut-range : within lowestQuality (pos 0) (cutoffAt w) ≡ true
+  pub cutoff-in : within lowestQuality (pos 0) (cutoffAt w) ≡ true
 
 -- its allele bytes
 pub record BasesIn (w : List ℤ) (s : Sizes) (b : List ℕ) : Type 0 where

@@ -1,9 +1,10 @@
--- A word as how far it lies below 0. Assumes nothing.
-use mathlib.Core.List.{List}
-use Prim.Native.Nat.{ℕ}
-use lib.ListN.{getD}
-use lib.IntN.{ℤ, pos}
-use Rattle.variants_and_fragments.specs.Words.{debtOf}
+-- How far a word lies below 0. Assumes nothing.
+use Prim.Native.Nat.{ℕ, zero, suc}
+use lib.IntN.{ℤ, pos, negsuc}
+use Rattle.variants_and_fragments.specs.Words.{none}
 
-abbrev pub debtAt : List ℤ → ℕ → ℕ
-debtAt w i = debtOf (getD w i (pos 0))
+-- a positive one is none
+abbrev pub debtOf : ℤ → ℕ
+debtOf (pos zero) = 0
+debtOf (pos (suc n)) = none
+debtOf (negsuc n) = suc n

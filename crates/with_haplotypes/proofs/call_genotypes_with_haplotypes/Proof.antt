@@ -1,19 +1,18 @@
 -- `call_genotypes_with_haplotypes` meets its contract: each way out is one answer of `RoundAnswers`.
 -- Assumes nothing.
 use mathlib.Core.Path.{_≡_, sym, ap, _∙_}
-use Prim.Native.Nat.{ℕ, _≤_}
-use native.Mathlib.Omega.{arith}
+use Prim.Native.Nat.{ℕ}
 use borrow.Author.Needs.{needs}
 use denote.Ref.{now}
 use lib.ListN.{length}
 use Rattle.variants_and_fragments.specs.declared.Sizes.{Sizes}
 use Rattle.variants_and_fragments.specs.Inner.Accepted.{CaseIn}
-use Rattle.variants_and_fragments.specs.Check.{caseOf}
+use Rattle.variants_and_fragments.specs.Check.{checkCaseOutcome}
+use Rattle.variants_and_fragments.specs.Check as check
 use Rattle.variants_and_fragments.specs.Refusals.{Outcome, done}
 use Rattle.variants_and_fragments.proofs.Accepted.{case-in}
-use Rattle.haplotype_assembly.proofs.PhaseAnswers.{case-accepted, case-refused}
-use Rattle.with_haplotypes.specs.Promise.{roundShort, roundChecks}
-use Rattle.with_haplotypes.specs.Inner.Steps.{checkedAs}
+use Rattle.variants_and_fragments.proofs.Outcomes.{is-done}
+use Rattle.with_haplotypes.specs.Inner.Checks.{roundShort, roundChecks, checkedAs}
 use Rattle.with_haplotypes.proofs.RoundAnswers.{admits, answer-case, answer-checks, answer-done}
 use Rattle.with_haplotypes.proofs.call_genotypes_with_haplotypes.Statement.{statement}
 use Rattle.with_haplotypes.proofs.call_genotypes_with_haplotypes.Tie as tie
@@ -25,8 +24,8 @@ st c = c .before .before .before .before .before .before .before .before .before
 abbrev sizes : tie.After-s → Sizes
 sizes c = c .s .given .0 .0
 
-accepted : (c : tie.After-s) → caseOf (now (st c .args .words)) (now (st c .args .bases)) ≡ done (sizes c)
-accepted c = case-accepted _ _ _ _ (c .before .before .check-case .ensures) (c .s .given .1)
+accepted : (c : tie.After-s) → checkCaseOutcome (now (st c .args .words)) (now (st c .args .bases)) ≡ done (sizes c)
+accepted c = is-done _ _ _ (ap check.outcomeOf (sym (c .s .given .1)) ∙ c .before .before .check-case .ensures)
 
 inside : (c : tie.After-s) → CaseIn (now (st c .args .words)) (sizes c)
 inside c = case-in _ _ _ (accepted c)
@@ -81,11 +80,11 @@ unfolding checkedAs
 round-accepted-requires c κs = admits _ _ _ _ _ (accepted (checks c .before .before .before .before .before)) (passed c)
 
 returns : tie.Need-returns
-returns c = answer-case _ _ _ _ (case-refused _ _ _ _ (c .before .before .before .check-case .ensures) (c .before .x .given .1))
+returns c = answer-case _ _ _ _ (ap check.outcomeOf (sym (c .before .x .given .1)) ∙ c .before .before .before .check-case .ensures)
 
 returns-2 : tie.Need-returns-2
 unfolding checkedAs
-returns-2 c = let k = c .before .before .before in answer-checks _ _ _ _ _ (accepted (k .before .before .before .before .before)) (sym (ap checkedAs (sym (c .before .x2 .given .1)) ∙ checked k))
+returns-2 c = let k = c .before .before .before in answer-checks _ _ _ _ _ (accepted (k .before .before .before .before .before)) (ap checkedAs (sym (c .before .x2 .given .1)) ∙ checked k)
 
 same-length : tie.Need-same-length
 same-length c = search needs

@@ -21,5 +21,5 @@ TablesIn w post n = (v : ℕ) → v < n → TableAt post (9 * v) (alleleCountAt 
 
 -- the run writes qual and gq as f64, N each
 pub record FinalsWritten (w post : List ℤ) (n : ℕ) (quals gqs quals-after gqs-after : List Float) : Type 0 where
-  pub quals-are : quals-after ≡ written (λ v. finalAt w post v .qual) n quals
-  pub gqs-are : gqs-after ≡ written (λ v. finalAt w post v .gq) n gqs
+  pub quals-are : quals-after ≡ written (λ v. finalAt w post v .qual .0) n quals
+  pub gqs-are : gqs-after ≡ written (λ v. finalAt w post v .gq .0) n gqs

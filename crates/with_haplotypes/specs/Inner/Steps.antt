@@ -6,15 +6,15 @@ use Prim.Native.Nat.{ℕ, _*_, _<_, _≤_}
 use lib.IntN.{ℤ}
 use lib.ListN.{length, getD, take}
 use Rattle.variants_and_fragments.specs.declared.Sizes.{Sizes}
-use Rattle.variants_and_fragments.specs.Refusals.{Outcome, refused, done, number, place}
-use Rattle.variants_and_fragments.specs.Check.{caseOf}
+use Rattle.variants_and_fragments.specs.Refusals.{done}
+use Rattle.variants_and_fragments.specs.Check.{checkCaseOutcome}
 use Rattle.variants_and_fragments.specs.Decode.{decode}
 use Rattle.variants_and_fragments.specs.Layout.{alleleCountAt}
 use Rattle.variants_and_fragments.specs.Written.{written}
 use Rattle.pileup.specs.Inner.Rows.{RowsMade}
 use Rattle.pileup.specs.Inner.Piles.{PilesMade}
 use Rattle.genotype_probs.specs.declared.Rates.{Rates}
-use Rattle.genotype_probs.specs.Rates.{ratesFault}
+use Rattle.genotype_probs.specs.Inner.Rates.{ratesFault}
 use Rattle.genotype_probs.specs.Priors.{priorAt}
 use Rattle.shuffle.specs.Orders.{orderCount}
 use Rattle.shuffle.specs.Inner.Orders.{GoodOrders}
@@ -27,19 +27,12 @@ use Rattle.call_genotypes.specs.Inner.Scores.{overFirst, SweepState}
 use Rattle.call_genotypes.specs.Inner.Runs.{resultOf}
 use Rattle.with_haplotypes.specs.declared.RoundAnswer.{RoundAnswer}
 use Rattle.with_haplotypes.specs.declared.RoundSizes.{RoundSizes}
-use Rattle.with_haplotypes.specs.declared.checks.RoundChecked.{RoundChecked}
-use Rattle.with_haplotypes.specs.declared.checks.RoundChecked.the-variants.{Good, Refused}
 use Rattle.with_haplotypes.specs.Round.{RunInput, runInput, RoundInput, sweepCase, orderOfSweep, result, returned, haplotypeAt, likelihoodAt, posteriorAt, final}
-use Rattle.with_haplotypes.specs.Promise.{RoundSlices}
-
--- the answer of the checks in 01's terms
-unfoldable pub checkedAs : RoundChecked → Outcome ℕ
-checkedAs (Good m) = done m
-checkedAs (Refused x) = refused (number x) (place x)
+use Rattle.with_haplotypes.specs.Promise.{RoundSlices, maxLimit}
 
 -- a case of these words and bases that is accepted, at accepted rates
 pub record CaseGiven (w : List ℤ) (b : List ℕ) (rates : Rates) (s : Sizes) : Type 0 where
-  pub accepted : caseOf w b ≡ done s
+  pub accepted : checkCaseOutcome w b ≡ done s
   pub good-rates : ratesFault rates ≡ 7
 
 -- orders and a limit past their checks: m orders, each with every variant once; at most 1,000,000 sweeps
@@ -47,7 +40,7 @@ pub record OrdersGiven (orders : List ℕ) (z : RoundSizes) : Type 0 where
   pub good : GoodOrders (z .s .n) orders (z .m)
   pub count-is : z .m ≡ orderCount (z .s .n) (length orders)
   pub limit-low : 1 ≤ z .limit
-  pub limit-top : z .limit ≤ 1000000
+  pub limit-top : z .limit ≤ maxLimit
 
 -- a round's input past all checks
 pub record Admitted (input : RoundInput) (z : RoundSizes) : Type 0 where
@@ -114,9 +107,9 @@ pub record SomePhased (P : (ℕ → Bool) → Type 0) : Type 0 where
 pub record RunMade (input : RunInput) (before after : SweepState) (r : RoundAnswer) : Type 0 where
   pub result-is : result input ≡ resultOf (r .sweeps) (r .settled) (after .hap)
   pub demand3 : Demand3 (sweepCase input) (orderOfSweep input) (input .limit) (input .start) (resultOf (r .sweeps) (r .settled) (after .hap))
-  pub start-is : r .start ≡ phasedTotal (sweepCase input) (input .start)
-  pub end-is : r .end ≡ phasedTotal (sweepCase input) (after .hap)
-  pub source-is : r .source ≡ sourceTotal (sweepCase input) (after .hap)
+  pub start-is : r .start .0 ≡ phasedTotal (sweepCase input) (input .start)
+  pub end-is : r .end .0 ≡ phasedTotal (sweepCase input) (after .hap)
+  pub source-is : r .source .0 ≡ sourceTotal (sweepCase input) (after .hap)
   pub liks : Liks (sweepCase input) (after .hap) (after .lik)
   pub scores : after .post ≡ posts overFirst (sweepCase input) (orderOfSweep input) (input .start) (before .post) (r .sweeps)
 
@@ -154,7 +147,7 @@ pub record RoundMade (input : RunInput) (s : Sizes) (before : RoundSlices) (r : 
   pub haplotypes-are : after .haplotypes ≡ written (haplotypeAt input) (2 * s .n) (before .haplotypes)
   pub likelihoods-are : after .likelihoods ≡ written (likelihoodAt input) (2 * s .f) (before .likelihoods)
   pub posteriors-are : after .posteriors ≡ written (posteriorAt input) (9 * s .n) (before .posteriors)
-  pub quals-are : after .quals ≡ written (λ v. final input v .qual) (s .n) (before .quals)
-  pub gqs-are : after .gqs ≡ written (λ v. final input v .gq) (s .n) (before .gqs)
+  pub quals-are : after .quals ≡ written (λ v. final input v .qual .0) (s .n) (before .quals)
+  pub gqs-are : after .gqs ≡ written (λ v. final input v .gq .0) (s .n) (before .gqs)
   pub demand3 : Demand3 (sweepCase input) (orderOfSweep input) (input .limit) (input .start) (resultOf (r .sweeps) (r .settled) (take (2 * s .n) (after .haplotypes)))
   pub result-are : take (2 * s .n) (after .haplotypes) ≡ result input .haps

@@ -4,7 +4,6 @@ use Prim.Native.Nat.{ℕ, _+_, _-_, _*_, _%_, _^_, _<_}
 use native.Mathlib.Omega.{arith}
 use borrow.Author.Needs.{needs}
 use borrow.Author.Tests.{not-true, not-false}
-use lib.ListN.{length}
 use Rattle.sweeps.specs.Sweeps.{SweepCase}
 use Rattle.likelihoods.specs.Inner.Held.{sweepReads}
 use Rattle.call_genotypes.specs.Inner.Scores.{sweepState}

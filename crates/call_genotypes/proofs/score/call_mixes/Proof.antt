@@ -6,8 +6,7 @@ use borrow.Author.Needs.{needs}
 use lib.ListN.{getD}
 use lib.IntN.{pos, natAbs, _+ℤ_, _-ℤ_}
 use mir.Syntax.{w64}
-use mir.Val.{SFits, toZ, ofZ}
-use mir.Facts.{toZ-ofZ}
+use mir.Val.{toZ, ofZ}
 use Rattle.steps.proofs.Signed.{read-back}
 use Rattle.variants_and_fragments.specs.Pileup.{Row}
 use Rattle.pileup.specs.Inner.Packed.{rowFrom}
@@ -16,40 +15,30 @@ use Rattle.call_genotypes.proofs.Sizes.{distance-size}
 use Rattle.call_genotypes.proofs.score.call_mixes.Statement.{statement}
 use Rattle.call_genotypes.proofs.score.call_mixes.Tie as tie
 
-abbrev st : tie.After-struct-told2 → tie.Start
-st c = c .before .before .before
+abbrev at : tie.After-gap → tie.Start
+at c = c .before .before
 
 abbrev row : tie.Start → Row
 row s = rowFrom (s .args .row)
 
--- the qualities, as they are read back
-qual : (c : tie.After-struct-told2) → toZ w64 (ofZ w64 (st c .args .row .qual)) ≡ row (st c) .call .qual
-qual c = let f : SFits w64 (st c .args .row .qual) = search needs in toZ-ofZ f
-
-other : (c : tie.After-struct-told2) → toZ w64 (ofZ w64 (st c .args .row .«one_minus_qual»)) ≡ row (st c) .call .one-minus-qual
-other c = let f : SFits w64 (st c .args .row .«one_minus_qual») = search needs in toZ-ofZ f
-
--- their gap
-gap-is : (c : tie.After-gap) → toZ w64 (ofZ w64 (c .gap .result)) ≡ rowGap (row (st (c .before)))
-gap-is c = cc (read-back w64 _ (c .gap .ok), c .gap .ensures .0, qual (c .before), other (c .before))
+-- the gap of its qualities
+gap-is : (c : tie.After-gap) → toZ w64 (ofZ w64 (c .gap .result)) ≡ rowGap (row (at c))
+gap-is c = read-back w64 _ (c .gap .ok) ∙ c .gap .ensures .0
 
 gap-small : (c : tie.After-gap) → natAbs (toZ w64 (ofZ w64 (c .gap .result))) ≤ 262144
 gap-small c = rw (read-back w64 _ (c .gap .ok)) (c .gap .ensures .1)
 
-abbrev at : tie.After-gap → tie.Start
-at c = st (c .before)
-
 -- the read's likelihoods
-second-is : (c : tie.After-likelihood-at) → let s = at (c .before) in toZ w64 (ofZ w64 (c .likelihood-at .result)) ≡ getD (s .args .lik .now) (2 * row s .fragment + 1) (pos 0)
-second-is c = read-back w64 _ (c .likelihood-at .ok) ∙ c .likelihood-at .ensures
+second-is : (c : tie.After-likelihood-at) → let s = at (c .before) in c .likelihood-at .result .0 ≡ getD (s .args .lik .now) (2 * row s .fragment + 1) (pos 0)
+second-is c = c .likelihood-at .ensures
 
-first-is : (c : tie.After-likelihood-at2) → let s = at (c .before .before) in toZ w64 (ofZ w64 (c .likelihood-at2 .result)) ≡ getD (s .args .lik .now) (2 * row s .fragment) (pos 0)
-first-is c = read-back w64 _ (c .likelihood-at2 .ok) ∙ c .likelihood-at2 .ensures
+first-is : (c : tie.After-likelihood-at2) → let s = at (c .before .before) in c .likelihood-at2 .result .0 ≡ getD (s .args .lik .now) (2 * row s .fragment) (pos 0)
+first-is c = c .likelihood-at2 .ensures
 
-second-small : (c : tie.After-likelihood-at) → natAbs (toZ w64 (ofZ w64 (c .likelihood-at .result))) ≤ 2 ^ 32
+second-small : (c : tie.After-likelihood-at) → natAbs (c .likelihood-at .result .0) ≤ 2 ^ 32
 second-small c = rw (second-is c) (at (c .before) .pre .1 .1 .0 _)
 
-first-small : (c : tie.After-likelihood-at2) → natAbs (toZ w64 (ofZ w64 (c .likelihood-at2 .result))) ≤ 2 ^ 32
+first-small : (c : tie.After-likelihood-at2) → natAbs (c .likelihood-at2 .result .0) ≤ 2 ^ 32
 first-small c = rw (first-is c) (at (c .before .before) .pre .1 .1 .0 _)
 
 turned-small : (c : tie.After-turned) → natAbs (toZ w64 (ofZ w64 (c .turned .result))) ≤ 2 ^ 19
@@ -57,11 +46,11 @@ turned-small c = rw (read-back w64 _ (c .turned .ok)) (c .turned .ensures .1)
 
 -- their distance
 distance-is : (c : tie.After-distance) → let l = c .before .before in
-    toZ w64 (ofZ w64 (c .distance .result)) ≡ (toZ w64 (ofZ w64 (l .likelihood-at2 .result)) -ℤ toZ w64 (ofZ w64 (l .before .likelihood-at .result))) +ℤ toZ w64 (ofZ w64 (c .before .turned .result))
+    toZ w64 (ofZ w64 (c .distance .result)) ≡ (l .likelihood-at2 .result .0 -ℤ l .before .likelihood-at .result .0) +ℤ toZ w64 (ofZ w64 (c .before .turned .result))
 distance-is c = read-back w64 _ (c .distance .ok) ∙ c .distance .ensures
 
 gap-requires : tie.Need-gap-requires
-gap-requires c κs = (rw (qual c) (st c .pre .1 .0 .qual-in), rw (other c) (st c .pre .1 .0 .one-minus-qual-in))
+gap-requires c κs = let s = c .before in (s .pre .1 .0 .qual-in, s .pre .1 .0 .one-minus-qual-in)
 
 turned-requires : tie.Need-turned-requires
 turned-requires c κs = let g = c .before .before in (omega (arith, at g .pre .1 .0 .allele-in), at g .pre .1 .1 .1 _, omega (arith, gap-small g))
@@ -74,7 +63,7 @@ mixes-of-requires c κs =
     let l = c .before .before in
     let b = l .before in (
       at (b .before) .pre .0,
-      rw (distance-is c) (distance-size (toZ w64 (ofZ w64 (l .likelihood-at2 .result))) (toZ w64 (ofZ w64 (b .likelihood-at .result))) (toZ w64 (ofZ w64 (c .before .turned .result))) (first-small l) (second-small b) (turned-small (c .before))),
+      rw (distance-is c) (distance-size (l .likelihood-at2 .result .0) (b .likelihood-at .result .0) (toZ w64 (ofZ w64 (c .before .turned .result))) (first-small l) (second-small b) (turned-small (c .before))),
       gap-small (b .before),
     )
 
@@ -83,7 +72,7 @@ unfolding rowMixes
 returns c w =
     let t = c .before .before in
     let b = t .before .before in
-    c .mixes-of .ensures w ∙ cc (second-is b, gap-is (b .before), distance-is (c .before), first-is (t .before), read-back w64 _ (t .turned .ok), t .turned .ensures .0)
+    c .mixes-of .ensures w ∙ rw (distance-is (c .before), second-is b, first-is (t .before), read-back w64 _ (t .turned .ok), t .turned .ensures .0, gap-is (b .before))
 
 pub call-mixes-spec : {M : Type 1} → statement M
 call-mixes-spec =

@@ -28,11 +28,11 @@ small : (c : tie.After-pair-rise) → let s = c .before .before in natAbs ((prio
 small c = let s = c .before .before in
     omega (arith, add-abs (prior-of s +ℤ s .args .base) (c .pair-rise .result), add-abs (prior-of s) (s .args .base), two-small s, rise-small c)
 
-add-result : tie.Need-add-result
-add-result c = let s = c .before in plus-fits w64 (prior-of s) (s .args .base) (omega (arith, two-small s))
+add-t10 : tie.Need-add-t10
+add-t10 c = let s = c .before in plus-fits w64 (prior-of s) (s .args .base) (omega (arith, two-small s))
 
-add-result-2 : tie.Need-add-result-2
-add-result-2 c = let s = c .before .before in
+add-t12 : tie.Need-add-t12
+add-t12 c = let s = c .before .before in
     rw (first-read s, read-small w64 (c .pair-rise .result) (omega (arith, rise-small c))) (sfits w64 ((prior-of s +ℤ s .args .base) +ℤ c .pair-rise .result) (small c))
 
 returns : tie.Need-returns
@@ -45,7 +45,7 @@ pair-score-spec =
     (tie.spec
     (λ c. search needs)
     (λ c. search needs)
-    add-result
+    add-t10
     (λ c κs. search needs)
-    add-result-2
+    add-t12
     returns)

@@ -9,7 +9,6 @@ use lib.IntN.{ℤ, pos, _+ℤ_}
 use mir.Syntax.{w64}
 use mir.Val.{toZ, ofZ}
 use mir.Facts.{toZ-ofZ}
-use Rattle.steps.proofs.Signed.{read-back}
 use Rattle.genotype_probs.proofs.AlleleLaws.{nine}
 use Rattle.genotype_probs.proofs.Pairs.{pair-div, pair-mod, first-in}
 use Rattle.call_genotypes.specs.Inner.Scores.{pairRise, scoresOf, riseOf}
@@ -30,14 +29,18 @@ st c = c .before .before
 few : (c : tie.In-loop Inv-loop μ-loop) → c .before .loop .p < 9
 few c = omega (arith, c .loop-test .taken, nine (st c .args .k) (st c .pre .0 .0 .k-top))
 
+abbrev turn : tie.After-struct-told Inv-loop μ-loop → tie.In-loop Inv-loop μ-loop
+turn c = c .before .before
+
 -- the score that is written
-written : (c : tie.After-pair-score Inv-loop μ-loop) → let s = st (c .before) in let p = c .before .before .loop .p in
-    toZ w64 (ofZ w64 (c .pair-score .result)) ≡ (getD (s .args .pri .now) (9 * s .args .v + p) (pos 0) +ℤ toZ w64 (ofZ w64 (s .args .base))) +ℤ pairRise (s .args .acc .now) (p / s .args .k) (p % s .args .k)
+written : (c : tie.After-struct-told Inv-loop μ-loop) → let s = st (turn c) in let p = turn c .before .loop .p in
+    toZ w64 (ofZ w64 (c .before .pair-score .result .0)) ≡ (getD (s .args .pri .now) (9 * s .args .v + p) (pos 0) +ℤ toZ w64 (ofZ w64 (s .args .base))) +ℤ pairRise (s .args .acc .now) (p / s .args .k) (p % s .args .k)
 unfolding riseOf
 written c =
-    let s = st (c .before) in
-    let l = c .before .before .loop in
-    cc (read-back w64 _ (c .pair-score .ok), pair-div (l .inv .next), pair-mod (l .inv .next))
+    let s = st (turn c) in
+    let l = turn c .before .loop in
+    let e : toZ w64 (ofZ w64 (c .before .pair-score .result .0)) ≡ c .before .pair-score .result .0 = search needs in
+    cc (e, c .before .pair-score .ensures, pair-div (l .inv .next), pair-mod (l .inv .next))
 
 mul-kk : tie.Need-mul-kk Inv-loop μ-loop
 mul-kk c = omega (arith, nine (c .args .k) (c .pre .0 .0 .k-top))
@@ -62,26 +65,26 @@ pair-score-requires c κs =
       s .pre .1,
     )
 
-add-t16 : tie.Need-add-t16 Inv-loop μ-loop
-add-t16 c = omega (arith, st (c .before) .pre .0 .0 .v-top, few (c .before))
+add-score : tie.Need-add-score Inv-loop μ-loop
+add-score c = omega (arith, st (turn c) .pre .0 .0 .v-top, few (turn c))
 
-mul-t17 : tie.Need-mul-t17 Inv-loop μ-loop
-mul-t17 c = omega (arith, st (c .before) .pre .0 .0 .v-top, few (c .before))
+mul-score-2 : tie.Need-mul-score-2 Inv-loop μ-loop
+mul-score-2 c = omega (arith, st (turn c) .pre .0 .0 .v-top, few (turn c))
 
-slice-set-from-post : tie.Need-slice-set-from-post Inv-loop μ-loop
-slice-set-from-post c = omega (arith, st (c .before) .pre .0 .0 .post-long, few (c .before), c .before .before .loop .inv .long)
+slice-set-from-score : tie.Need-slice-set-from-score Inv-loop μ-loop
+slice-set-from-score c = omega (arith, st (turn c) .pre .0 .0 .post-long, few (turn c), turn c .before .loop .inv .long)
 
 add-p : tie.Need-add-p Inv-loop μ-loop
-add-p c = omega (arith, few (c .before))
+add-p c = omega (arith, few (turn c))
 
 add-i : tie.Need-add-i Inv-loop μ-loop
-add-i c = omega (arith, few (c .before .before), c .before .before .before .loop .inv .next .few)
+add-i c = omega (arith, few (turn (c .before)), turn (c .before) .before .loop .inv .next .few)
 
 loop-again : tie.Need-loop-again Inv-loop μ-loop
-loop-again c = let l = c .before .before .before .loop in writing-row _ _ _ _ _ _ _ _ _ (l .inv) (c .before .before .loop-test .taken) (ap (set (l .post) _) (written (c .before))) (c .if1 .taken)
+loop-again c = let l = turn (c .before) .before .loop in writing-row _ _ _ _ _ _ _ _ _ (l .inv) (turn (c .before) .loop-test .taken) (ap (set (l .post) _) (written (c .before))) (c .if1 .taken)
 
 loop-again-2 : tie.Need-loop-again-2 Inv-loop μ-loop
-loop-again-2 c = let l = c .before .before .before .loop in writing-place _ _ _ _ _ _ _ _ _ (l .inv) (c .before .before .loop-test .taken) (ap (set (l .post) _) (written (c .before))) (c .if1 .left)
+loop-again-2 c = let l = turn (c .before) .before .loop in writing-place _ _ _ _ _ _ _ _ _ (l .inv) (turn (c .before) .loop-test .taken) (ap (set (l .post) _) (written (c .before))) (c .if1 .left)
 
 returns : tie.Need-returns Inv-loop μ-loop
 returns c =
@@ -101,9 +104,9 @@ write-scores-spec =
     add-pair-score
     pair-score-requires
     (λ c. search needs)
-    add-t16
-    mul-t17
-    slice-set-from-post
+    add-score
+    mul-score-2
+    slice-set-from-score
     add-p
     (λ c. search needs)
     add-i

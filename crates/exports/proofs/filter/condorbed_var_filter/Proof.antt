@@ -2,9 +2,9 @@
 -- Assumes nothing.
 use mathlib.Core.Path.{ap}
 use borrow.Author.Needs.{needs}
-use Rattle.var_filter.specs.Filtered.{filteredOutcome}
-use Rattle.exports.proofs.Numbers.{answered-done, answered-refused}
-use Rattle.exports.proofs.Promised.{var-filter}
+use Rattle.variants_and_fragments.specs.Refusals.{outcomeOf}
+use Rattle.exports.proofs.Numbers.{exported, answered-done, answered-refused}
+use Rattle.exports.proofs.Promised.{filtered-at}
 use Rattle.exports.proofs.filter.condorbed_var_filter.Statement.{statement}
 use Rattle.exports.proofs.filter.condorbed_var_filter.Tie as tie
 
@@ -34,20 +34,20 @@ same-length : tie.Need-same-length
 same-length c = search needs
 
 returns : tie.Need-returns
-unfolding filteredOutcome
+unfolding outcomeOf
 returns c =
     let d = called (c .before .before .before) in
-    var-filter (d .before .before .density-of .ensures) (d .var-filter .ensures) (answered-done tt (ap filteredOutcome (c .before .enum-told .given .1)) (c .done .ensures))
+    exported _ (filtered-at _ _ _ _ _ _ _ _ _ (d .before .before .density-of .ensures) (d .var-filter .ensures)) (answered-done (ap outcomeOf (c .before .enum-told .given .1)) (c .done .ensures))
 
 same-length-2 : tie.Need-same-length-2
 same-length-2 c = search needs
 
 returns-2 : tie.Need-returns-2
-unfolding filteredOutcome
+unfolding outcomeOf
 returns-2 c =
     let x = c .before .before .x .given in
     let d = called (c .before .before .before .before) in
-    var-filter (d .before .before .density-of .ensures) (d .var-filter .ensures) (answered-refused tt (x .0 .0) (ap filteredOutcome (x .1)) (c .refused .ensures))
+    exported _ (filtered-at _ _ _ _ _ _ _ _ _ (d .before .before .density-of .ensures) (d .var-filter .ensures)) (answered-refused (x .0 .0) (ap outcomeOf (x .1)) (c .refused .ensures))
 
 pub condorbed-var-filter-spec : {M : Type 1} → statement M
 condorbed-var-filter-spec =

@@ -2,10 +2,9 @@
 -- Assumes nothing.
 use mathlib.Core.Path.{ap}
 use borrow.Author.Needs.{needs}
-use Rattle.haplotype_assembly.specs.FlistBuffer.{bufferedOutcome}
+use Rattle.haplotype_assembly.specs.FlistBuffer.{outcomeOf}
 use Rattle.exports.specs.Answers.{flistNumbers}
-use Rattle.exports.proofs.Numbers.{flist-done, flist-refused}
-use Rattle.exports.proofs.Promised.{generate-flist-buffer}
+use Rattle.exports.proofs.Numbers.{exported, flist-done, flist-refused}
 use Rattle.exports.proofs.flist.condorbed_generate_flist_buffer.Statement.{statement}
 use Rattle.exports.proofs.flist.condorbed_generate_flist_buffer.Tie as tie
 
@@ -32,22 +31,22 @@ same-length : tie.Need-same-length
 same-length c = search needs
 
 returns : tie.Need-returns
-unfolding bufferedOutcome flistNumbers
+unfolding outcomeOf flistNumbers
 returns c =
     let d = called (c .before .before .before) in
-    generate-flist-buffer (d .generate-flist-buffer .ensures) (rw (ap bufferedOutcome (c .before .bytes .given .1)) (flist-done _))
+    exported _ (d .generate-flist-buffer .ensures) (rw (ap outcomeOf (c .before .bytes .given .1)) (flist-done _))
 
 same-length-2 : tie.Need-same-length-2
 same-length-2 c = search needs
 
 returns-2 : tie.Need-returns-2
-unfolding bufferedOutcome flistNumbers
+unfolding outcomeOf flistNumbers
 returns-2 c =
     let known = c .before .before .before in
     let x = known .x .given in
     let d = called (known .before .before) in
-    generate-flist-buffer (d .generate-flist-buffer .ensures)
-    (rw (ap bufferedOutcome (x .1), c .before .number .ensures, c .place .ensures) (flist-refused (x .0 .0)))
+    exported _ (d .generate-flist-buffer .ensures)
+    (rw (ap outcomeOf (x .1), c .before .number .ensures, c .place .ensures) (flist-refused (x .0 .0)))
 
 pub condorbed-generate-flist-buffer-spec : {M : Type 1} → statement M
 condorbed-generate-flist-buffer-spec =

@@ -2,9 +2,8 @@
 -- Assumes nothing.
 use mathlib.Core.Path.{ap}
 use borrow.Author.Needs.{needs}
-use Rattle.no_haplotypes.specs.NoHaplotypes.{outcomeOf}
-use Rattle.exports.proofs.Numbers.{answered-done, answered-refused}
-use Rattle.exports.proofs.Promised.{call-genotypes-no-haplotypes}
+use Rattle.variants_and_fragments.specs.Refusals.{outcomeOf}
+use Rattle.exports.proofs.Numbers.{exported, answered-done, answered-refused}
 use Rattle.exports.proofs.nohap.condorbed_call_genotypes_no_haplotypes.Statement.{
   statement,
 }
@@ -45,7 +44,7 @@ returns : tie.Need-returns
 unfolding outcomeOf
 returns c =
     let d = called (c .before .before .before) in
-    call-genotypes-no-haplotypes (d .before .before .before .before .rates-of .ensures) (d .call-genotypes-no-haplotypes .ensures) (answered-done tt (ap outcomeOf (c .before .enum-told .given .1)) (c .done .ensures))
+    exported _ (rw (← d .before .before .before .before .rates-of .ensures) (d .call-genotypes-no-haplotypes .ensures)) (answered-done (ap outcomeOf (c .before .enum-told .given .1)) (c .done .ensures))
 
 same-length-4 : tie.Need-same-length-4
 same-length-4 c = search needs
@@ -61,7 +60,7 @@ unfolding outcomeOf
 returns-2 c =
     let x = c .before .before .x .given in
     let d = called (c .before .before .before .before) in
-    call-genotypes-no-haplotypes (d .before .before .before .before .rates-of .ensures) (d .call-genotypes-no-haplotypes .ensures) (answered-refused tt (x .0 .0) (ap outcomeOf (x .1)) (c .refused .ensures))
+    exported _ (rw (← d .before .before .before .before .rates-of .ensures) (d .call-genotypes-no-haplotypes .ensures)) (answered-refused (x .0 .0) (ap outcomeOf (x .1)) (c .refused .ensures))
 
 pub condorbed-call-genotypes-no-haplotypes-spec : {M : Type 1} → statement M
 condorbed-call-genotypes-no-haplotypes-spec =

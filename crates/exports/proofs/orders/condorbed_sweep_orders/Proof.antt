@@ -1,7 +1,9 @@
 -- `condorbed_sweep_orders` meets its contract, by the operation's own promise.
 -- Assumes nothing.
+use mathlib.Core.Path.{ap}
 use borrow.Author.Needs.{needs}
-use Rattle.exports.proofs.Promised.{sweep-orders-done, sweep-orders-refused}
+use Rattle.variants_and_fragments.specs.Refusals.{outcomeOf}
+use Rattle.exports.proofs.Numbers.{exported, answered-done, answered-refused}
 use Rattle.exports.proofs.orders.condorbed_sweep_orders.Statement.{statement}
 use Rattle.exports.proofs.orders.condorbed_sweep_orders.Tie as tie
 
@@ -28,15 +30,17 @@ same-length : tie.Need-same-length
 same-length c = search needs
 
 returns : tie.Need-returns
-returns c = sweep-orders-done (called (c .before .before .before) .sweep-orders .ensures) (c .before .enum-told .given .1) (c .done .ensures)
+unfolding outcomeOf
+returns c = exported _ (called (c .before .before .before) .sweep-orders .ensures) (answered-done (ap outcomeOf (c .before .enum-told .given .1)) (c .done .ensures))
 
 same-length-2 : tie.Need-same-length-2
 same-length-2 c = search needs
 
 returns-2 : tie.Need-returns-2
+unfolding outcomeOf
 returns-2 c =
     let x = c .before .before .x .given in
-    sweep-orders-refused (called (c .before .before .before .before) .sweep-orders .ensures) (x .0 .0) (x .1) (c .refused .ensures)
+    exported _ (called (c .before .before .before .before) .sweep-orders .ensures) (answered-refused (x .0 .0) (ap outcomeOf (x .1)) (c .refused .ensures))
 
 pub condorbed-sweep-orders-spec : {M : Type 1} → statement M
 condorbed-sweep-orders-spec =

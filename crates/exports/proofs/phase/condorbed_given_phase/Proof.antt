@@ -2,9 +2,8 @@
 -- Assumes nothing.
 use mathlib.Core.Path.{ap}
 use borrow.Author.Needs.{needs}
-use Rattle.haplotype_assembly.specs.GivenPhase.{outcomeOf}
-use Rattle.exports.proofs.Numbers.{answered-done, answered-refused}
-use Rattle.exports.proofs.Promised.{given-phase}
+use Rattle.variants_and_fragments.specs.Refusals.{outcomeOf}
+use Rattle.exports.proofs.Numbers.{exported, answered-done, answered-refused}
 use Rattle.exports.proofs.phase.condorbed_given_phase.Statement.{statement}
 use Rattle.exports.proofs.phase.condorbed_given_phase.Tie as tie
 
@@ -40,7 +39,7 @@ returns : tie.Need-returns
 unfolding outcomeOf
 returns c =
     let d = called (c .before .before .before) in
-    given-phase (d .given-phase .ensures) (answered-done tt (ap outcomeOf (c .before .enum-told .given .1)) (c .done .ensures))
+    exported _ (d .given-phase .ensures) (answered-done (ap outcomeOf (c .before .enum-told .given .1)) (c .done .ensures))
 
 same-length-4 : tie.Need-same-length-4
 same-length-4 c = search needs
@@ -56,7 +55,7 @@ unfolding outcomeOf
 returns-2 c =
     let x = c .before .before .x .given in
     let d = called (c .before .before .before .before) in
-    given-phase (d .given-phase .ensures) (answered-refused tt (x .0 .0) (ap outcomeOf (x .1)) (c .refused .ensures))
+    exported _ (d .given-phase .ensures) (answered-refused (x .0 .0) (ap outcomeOf (x .1)) (c .refused .ensures))
 
 pub condorbed-given-phase-spec : {M : Type 1} → statement M
 condorbed-given-phase-spec =

@@ -2,9 +2,8 @@
 -- Assumes nothing.
 use mathlib.Core.Path.{ap}
 use borrow.Author.Needs.{needs}
-use Rattle.genotype_probs.specs.Answers.{outcomeOf}
-use Rattle.exports.proofs.Numbers.{answered-done, answered-refused}
-use Rattle.exports.proofs.Promised.{genotype-priors}
+use Rattle.variants_and_fragments.specs.Refusals.{outcomeOf}
+use Rattle.exports.proofs.Numbers.{exported, answered-done, answered-refused}
 use Rattle.exports.proofs.priors.condorbed_genotype_priors.Statement.{statement}
 use Rattle.exports.proofs.priors.condorbed_genotype_priors.Tie as tie
 
@@ -37,7 +36,7 @@ returns : tie.Need-returns
 unfolding outcomeOf
 returns c =
     let d = called (c .before .before .before) in
-    genotype-priors (d .before .before .rates-of .ensures) (d .genotype-priors .ensures) (answered-done tt (ap outcomeOf (c .before .enum-told .given .1)) (c .done .ensures))
+    exported _ (rw (← d .before .before .rates-of .ensures) (d .genotype-priors .ensures)) (answered-done (ap outcomeOf (c .before .enum-told .given .1)) (c .done .ensures))
 
 same-length-2 : tie.Need-same-length-2
 same-length-2 c = search needs
@@ -47,7 +46,7 @@ unfolding outcomeOf
 returns-2 c =
     let x = c .before .before .x .given in
     let d = called (c .before .before .before .before) in
-    genotype-priors (d .before .before .rates-of .ensures) (d .genotype-priors .ensures) (answered-refused tt (x .0 .0) (ap outcomeOf (x .1)) (c .refused .ensures))
+    exported _ (rw (← d .before .before .rates-of .ensures) (d .genotype-priors .ensures)) (answered-refused (x .0 .0) (ap outcomeOf (x .1)) (c .refused .ensures))
 
 pub condorbed-genotype-priors-spec : {M : Type 1} → statement M
 condorbed-genotype-priors-spec =

@@ -7,8 +7,8 @@ use mir.Val.{SFits}
 use mir.Facts.{toZ-ofZ}
 use Rattle.with_haplotypes.specs.Promise.{outcomeOf}
 use Rattle.exports.specs.Answers.{roundNumbers}
-use Rattle.exports.proofs.Numbers.{round-done, round-refused}
-use Rattle.exports.proofs.Promised.{call-genotypes-with-haplotypes}
+use Rattle.exports.proofs.Numbers.{exported, round-done, round-refused}
+use Rattle.exports.proofs.Promised.{called-at}
 use Rattle.exports.proofs.round.condorbed_call_genotypes_with_haplotypes.Statement.{
   statement,
 }
@@ -23,13 +23,13 @@ abbrev rated : tie.After-call-genotypes-with-haplotypes → tie.After-rates-of
 rated d = d .before .before .before .before .before .before
 
 -- the totals of a round fit their words, so they come back as they are
-fits-start : (c : tie.After-struct-told) → SFits w64 (c .before .before .r .given .0 .0 .start)
+fits-start : (c : tie.After-struct-told) → SFits w64 (c .before .before .r .given .0 .0 .start .0)
 fits-start c = search needs
 
-fits-end : (c : tie.After-struct-told) → SFits w64 (c .before .before .r .given .0 .0 .end)
+fits-end : (c : tie.After-struct-told) → SFits w64 (c .before .before .r .given .0 .0 .end .0)
 fits-end c = search needs
 
-fits-source : (c : tie.After-struct-told) → SFits w64 (c .before .before .r .given .0 .0 .source)
+fits-source : (c : tie.After-struct-told) → SFits w64 (c .before .before .r .given .0 .0 .source .0)
 fits-source c = search needs
 
 rates-of-requires : tie.Need-rates-of-requires
@@ -71,7 +71,7 @@ returns c =
     let known = c .before .before in
     let r = known .r .given in
     let d = called (known .before .before) in
-    call-genotypes-with-haplotypes (rated d .rates-of .ensures) (d .call-genotypes-with-haplotypes .ensures)
+    exported _ (called-at _ _ _ _ _ _ _ _ _ _ _ (rated d .rates-of .ensures) (d .call-genotypes-with-haplotypes .ensures))
     (rw (ap outcomeOf (r .1), toZ-ofZ (fits-start c), toZ-ofZ (fits-end c), toZ-ofZ (fits-source c)) (round-done (r .0 .0)))
 
 same-length-6 : tie.Need-same-length-6
@@ -95,7 +95,7 @@ returns-2 c =
     let known = c .before .before .before in
     let x = known .x .given in
     let d = called (known .before .before) in
-    call-genotypes-with-haplotypes (rated d .rates-of .ensures) (d .call-genotypes-with-haplotypes .ensures)
+    exported _ (called-at _ _ _ _ _ _ _ _ _ _ _ (rated d .rates-of .ensures) (d .call-genotypes-with-haplotypes .ensures))
     (rw (ap outcomeOf (x .1), c .before .number .ensures, c .place .ensures) (round-refused (x .0 .0)))
 
 pub condorbed-call-genotypes-with-haplotypes-spec : {M : Type 1} → statement M

@@ -22,20 +22,20 @@ inside s = place-in (s .args .i) (s .args .j) (s .args .k) (s .pre .1) (s .pre .
 below-nine : (s : tie.Start) → s .args .i * s .args .k + s .args .j < 9
 below-nine s = omega (arith, inside s, nine (s .args .k) (s .pre .0 .k-high))
 
-mul-result : tie.Need-mul-result
-mul-result c = omega (arith, below-nine c)
+mul-t6 : tie.Need-mul-t6
+mul-t6 c = omega (arith, below-nine c)
 
-add-result : tie.Need-add-result
-add-result c = omega (arith, below-nine c)
+add-t7 : tie.Need-add-t7
+add-t7 c = omega (arith, below-nine c)
 
-add-result-2 : tie.Need-add-result-2
-add-result-2 c = omega (arith, below-nine c, c .pre .0 .inside)
+add-t8 : tie.Need-add-t8
+add-t8 c = omega (arith, below-nine c, c .pre .0 .inside)
 
-mul-result-2 : tie.Need-mul-result-2
-mul-result-2 c = omega (arith, below-nine c, c .pre .0 .inside)
+mul-t9 : tie.Need-mul-t9
+mul-t9 c = omega (arith, below-nine c, c .pre .0 .inside)
 
-shared-slice-copy-out-result : tie.Need-shared-slice-copy-out-result
-shared-slice-copy-out-result c = omega (arith, below-nine c, c .pre .0 .inside)
+shared-slice-copy-out-t11 : tie.Need-shared-slice-copy-out-t11
+shared-slice-copy-out-t11 c = omega (arith, below-nine c, c .pre .0 .inside)
 
 returns : tie.Need-returns
 unfolding entryAt
@@ -49,4 +49,4 @@ returns c =
 pub entry-spec : {M : Type 1} → statement M
 entry-spec =
     tie.close
-    (tie.spec mul-result add-result add-result-2 mul-result-2 shared-slice-copy-out-result returns)
+    (tie.spec mul-t6 add-t7 add-t8 mul-t9 shared-slice-copy-out-t11 returns)

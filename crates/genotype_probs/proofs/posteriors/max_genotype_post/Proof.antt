@@ -1,15 +1,12 @@
 -- `genotype_probs::posteriors::max_genotype_post` meets its contract: the maximum is one of the k × k pairs.
 -- Assumes nothing.
-use mathlib.Core.Path.{_≡_, ap, _∙_}
+use mathlib.Core.Path.{_≡_}
 use Prim.Native.Nat.{_*_, _/_, _%_, _<_}
 use native.Mathlib.Omega.{arith}
 use borrow.Author.Needs.{needs}
 use denote.Ref.{now}
 use lib.ListN.{drop}
-use mir.Syntax.{w64}
-use mir.Val.{toZ, ofZ}
-use Rattle.steps.proofs.Signed.{read-back}
-use Rattle.genotype_probs.specs.Posteriors.{postAt, atMostOne, maxGenotype, maxGenotypePost}
+use Rattle.genotype_probs.specs.Posteriors.{postAt, maxGenotype, maxGenotypePost}
 use Rattle.genotype_probs.proofs.Maxima.{genotype-maximum}
 use Rattle.genotype_probs.proofs.TableSums.{pair-in}
 use Rattle.genotype_probs.proofs.posteriors.max_genotype_post.Statement.{statement}
@@ -53,9 +50,8 @@ unfolding maxGenotypePost
 returns c =
     let d = c .before in
     let s = d .before .before in
-    let e : d .post-of .result ≡ postAt (s .args .phased) (drop (s .args .at) (now (s .args .post))) (s .args .k) (maxGenotype (s .args .phased) (drop (s .args .at) (now (s .args .post))) (s .args .k)) = cc in
-    let f : toZ w64 (ofZ w64 (c .at-most-one .result)) ≡ atMostOne (d .post-of .result) = read-back w64 (c .at-most-one .result) (c .at-most-one .ok) ∙ c .at-most-one .ensures ∙ ap atMostOne (read-back w64 (d .post-of .result) (d .post-of .ok)) in
-    rw (f, e, d .before .max-genotype .ensures)
+    let e : d .post-of .result .0 ≡ postAt (s .args .phased) (drop (s .args .at) (now (s .args .post))) (s .args .k) (maxGenotype (s .args .phased) (drop (s .args .at) (now (s .args .post))) (s .args .k)) = cc in
+    rw (c .at-most-one .ensures, e, d .before .max-genotype .ensures)
 
 pub max-genotype-post-spec : {M : Type 1} → statement M
 max-genotype-post-spec =

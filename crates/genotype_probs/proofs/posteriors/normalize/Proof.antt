@@ -1,11 +1,7 @@
 -- `genotype_probs::posteriors::normalize` meets its contract: the total is the sum of row sums.
 -- Assumes nothing.
-use mathlib.Core.Path.{ap, _∙_}
 use native.Mathlib.Omega.{arith}
 use borrow.Author.Needs.{needs}
-use lib.IntN.{natAbs}
-use mir.Syntax.{w64}
-use Rattle.steps.proofs.Signed.{read-back}
 use Rattle.genotype_probs.proofs.posteriors.normalize.Statement.{statement}
 use Rattle.genotype_probs.proofs.posteriors.normalize.Tie as tie
 
@@ -16,8 +12,7 @@ subtract-requires : tie.Need-subtract-requires
 subtract-requires c κs =
     let s = c .before .before .before in
     let d = c .before in
-    let e = read-back w64 (d .table-sum .result) (d .table-sum .ok) in
-    (s .pre .1, e ∙ d .table-sum .ensures .0, omega (arith, ap natAbs e, d .table-sum .ensures .1))
+    (s .pre .1, d .table-sum .ensures .0, omega (arith, d .table-sum .ensures .1))
 
 same-length : tie.Need-same-length
 same-length c = search needs

@@ -4,6 +4,7 @@ use mathlib.Core.Path.{_≡_, refl, sym, ap, _∙_}
 use mathlib.Core.List.{List}
 use Prim.Native.Nat.{ℕ, _+_, _*_, _-_, _<_, _≤_, _^_}
 use native.Mathlib.Omega.{arith}
+use borrow.Author.Needs.{needs}
 use borrow.Author.Tests.{ltb-true}
 use denote.Ref.{now}
 use lib.Dec.{ltb}
@@ -12,8 +13,7 @@ use lib.ListN.{length, getD, drop}
 use lib.Seq.{getD-drop}
 use mir.Syntax.{w64}
 use mir.Val.{toZ, ofZ}
-use mir.Facts.{toZ-ofZ}
-use Rattle.steps.proofs.Signed.{by-test, read-back, read-small}
+use Rattle.steps.proofs.Signed.{by-test, read-small}
 use Rattle.variants_and_fragments.specs.Inner.Written.{writtenFrom}
 use Rattle.variants_and_fragments.proofs.Written.{from-on, from-length, from-past}
 use Rattle.genotype_probs.specs.Posteriors.{normalized}
@@ -48,14 +48,14 @@ old l =
     ap (λ (q : List ℤ). getD q (s .args .at + p) (pos 0)) (l .loop .inv .1)
     ∙ from-past (normalized (drop (s .args .at) (now (s .args .post))) (s .args .k)) (s .args .at) p (now (s .args .post)) p (pos 0) (omega arith)
 
-add-lowered : tie.Need-add-lowered Inv-loop μ-loop
-add-lowered c = omega (arith, c .before .before .pre .0 .inside)
+add-t10 : tie.Need-add-t10 Inv-loop μ-loop
+add-t10 c = omega (arith, c .before .before .pre .0 .inside)
 
-mul-lowered : tie.Need-mul-lowered Inv-loop μ-loop
-mul-lowered c = omega (arith, c .before .before .pre .0 .inside)
+mul-t11 : tie.Need-mul-t11 Inv-loop μ-loop
+mul-t11 c = omega (arith, c .before .before .pre .0 .inside)
 
-slice-copy-out-lowered : tie.Need-slice-copy-out-lowered Inv-loop μ-loop
-slice-copy-out-lowered c = omega (arith, as-long (c .before), c .before .before .pre .0 .inside)
+slice-copy-out-t13 : tie.Need-slice-copy-out-t13 Inv-loop μ-loop
+slice-copy-out-t13 c = omega (arith, as-long (c .before), c .before .before .pre .0 .inside)
 
 -- an entry is small
 entry-small : (l : tie.At-loop Inv-loop μ-loop) → l .loop .p < l .before .args .k * l .before .args .k → natAbs (getD (l .loop .post) (l .before .args .at + l .loop .p) (pos 0)) ≤ 2 ^ 40
@@ -68,17 +68,17 @@ lowered-requires : tie.Need-lowered-requires Inv-loop μ-loop
 lowered-requires c κs =
     let l = c .before .before in
     let s = l .before in
-    (rw (toZ-ofZ (s .fits .total)) (s .pre .2), λ h. omega (arith, ap natAbs (entry-read l h), entry-small l h))
+    (s .pre .2, λ h. omega (arith, ap natAbs (entry-read l h), entry-small l h))
 
-add-t13 : tie.Need-add-t13 Inv-loop μ-loop
-add-t13 c = omega (arith, c .before .before .before .before .pre .0 .inside)
+add-x : tie.Need-add-x Inv-loop μ-loop
+add-x c = omega (arith, c .before .before .before .before .before .pre .0 .inside)
 
-mul-t14 : tie.Need-mul-t14 Inv-loop μ-loop
-mul-t14 c = omega (arith, c .before .before .before .before .pre .0 .inside)
+mul-x : tie.Need-mul-x Inv-loop μ-loop
+mul-x c = omega (arith, c .before .before .before .before .before .pre .0 .inside)
 
-slice-set-from-post : tie.Need-slice-set-from-post Inv-loop μ-loop
-slice-set-from-post c =
-    let l = c .before .before .before in omega (arith, as-long l, l .before .pre .0 .inside)
+slice-set-from-x : tie.Need-slice-set-from-x Inv-loop μ-loop
+slice-set-from-x c =
+    let l = c .before .before .before .before in omega (arith, as-long l, l .before .pre .0 .inside)
 
 add-p : tie.Need-add-p Inv-loop μ-loop
 add-p c = omega arith
@@ -87,7 +87,7 @@ loop-less : tie.Need-loop-less Inv-loop μ-loop
 loop-less c = omega arith
 
 -- what is written
-value : (c : tie.After-lowered Inv-loop μ-loop) → c .lowered .result ≡ normalized (drop (c .before .before .before .before .args .at) (now (c .before .before .before .before .args .post))) (c .before .before .before .before .args .k) (c .before .before .before .loop .p)
+value : (c : tie.After-lowered Inv-loop μ-loop) → c .lowered .result .0 ≡ normalized (drop (c .before .before .before .before .args .at) (now (c .before .before .before .before .args .post))) (c .before .before .before .before .args .k) (c .before .before .before .loop .p)
 unfolding normalized
 value c =
     let l = c .before .before .before in
@@ -98,13 +98,15 @@ value c =
     (λ t.
     let h = ltb-true p m t in
     let x = entry-read l h ∙ old l ∙ sym (getD-drop (s .args .at) (now (s .args .post)) p (pos 0)) in
-    let e = rw (x, toZ-ofZ (s .fits .total), s .pre .1) at (c .lowered .ensures) in e)
+    let e = rw (x, s .pre .1) at (c .lowered .ensures) in e)
     (λ t. c .lowered .ensures ∙ rw t)
 
 loop-again : tie.Need-loop-again Inv-loop μ-loop
 loop-again c =
-    let l = c .before .before .before in
-    (omega arith, from-on _ _ _ _ _ _ (l .loop .inv .1) (read-back w64 (c .lowered .result) (c .lowered .ok) ∙ value c))
+    let d = c .before in
+    let l = d .before .before .before in
+    let e : toZ w64 (ofZ w64 (d .lowered .result .0)) ≡ d .lowered .result .0 = search needs in
+    (omega arith, from-on _ _ _ _ _ _ (l .loop .inv .1) (e ∙ value d))
 
 same-length : tie.Need-same-length Inv-loop μ-loop
 same-length c = as-long (c .before)
@@ -125,13 +127,13 @@ subtract-spec =
     μ-loop
     mul-m
     loop-holds
-    add-lowered
-    mul-lowered
-    slice-copy-out-lowered
+    add-t10
+    mul-t11
+    slice-copy-out-t13
     lowered-requires
-    add-t13
-    mul-t14
-    slice-set-from-post
+    add-x
+    mul-x
+    slice-set-from-x
     add-p
     loop-less
     loop-again

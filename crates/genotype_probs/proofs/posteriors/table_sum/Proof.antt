@@ -1,22 +1,20 @@
 -- `genotype_probs::posteriors::table_sum` meets its contract. The loop's invariant: `sum` is that of the first i rows' sums.
 -- Assumes nothing.
-use mathlib.Core.Path.{_≡_, ap, _∙_}
+use mathlib.Core.Path.{ap, _∙_}
 use Prim.Native.Nat.{ℕ, _+_, _-_, _≤_, _^_}
 use native.Mathlib.Omega.{arith}
 use denote.Ref.{now}
 use lib.IntN.{ℤ, natAbs}
 use lib.ListN.{drop}
-use mir.Syntax.{w64}
-use mir.Val.{toZ, ofZ}
 use Rattle.steps.specs.Logs.{addExp}
-use Rattle.steps.proofs.Signed.{read-back}
+use Rattle.steps.proofs.Marks.{size-small, add-is}
 use Rattle.genotype_probs.specs.Posteriors.{rowSum, tableSum}
 use Rattle.genotype_probs.proofs.TableSums.{Summing, summing-start, summing-more, summing-end}
 use Rattle.genotype_probs.proofs.posteriors.table_sum.Statement.{statement}
 use Rattle.genotype_probs.proofs.posteriors.table_sum.Tie as tie
 
 abbrev Inv-loop : tie.InvT-loop
-Inv-loop t post at k sum₀ i₀ sum i = Summing (2 ^ 40 + 12288) (rowSum (drop at post) k) k (toZ w64 sum) i
+Inv-loop t post at k sum₀ i₀ sum i = Summing (2 ^ 40 + 12288) (rowSum (drop at post) k) k (sum .0) i
 
 abbrev μ-loop : tie.MeasureT-loop
 μ-loop t post at k sum₀ i₀ sum i = k - i
@@ -32,25 +30,30 @@ loop-holds : tie.Need-loop-holds Inv-loop μ-loop
 loop-holds c =
     let s = c .before in
     let e = c .row-sum .ensures .0 in
-    summing-start (2 ^ 40 + 12288) (row s) (s .args .k) _ (s .pre .1 .k-low) (read-back w64 (c .row-sum .result) (c .row-sum .ok) ∙ e) (omega (arith, ap natAbs e, c .row-sum .ensures .1))
+    summing-start (2 ^ 40 + 12288) (row s) (s .args .k) _ (s .pre .1 .k-low) e (omega (arith, ap natAbs e, c .row-sum .ensures .1))
 
 row-sum-requires-2 : tie.Need-row-sum-requires-2 Inv-loop μ-loop
 row-sum-requires-2 c κs = let s = c .before .before .before in (s .pre .0, s .pre .1, c .loop-test .taken)
 
--- what is added, read back
-added : (c : tie.After-row-sum2 Inv-loop μ-loop) → toZ w64 (ofZ w64 (c .row-sum2 .result)) ≡ row (c .before .before .before .before) (c .before .before .loop .i)
-added c = read-back w64 (c .row-sum2 .result) (c .row-sum2 .ok) ∙ c .row-sum2 .ensures .0
-
+-- what is added
 small : (c : tie.After-row-sum2 Inv-loop μ-loop) → natAbs (row (c .before .before .before .before) (c .before .before .loop .i)) ≤ (2 ^ 40 + 12288)
 small c = omega (arith, ap natAbs (c .row-sum2 .ensures .0), c .row-sum2 .ensures .1)
 
-add-exp-requires : tie.Need-add-exp-requires Inv-loop μ-loop
-add-exp-requires c κs =
+-- and what it is added to
+sum-small : (c : tie.After-row-sum2 Inv-loop μ-loop) → natAbs (c .before .before .loop .sum .0) ≤ 2 ^ 40 + 24576
+sum-small c =
+    let l = c .before .before in
+    omega (arith, l .loop .inv .small, l .loop .inv .inside, l .before .before .pre .1 .k-high)
+
+ln-add-exp-requires : tie.Need-ln-add-exp-requires Inv-loop μ-loop
+ln-add-exp-requires c κs =
     let l = c .before .before in
     let s = l .before .before in
-    let h = small c in
-    let k = s .pre .1 .k-high in
-    (s .pre .0, omega (arith, l .loop .inv .small, l .loop .inv .inside), omega (arith, ap natAbs (added c)))
+    let a = l .loop .sum .0 in
+    let x = c .row-sum2 .result .0 in
+    let h = sum-small c in
+    let k = c .row-sum2 .ensures .1 in
+    (s .pre .0, omega (arith, size-small a (omega arith)), omega (arith, size-small x (omega arith)))
 
 add-i : tie.Need-add-i Inv-loop μ-loop
 add-i c =
@@ -64,9 +67,13 @@ loop-again c =
     let d = c .before in
     let l = d .before .before in
     let s = l .before .before in
-    let sum = toZ w64 (l .loop .sum) in
+    let sum = l .loop .sum .0 in
+    let x = d .row-sum2 .result .0 in
+    let h = sum-small d in
+    let k = d .row-sum2 .ensures .1 in
+    let e = add-is sum x (c .ln-add-exp .result .0) (omega arith) (omega arith) (c .ln-add-exp .ensures) in
     summing-more (2 ^ 40 + 12288) (row s) (s .args .k) sum _ (l .loop .i) (l .loop .inv) (d .before .loop-test .taken)
-    (read-back w64 (c .add-exp .result) (c .add-exp .ok) ∙ c .add-exp .ensures ∙ ap (addExp sum) (added d))
+    (e ∙ ap (addExp sum) (d .row-sum2 .ensures .0))
     (small d)
 
 returns : tie.Need-returns Inv-loop μ-loop
@@ -74,7 +81,7 @@ unfolding tableSum
 returns c =
     let l = c .before in
     let s = l .before .before in
-    let r = summing-end (2 ^ 40 + 12288) (row s) (s .args .k) (toZ w64 (l .loop .sum)) (l .loop .i) (l .loop .inv) (c .loop-test .left) in
+    let r = summing-end (2 ^ 40 + 12288) (row s) (s .args .k) (l .loop .sum .0) (l .loop .i) (l .loop .inv) (c .loop-test .left) in
     (r .0, omega (arith, r .1, s .pre .1 .k-high))
 
 pub table-sum-spec : {M : Type 1} → statement M
@@ -86,7 +93,7 @@ table-sum-spec =
     row-sum-requires
     loop-holds
     row-sum-requires-2
-    add-exp-requires
+    ln-add-exp-requires
     add-i
     loop-less
     loop-again

@@ -10,7 +10,6 @@ use lib.IntN.{ℤ, pos}
 use lib.ListN.{length}
 use mir.Syntax.{w64}
 use mir.Val.{toZ, ofZ}
-use Rattle.steps.proofs.Signed.{read-back}
 use Rattle.variants_and_fragments.specs.Decode.{variantFrom}
 use Rattle.variants_and_fragments.specs.Inner.Written.{writtenFrom}
 use Rattle.variants_and_fragments.proofs.Written.{from-on, from-length, from-join}
@@ -59,11 +58,12 @@ as-long : (l : tie.At-loop Inv-loop μ-loop) → length (l .loop .priors) ≡ le
 as-long l = ap length (l .loop .inv .1) ∙ from-length (places (l .before)) (9 * st (l .before) .args .v) (l .loop .p) (now (st (l .before) .args .priors))
 
 -- the prior that is written
-prior : (c : tie.After-variant-prior Inv-loop μ-loop) → let l = c .before .before in toZ w64 (ofZ w64 (c .variant-prior .result)) ≡ places (l .before) (l .loop .p)
+prior : (c : tie.After-variant-prior Inv-loop μ-loop) → let l = c .before .before in toZ w64 (ofZ w64 (c .variant-prior .result .0)) ≡ places (l .before) (l .loop .p)
 prior c =
     let l = c .before .before in
     let s = st (l .before) .args in
-    read-back w64 (c .variant-prior .result) (c .variant-prior .ok)
+    let e : toZ w64 (ofZ w64 (c .variant-prior .result .0)) ≡ c .variant-prior .result .0 = search needs in
+    e
     ∙ c .variant-prior .ensures
     ∙ place-is (now (s .table)) (now (s .words)) (now (s .bases)) (s .v) (count (l .before)) (l .loop .p) (l .loop .i) (l .loop .j) (l .before .allele-count .ensures) (c .before .loop-test .taken) (pair-div (l .loop .inv .0)) (pair-mod (l .loop .inv .0))
 
@@ -92,42 +92,42 @@ variant-prior-requires c κs =
     let e = l .before .allele-count .ensures in
     (s .pre .0, (s .pre .1 .0, s .pre .1 .1, omega (arith, e, first-in (l .loop .inv .0) (c .loop-test .taken)), omega (arith, e, l .loop .inv .0 .low)))
 
-mul-t15 : tie.Need-mul-t15 Inv-loop μ-loop
-mul-t15 c = omega (arith, low (c .before .before .before))
+mul-x : tie.Need-mul-x Inv-loop μ-loop
+mul-x c = omega (arith, low (c .before .before .before .before))
 
-add-t16 : tie.Need-add-t16 Inv-loop μ-loop
-add-t16 c = omega (arith, low (c .before .before .before), few (c .before))
+add-x : tie.Need-add-x Inv-loop μ-loop
+add-x c = omega (arith, low (c .before .before .before .before), few (c .before .before))
 
-mul-t17 : tie.Need-mul-t17 Inv-loop μ-loop
-mul-t17 c = omega (arith, low (c .before .before .before), few (c .before))
+mul-x-2 : tie.Need-mul-x-2 Inv-loop μ-loop
+mul-x-2 c = omega (arith, low (c .before .before .before .before), few (c .before .before))
 
-slice-set-from-priors : tie.Need-slice-set-from-priors Inv-loop μ-loop
-slice-set-from-priors c = omega (arith, as-long (c .before .before), st (c .before .before .before) .pre .1 .2, few (c .before))
+slice-set-from-x : tie.Need-slice-set-from-x Inv-loop μ-loop
+slice-set-from-x c = omega (arith, as-long (c .before .before .before), st (c .before .before .before .before) .pre .1 .2, few (c .before .before))
 
 add-p : tie.Need-add-p Inv-loop μ-loop
-add-p c = omega (arith, few (c .before))
+add-p c = omega (arith, few (c .before .before))
 
 add-j : tie.Need-add-j Inv-loop μ-loop
-add-j c = omega (arith, c .before .before .loop .inv .0 .low, count-high (c .before .before .before))
+add-j c = omega (arith, c .before .before .before .loop .inv .0 .low, count-high (c .before .before .before .before))
 
 add-i : tie.Need-add-i Inv-loop μ-loop
-add-i c = omega (arith, c .before .before .before .loop .inv .0 .few, few (c .before .before))
+add-i c = omega (arith, c .before .before .before .before .loop .inv .0 .few, few (c .before .before .before))
 
 loop-less : tie.Need-loop-less Inv-loop μ-loop
-loop-less c = omega (arith, c .before .before .loop-test .taken)
+loop-less c = omega (arith, c .before .before .before .loop-test .taken)
 
 loop-again : tie.Need-loop-again Inv-loop μ-loop
 loop-again c =
-    let l = c .before .before .before in
-    (row-on (l .loop .inv .0) (c .before .before .loop-test .taken) (c .if1 .taken), from-on _ _ _ _ _ _ (l .loop .inv .1) (prior (c .before)))
+    let l = c .before .before .before .before in
+    (row-on (l .loop .inv .0) (c .before .before .before .loop-test .taken) (c .if1 .taken), from-on _ _ _ _ _ _ (l .loop .inv .1) (prior (c .before .before)))
 
 loop-less-2 : tie.Need-loop-less-2 Inv-loop μ-loop
-loop-less-2 c = omega (arith, c .before .before .loop-test .taken)
+loop-less-2 c = omega (arith, c .before .before .before .loop-test .taken)
 
 loop-again-2 : tie.Need-loop-again-2 Inv-loop μ-loop
 loop-again-2 c =
-    let l = c .before .before .before in
-    (place-on (l .loop .inv .0) (c .before .before .loop-test .taken) (c .if1 .left), from-on _ _ _ _ _ _ (l .loop .inv .1) (prior (c .before)))
+    let l = c .before .before .before .before in
+    (place-on (l .loop .inv .0) (c .before .before .before .loop-test .taken) (c .if1 .left), from-on _ _ _ _ _ _ (l .loop .inv .1) (prior (c .before .before)))
 
 mul-write-zeros : tie.Need-mul-write-zeros Inv-loop μ-loop
 mul-write-zeros c = omega (arith, low (c .before .before .before))
@@ -167,10 +167,10 @@ get-all-priors-spec =
     mul-kk
     loop-holds
     variant-prior-requires
-    mul-t15
-    add-t16
-    mul-t17
-    slice-set-from-priors
+    mul-x
+    add-x
+    mul-x-2
+    slice-set-from-x
     add-p
     add-j
     add-i

@@ -5,8 +5,6 @@ use Prim.Native.Nat.{_<_}
 use native.Mathlib.Omega.{arith}
 use borrow.Author.Needs.{needs}
 use denote.Ref.{now}
-use mir.Syntax.{w64}
-use Rattle.steps.proofs.Signed.{read-back}
 use Rattle.genotype_probs.specs.Letters.{baseNumber}
 use Rattle.genotype_probs.specs.Priors.{baseAt, compared}
 use Rattle.genotype_probs.specs.Inner.PriorTable.{numberedBase, numbered}
@@ -45,8 +43,7 @@ returns c =
     let d = c .before in
     let s = d .before .before .before .before .before .before .before in
     let e : d .before .compare .result ≡ numbered (compared (now (s .args .reference)) (now (s .args .first)) (numberedBase (baseNumber (baseAt (now (s .args .reference)) 0)))) = cc in
-    read-back w64 (c .table-value .result) (c .table-value .ok)
-    ∙ c .table-value .ensures
+    c .table-value .ensures
     ∙ lookup-is (now (s .args .table)) (now (s .args .reference)) (now (s .args .first)) (now (s .args .second)) (d .before .compare .result) (d .compare2 .result) e (d .compare2 .ensures)
 
 pub get-prior-spec : {M : Type 1} → statement M

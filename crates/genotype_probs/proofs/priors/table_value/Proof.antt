@@ -28,11 +28,11 @@ add-i c = search needs
 add-i-2 : tie.Need-add-i-2
 add-i-2 c = search needs
 
-mul-result : tie.Need-mul-result
-mul-result c = search needs
+mul-t6 : tie.Need-mul-t6
+mul-t6 c = search needs
 
-shared-slice-copy-out-result : tie.Need-shared-slice-copy-out-result
-shared-slice-copy-out-result c = search needs
+shared-slice-copy-out-t10 : tie.Need-shared-slice-copy-out-t10
+shared-slice-copy-out-t10 c = search needs
 
 letters-share-requires : tie.Need-letters-share-requires
 letters-share-requires c κs = search needs
@@ -47,19 +47,20 @@ share-small : (t : Bool) → natAbs (cond t (pos 0) lnHalf) ≤ 4096
 share-small true = omega arith
 share-small false = omega arith
 
-small : (c : tie.After-letters-share) → natAbs (entry c) + natAbs (c .letters-share .result) < 2 ^ 63
+small : (c : tie.After-letters-share) → natAbs (entry c) + natAbs (c .letters-share .result .0) < 2 ^ 63
 small c =
     let s = c .before .before in
     let h = s .pre .0 .small (36 * s .args .base + 6 * s .args .first + s .args .second) (omega arith) in
     omega (arith, h, ap natAbs (c .letters-share .ensures), share-small (eqb (s .args .first) (s .args .second)))
 
-add-result : tie.Need-add-result
-add-result c = plus-fits w64 (entry c) (c .letters-share .result) (small c)
+add-t12 : tie.Need-add-t12
+add-t12 c = let d = c .before .before in plus-fits w64 (entry d) (d .letters-share .result .0) (small d)
 
 returns : tie.Need-returns
 unfolding tableValue
 returns c =
-    plus-read w64 (entry c) (c .letters-share .result) (small c) ∙ ap (λ (z : ℤ). entry c +ℤ z) (c .letters-share .ensures)
+    let d = c .before .before in
+    plus-read w64 (entry d) (d .letters-share .result .0) (small d) ∙ ap (λ (z : ℤ). entry d +ℤ z) (d .letters-share .ensures)
 
 pub table-value-spec : {M : Type 1} → statement M
 table-value-spec =
@@ -69,8 +70,8 @@ table-value-spec =
     mul-i-2
     add-i
     add-i-2
-    mul-result
-    shared-slice-copy-out-result
+    mul-t6
+    shared-slice-copy-out-t10
     letters-share-requires
-    add-result
+    add-t12
     returns)

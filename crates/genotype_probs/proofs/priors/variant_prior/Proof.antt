@@ -1,12 +1,10 @@
 -- `genotype_probs::priors::variant_prior` meets its contract: the three parts are alleles of the decoded variant, and none is empty.
 -- Assumes nothing.
-use mathlib.Core.Path.{ap, _∙_}
+use mathlib.Core.Path.{ap}
 use Prim.Native.Nat.{ℕ, _<_}
 use native.Mathlib.Omega.{arith}
 use denote.Ref.{now}
 use lib.ListN.{length}
-use mir.Syntax.{w64}
-use Rattle.steps.proofs.Signed.{read-back}
 use Rattle.variants_and_fragments.specs.Layout.{alleleCountAt}
 use Rattle.variants_and_fragments.specs.Decode.{alleleAt}
 use Rattle.genotype_probs.proofs.AlleleLaws.{allele-length, prior-is}
@@ -49,8 +47,7 @@ returns c =
     let s = c .before .before .before .before .before in
     let w = now (s .args .words) in
     let b = now (s .args .bases) in
-    read-back w64 (c .get-prior .result) (c .get-prior .ok)
-    ∙ cc (c .get-prior .ensures, c .before .before .before .allele .ensures, c .before .before .allele2 .ensures, c .before .allele3 .ensures, prior-is (now (s .args .table)) w b (s .args .v) (s .args .i) (s .args .j) (first-there s) (s .pre .1 .2) (s .pre .1 .3))
+    cc (c .get-prior .ensures, c .before .before .before .allele .ensures, c .before .before .allele2 .ensures, c .before .allele3 .ensures, prior-is (now (s .args .table)) w b (s .args .v) (s .args .i) (s .args .j) (first-there s) (s .pre .1 .2) (s .pre .1 .3))
 
 pub variant-prior-spec : {M : Type 1} → statement M
 variant-prior-spec =

@@ -15,36 +15,43 @@ use Rattle.genotype_probs.proofs.table.indel_value.Tie as tie
 ln-half-requires : tie.Need-ln-half-requires
 ln-half-requires c κs = search needs
 
-first-small : (c : tie.After-ln-half) → natAbs (c .before .args .indel) + natAbs (c .ln-half .result) < 2 ^ 63
+first-small : (c : tie.After-ln-half) → natAbs (c .before .args .indel .0) + natAbs (c .ln-half .result .0) < 2 ^ 63
 first-small c = let h = c .before .pre in rw (c .ln-half .ensures) (omega arith)
 
-add-result : tie.Need-add-result
-add-result c = plus-fits w64 (c .before .args .indel) (c .ln-half .result) (first-small c)
+add-t3 : tie.Need-add-t3
+add-t3 c =
+    let d = c .before .before .before .before in plus-fits w64 (d .before .args .indel .0) (d .ln-half .result .0) (first-small d)
 
 ln-quarter-requires : tie.Need-ln-quarter-requires
 ln-quarter-requires c κs = search needs
 
 -- the first sum
-sum-is : (c : tie.After-ln-quarter) → toZ w64 (ofZ w64 (toZ w64 (ofZ w64 (c .before .before .args .indel)) +ℤ toZ w64 (ofZ w64 (c .before .ln-half .result)))) ≡ c .before .before .args .indel +ℤ lnHalf
-sum-is c =
-    plus-read w64 (c .before .before .args .indel) (c .before .ln-half .result) (first-small (c .before))
-    ∙ ap (λ (z : ℤ). c .before .before .args .indel +ℤ z) (c .before .ln-half .ensures)
+sum-is : (d : tie.After-ln-half) → toZ w64 (ofZ w64 (toZ w64 (ofZ w64 (d .before .args .indel .0)) +ℤ toZ w64 (ofZ w64 (d .ln-half .result .0)))) ≡ d .before .args .indel .0 +ℤ lnHalf
+sum-is d =
+    plus-read w64 (d .before .args .indel .0) (d .ln-half .result .0) (first-small d)
+    ∙ ap (λ (z : ℤ). d .before .args .indel .0 +ℤ z) (d .ln-half .ensures)
 
-quarter-is : (c : tie.After-ln-quarter) → toZ w64 (ofZ w64 (c .ln-quarter .result)) ≡ lnQuarter
+quarter-is : (c : tie.After-ln-quarter) → toZ w64 (ofZ w64 (c .ln-quarter .result .0)) ≡ lnQuarter
 quarter-is c = rw (c .ln-quarter .ensures) (read-small w64 lnQuarter (omega arith))
 
-both-small : (c : tie.After-ln-quarter) → natAbs (c .before .before .args .indel +ℤ lnHalf) + natAbs lnQuarter < 2 ^ 63
-both-small c = let h = c .before .before .pre in omega (arith, add-abs (c .before .before .args .indel) lnHalf)
+both-small : (s : tie.Start) → natAbs (s .args .indel .0 +ℤ lnHalf +ℤ lnQuarter) < 2 ^ 62
+both-small s =
+    let z = s .args .indel .0 in
+    let h = s .pre in omega (arith, add-abs z lnHalf, add-abs (z +ℤ lnHalf) lnQuarter)
 
-add-result-2 : tie.Need-add-result-2
-add-result-2 c =
-    rw (sum-is c, quarter-is c) (sfits w64 (c .before .before .args .indel +ℤ lnHalf +ℤ lnQuarter) (omega (arith, both-small c, add-abs (c .before .before .args .indel +ℤ lnHalf) lnQuarter)))
+add-t5 : tie.Need-add-t5
+add-t5 c =
+    let q = c .before .before in
+    let d = q .before .before .before .before .before in
+    let h = both-small (d .before) in
+    rw (sum-is d, quarter-is q) (sfits w64 (d .before .args .indel .0 +ℤ lnHalf +ℤ lnQuarter) (omega arith))
 
 returns : tie.Need-returns
 returns c =
-    rw (sum-is c, quarter-is c) (read-small w64 (c .before .before .args .indel +ℤ lnHalf +ℤ lnQuarter) (omega (arith, both-small c, add-abs (c .before .before .args .indel +ℤ lnHalf) lnQuarter)))
+    let q = c .before .before in
+    let d = q .before .before .before .before .before in
+    let h = both-small (d .before) in
+    rw (sum-is d, quarter-is q) (read-small w64 (d .before .args .indel .0 +ℤ lnHalf +ℤ lnQuarter) (omega arith))
 
 pub indel-value-spec : {M : Type 1} → statement M
-indel-value-spec =
-    tie.close
-    (tie.spec ln-half-requires add-result ln-quarter-requires add-result-2 returns)
+indel-value-spec = tie.close (tie.spec ln-half-requires add-t3 ln-quarter-requires add-t5 returns)

@@ -1,10 +1,8 @@
 -- `genotype_probs::table::ln_half` meets its contract.
 -- Assumes nothing.
-use mathlib.Core.Path.{_≡_, ap, _∙_}
+use mathlib.Core.Path.{ap, _∙_}
 use mathlib.Core.Logic.{inl}
 use borrow.Author.Needs.{needs}
-use mir.Syntax.{w64}
-use mir.Val.{toZ, ofZ}
 use Rattle.steps.specs.Inner.Probs.{lnOf}
 use Rattle.steps.proofs.Probs.{ln-half}
 use Rattle.genotype_probs.proofs.table.ln_half.Statement.{statement}
@@ -18,8 +16,7 @@ from-prob-requires c κs = inl (c .half .ensures)
 
 returns : tie.Need-returns
 returns c =
-    let e : toZ w64 (ofZ w64 (c .before .from-prob .result .0)) ≡ c .before .from-prob .result .0 = search needs in
-    e ∙ c .before .from-prob .ensures ∙ ap lnOf (c .before .before .half .ensures) ∙ ln-half
+    c .from-prob .ensures ∙ ap lnOf (c .before .half .ensures) ∙ ln-half
 
 pub ln-half-spec : {M : Type 1} → statement M
 ln-half-spec = tie.close (tie.spec half-requires from-prob-requires returns)

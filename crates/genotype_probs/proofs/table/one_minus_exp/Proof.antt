@@ -1,15 +1,13 @@
 -- `genotype_probs::table::one_minus_exp` meets its contract: below 0 the value is no mark, so its number is fixed.
 -- Assumes nothing.
-use mathlib.Core.Path.{_≡_, _∙_}
+use mathlib.Core.Path.{_≡_}
 use mathlib.Core.Bool.{true}
 use Prim.Native.Nat.{_≤_, _^_}
 use native.Mathlib.Omega.{arith}
 use lib.IntN.{ℤ, pos, natAbs}
 use lib.Signed.{leZ, ltZ}
-use mir.Syntax.{w64}
-use mir.Facts.{toZ-ofZ}
 use Rattle.steps.specs.Inner.Logs.{logOf, size}
-use Rattle.steps.proofs.Signed.{read-back, zlin}
+use Rattle.steps.proofs.Signed.{zlin}
 use Rattle.steps.proofs.Marks.{no-mark, size-of}
 use Rattle.genotype_probs.proofs.RateLaws.{one-minus-is}
 use Rattle.genotype_probs.proofs.table.one_minus_exp.Statement.{statement}
@@ -23,16 +21,13 @@ not-above p t = omega zlin
 
 ln-one-minus-exp-requires : tie.Need-ln-one-minus-exp-requires
 ln-one-minus-exp-requires c κs =
-    rw (toZ-ofZ (c .fits .p)) (c .pre .0, small (c .args .p) (c .pre .1), not-above (c .args .p) (c .pre .2))
+    (c .pre .0, small (c .args .p .0) (c .pre .1), not-above (c .args .p .0) (c .pre .2))
 
 returns : tie.Need-returns
 returns c =
     let s = c .before in
-    let p = s .args .p in
-    let r = c .ln-one-minus-exp .result in
     let h = s .pre .1 in
-    read-back w64 r (c .ln-one-minus-exp .ok)
-    ∙ one-minus-is p r (omega arith) (s .pre .2) (rw (toZ-ofZ (s .fits .p)) at (c .ln-one-minus-exp .ensures))
+    one-minus-is (s .args .p .0) (c .ln-one-minus-exp .result .0) (omega arith) (s .pre .2) (c .ln-one-minus-exp .ensures)
 
 pub one-minus-exp-spec : {M : Type 1} → statement M
 one-minus-exp-spec = tie.close (tie.spec ln-one-minus-exp-requires returns)

@@ -9,9 +9,9 @@ use lib.IntN.{pos}
 use lib.Signed.{ltZ}
 use mir.Syntax.{w64}
 use mir.Val.{toZ, ofZ}
-use Rattle.steps.proofs.Signed.{read-back}
 use Rattle.genotype_probs.specs.declared.Rates.{Rates}
-use Rattle.genotype_probs.specs.Rates.{homSnv, hetSnv, homIndel, hetIndel, tsRate, tvRate, rateOk, rateSum, rateTests, ratesFault}
+use Rattle.genotype_probs.specs.Rates.{homSnv, hetSnv, homIndel, hetIndel, tsRate, tvRate, rateOk, rateSum, rateTests}
+use Rattle.genotype_probs.specs.Inner.Rates.{ratesFault}
 use Rattle.genotype_probs.proofs.RateLaws.{faultFrom, fault-from, fault-past, fault-here, fault-none}
 use Rattle.genotype_probs.proofs.table.rates_fault.Statement.{statement}
 use Rattle.genotype_probs.proofs.table.rates_fault.Tie as tie
@@ -144,24 +144,25 @@ rate-sum-requires c κs =
     (c1 .before .before .pre, ok1 c1, ok2 c2, ok3 c3, ok4 c4)
 
 -- the sum, read back
-sum-is : (c : tie.After-rate-sum) → toZ w64 (ofZ w64 (c .rate-sum .result)) ≡ rateSum (rates6 (c .before))
-sum-is c = read-back w64 (c .rate-sum .result) (c .rate-sum .ok) ∙ c .rate-sum .ensures
+sum-is : (c : tie.After-rate-sum) → toZ w64 (ofZ w64 (c .rate-sum .result .0)) ≡ rateSum (rates6 (c .before))
+sum-is c =
+    let e : toZ w64 (ofZ w64 (c .rate-sum .result .0)) ≡ c .rate-sum .result .0 = search needs in e ∙ c .rate-sum .ensures
 
-below : (c : tie.Then7) → ltZ (rateSum (rates6 (c .before .before))) (pos 0) ≡ true
-below c = rw (sum-is (c .before)) at (c .if7 .taken)
+below : (c : tie.Then7) → ltZ (rateSum (rates6 (c .before .before .before .before))) (pos 0) ≡ true
+below c = rw (sum-is (c .before .before .before)) at (c .if7 .taken)
 
-not-below : (c : tie.Else7) → ltZ (rateSum (rates6 (c .before .before))) (pos 0) ≡ false
-not-below c = rw (sum-is (c .before)) at (c .if7 .left)
+not-below : (c : tie.Else7) → ltZ (rateSum (rates6 (c .before .before .before .before))) (pos 0) ≡ false
+not-below c = rw (sum-is (c .before .before .before)) at (c .if7 .left)
 
 returns-7 : tie.Need-returns-7
 unfolding rateTests
 returns-7 c =
-    let d = c .before .before in
+    let d = c .before .before .before .before in
     sym (left6 d ∙ fault-past (rates6 d) 6 (omega arith) (below c) ∙ fault-none (rates6 d))
 
 returns-8 : tie.Need-returns-8
 unfolding rateTests
-returns-8 c = let d = c .before .before in sym (left6 d ∙ fault-here (rates6 d) 6 (omega arith) (not-below c))
+returns-8 c = let d = c .before .before .before .before in sym (left6 d ∙ fault-here (rates6 d) 6 (omega arith) (not-below c))
 
 pub rates-fault-spec : {M : Type 1} → statement M
 rates-fault-spec =

@@ -1,11 +1,7 @@
 -- `genotype_probs::table::reference_diploid` meets its contract: the sum of accepted rates is below 0.
 -- Assumes nothing.
-use mathlib.Core.Path.{_≡_, ap, _∙_}
+use mathlib.Core.Path.{ap, _∙_}
 use native.Mathlib.Omega.{arith}
-use mir.Syntax.{w64}
-use mir.Val.{toZ, ofZ}
-use Rattle.steps.proofs.Signed.{read-back}
-use Rattle.genotype_probs.specs.Rates.{rateSum}
 use Rattle.genotype_probs.specs.Priors.{oneMinusExp}
 use Rattle.genotype_probs.proofs.RateLaws.{RatesIn, rates-in, sum-small}
 use Rattle.genotype_probs.proofs.table.reference_diploid.Statement.{statement}
@@ -18,17 +14,14 @@ rate-sum-requires : tie.Need-rate-sum-requires
 rate-sum-requires c κs =
     let g = good c in (c .pre .0, g .hom-snv, g .het-snv, g .hom-indel, g .het-indel)
 
-sum-is : (c : tie.After-rate-sum) → toZ w64 (ofZ w64 (c .rate-sum .result)) ≡ rateSum (c .before .args .rates)
-sum-is c = read-back w64 (c .rate-sum .result) (c .rate-sum .ok) ∙ c .rate-sum .ensures
-
 one-minus-exp-requires : tie.Need-one-minus-exp-requires
 one-minus-exp-requires c κs =
     let s = c .before in
-    let h = sum-small (s .args .rates) (good s) in rw (sum-is c) (s .pre .0, omega arith, good s .sum-below)
+    let h = sum-small (s .args .rates) (good s) in rw (c .rate-sum .ensures) (s .pre .0, omega arith, good s .sum-below)
 
 returns : tie.Need-returns
 returns c =
-    read-back w64 (c .one-minus-exp .result) (c .one-minus-exp .ok) ∙ c .one-minus-exp .ensures ∙ ap oneMinusExp (sum-is (c .before))
+    c .one-minus-exp .ensures ∙ ap oneMinusExp (c .before .rate-sum .ensures)
 
 pub reference-diploid-spec : {M : Type 1} → statement M
 reference-diploid-spec = tie.close (tie.spec rate-sum-requires one-minus-exp-requires returns)

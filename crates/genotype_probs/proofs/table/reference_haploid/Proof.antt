@@ -6,7 +6,7 @@ use native.Mathlib.Omega.{arith}
 use lib.IntN.{natAbs, _+ℤ_}
 use mir.Syntax.{w64}
 use mir.Val.{toZ, ofZ}
-use Rattle.steps.proofs.Signed.{plus-fits, plus-read, read-back, add-abs}
+use Rattle.steps.proofs.Signed.{plus-fits, plus-read, add-abs}
 use Rattle.genotype_probs.specs.Rates.{hetSnv, hetIndel}
 use Rattle.genotype_probs.specs.Priors.{oneMinusExp}
 use Rattle.genotype_probs.proofs.RateLaws.{RatesIn, rates-in, rate-size, rate-below, below-sum}
@@ -24,8 +24,8 @@ small s =
 sum-is : (s : tie.Start) → toZ w64 (ofZ w64 (toZ w64 (ofZ w64 (hetSnv (s .args .rates))) +ℤ toZ w64 (ofZ w64 (hetIndel (s .args .rates))))) ≡ hetSnv (s .args .rates) +ℤ hetIndel (s .args .rates)
 sum-is s = let h = small s in plus-read w64 (hetSnv (s .args .rates)) (hetIndel (s .args .rates)) (omega arith)
 
-add-one-minus-exp : tie.Need-add-one-minus-exp
-add-one-minus-exp c =
+add-t3 : tie.Need-add-t3
+add-t3 c =
     let s = c .before .before in
     let h = small s in plus-fits w64 (hetSnv (s .args .rates)) (hetIndel (s .args .rates)) (omega arith)
 
@@ -40,7 +40,7 @@ one-minus-exp-requires c κs =
 returns : tie.Need-returns
 returns c =
     let s = c .before .before .before in
-    read-back w64 (c .one-minus-exp .result) (c .one-minus-exp .ok) ∙ c .one-minus-exp .ensures ∙ ap oneMinusExp (sum-is s)
+    c .one-minus-exp .ensures ∙ ap oneMinusExp (sum-is s)
 
 pub reference-haploid-spec : {M : Type 1} → statement M
-reference-haploid-spec = tie.close (tie.spec add-one-minus-exp one-minus-exp-requires returns)
+reference-haploid-spec = tie.close (tie.spec add-t3 one-minus-exp-requires returns)

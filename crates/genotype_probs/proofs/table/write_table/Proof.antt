@@ -3,12 +3,12 @@
 use mathlib.Core.Path.{_≡_, refl, ap, _∙_}
 use Prim.Native.Nat.{ℕ, _-_, _≤_}
 use native.Mathlib.Omega.{arith}
+use borrow.Author.Needs.{needs}
 use denote.Ref.{now}
 use lib.IntN.{pos}
 use lib.ListN.{length}
 use mir.Syntax.{w64}
-use mir.Facts.{toZ-ofZ}
-use Rattle.steps.proofs.Signed.{read-back}
+use mir.Val.{toZ, ofZ}
 use Rattle.variants_and_fragments.specs.Written.{written}
 use Rattle.variants_and_fragments.proofs.Written.{written-on, written-length, written-all}
 use Rattle.genotype_probs.specs.Inner.PriorTable.{tableEntry, priorTable}
@@ -28,14 +28,14 @@ loop-holds c = (omega arith, refl)
 table-entry-requires : tie.Need-table-entry-requires Inv-loop μ-loop
 table-entry-requires c κs =
     let s = c .before .before in
-    rw (toZ-ofZ (s .fits .haploid), toZ-ofZ (s .fits .diploid)) ((s .pre .0 .0, omega arith), s .pre .1)
+    ((s .pre .0 .0, omega arith), s .pre .1)
 
-mul-t8 : tie.Need-mul-t8 Inv-loop μ-loop
-mul-t8 c = omega arith
+mul-x : tie.Need-mul-x Inv-loop μ-loop
+mul-x c = omega arith
 
-slice-set-from-table : tie.Need-slice-set-from-table Inv-loop μ-loop
-slice-set-from-table c =
-    let l = c .before .before in omega (arith, ap length (l .loop .inv .1), written-length (tableEntry (l .before .args .rates)) (l .loop .i) (now (l .before .args .table)), l .before .pre .0 .1)
+slice-set-from-x : tie.Need-slice-set-from-x Inv-loop μ-loop
+slice-set-from-x c =
+    let l = c .before .before .before in omega (arith, ap length (l .loop .inv .1), written-length (tableEntry (l .before .args .rates)) (l .loop .i) (now (l .before .args .table)), l .before .pre .0 .1)
 
 add-i : tie.Need-add-i Inv-loop μ-loop
 add-i c = omega arith
@@ -45,8 +45,10 @@ loop-less c = omega arith
 
 loop-again : tie.Need-loop-again Inv-loop μ-loop
 loop-again c =
-    let l = c .before .before in
-    (omega arith, written-on _ _ _ _ _ (l .loop .inv .1) (read-back w64 (c .table-entry .result) (c .table-entry .ok) ∙ c .table-entry .ensures))
+    let d = c .before in
+    let l = d .before .before in
+    let e : toZ w64 (ofZ w64 (d .table-entry .result .0)) ≡ d .table-entry .result .0 = search needs in
+    (omega arith, written-on _ _ _ _ _ (l .loop .inv .1) (e ∙ d .table-entry .ensures))
 
 same-length : tie.Need-same-length Inv-loop μ-loop
 same-length c =
@@ -69,8 +71,8 @@ write-table-spec =
     μ-loop
     loop-holds
     table-entry-requires
-    mul-t8
-    slice-set-from-table
+    mul-x
+    slice-set-from-x
     add-i
     loop-less
     loop-again

@@ -7,9 +7,6 @@ use borrow.Author.Needs.{needs}
 use denote.Ref.{now}
 use lib.IntN.{ℤ, natAbs}
 use lib.ListN.{length}
-use mir.Syntax.{w64}
-use mir.Val.{toZ, ofZ}
-use Rattle.steps.proofs.Signed.{read-back, read-small}
 use Rattle.variants_and_fragments.specs.Case.{Call}
 use Rattle.pileup.specs.declared.row.Row.{Row}
 use Rattle.sweeps.specs.Sweeps.{callTerm}
@@ -52,21 +49,21 @@ small-quals s = (s .pre .0 .qual-small (s .args .i) (omega arith), s .pre .0 .on
 shared-slice-read-flag : tie.Need-shared-slice-read-flag
 shared-slice-read-flag c = let u = c .before in rw (variant-is u) (flag-there (start u))
 
-qual-is : (c : tie.After-unpack) → toZ w64 (ofZ w64 (c .unpack .result .qual)) ≡ call (start c) .qual
-qual-is c = ap (λ (r : Row). toZ w64 (ofZ w64 (r .qual))) (c .unpack .ensures) ∙ read-small w64 (call (start c) .qual) (omega (arith, small-quals (start c) .0))
+qual-is : (c : tie.After-unpack) → c .unpack .result .qual .0 ≡ call (start c) .qual
+qual-is c = ap (λ (r : Row). r .qual .0) (c .unpack .ensures)
 
-other-is : (c : tie.After-unpack) → toZ w64 (ofZ w64 (c .unpack .result .«one_minus_qual»)) ≡ call (start c) .one-minus-qual
-other-is c = ap (λ (r : Row). toZ w64 (ofZ w64 (r .«one_minus_qual»))) (c .unpack .ensures) ∙ read-small w64 (call (start c) .one-minus-qual) (omega (arith, small-quals (start c) .1))
+other-is : (c : tie.After-unpack) → c .unpack .result .«one_minus_qual» .0 ≡ call (start c) .one-minus-qual
+other-is c = ap (λ (r : Row). r .«one_minus_qual» .0) (c .unpack .ensures)
 
 weighed-requires : tie.Need-weighed-requires
-weighed-requires c κs = let u = c .before .before in rw (qual-is u) (small-quals (start u) .0)
+weighed-requires c κs = let u = c .before in rw (qual-is u) (small-quals (start u) .0)
 
 weighed-requires-2 : tie.Need-weighed-requires-2
-weighed-requires-2 c κs = let u = c .before .before .before .before in rw (other-is u) (small-quals (start u) .1)
+weighed-requires-2 c κs = let u = c .before .before in rw (other-is u) (small-quals (start u) .1)
 
 -- where the row is unpacked
 abbrev unpacking : tie.After-weighed2 → tie.After-unpack
-unpacking c = c .before .before .before .before .before
+unpacking c = c .before .before .before
 
 mul-call-term : tie.Need-mul-call-term
 mul-call-term c = let u = unpacking c in omega (arith, variant-is u, pair-there (start u))
@@ -80,7 +77,7 @@ shared-slice-read-call-term c = let u = unpacking (c .before) in omega (arith, v
 call-term-requires : tie.Need-call-term-requires
 call-term-requires c κs = search needs
 
--- the term of the call, read back
+-- the term of the call
 abbrev term : tie.Start → ℤ
 term s = callTerm (call s) (alleleOn (now (s .args .hap)) (s .args .h) (call s .variant))
 
@@ -88,16 +85,14 @@ small : (s : tie.Start) → natAbs (term s) ≤ 262144
 small s = term-small 262144 (call s) _ (small-quals s .0) (small-quals s .1)
 
 -- the term, where the flag is 1
-result-is : (c : tie.Then1) → let r = c .before in toZ w64 (ofZ w64 (r .call-term .result)) ≡ term (start (unpacking (r .before .before)))
+result-is : (c : tie.Then1) → let r = c .before in r .call-term .result .0 ≡ term (start (unpacking (r .before .before)))
 result-is c =
     let r = c .before in
     let w = r .before .before in
     let u = unpacking w in
-    let p = w .before .before in
-    let q = read-back w64 (p .weighed .result) (p .weighed .ok) ∙ p .weighed .ensures (c .if1 .taken) ∙ qual-is u in
-    let o = read-back w64 (w .weighed2 .result) (w .weighed2 .ok) ∙ w .weighed2 .ensures (c .if1 .taken) ∙ other-is u in
-    read-back w64 (r .call-term .result) (r .call-term .ok)
-    ∙ r .call-term .ensures
+    let q = w .before .weighed .ensures (c .if1 .taken) ∙ qual-is u in
+    let o = w .weighed2 .ensures (c .if1 .taken) ∙ other-is u in
+    r .call-term .ensures
     ∙ term-of (call (start u)) _ _ _ _ _ (allele-is u) (ap (λ (v : ℕ). alleleOn (now (start u .args .hap)) (start u .args .h) v) (variant-is u)) q o
 
 returns : tie.Need-returns

@@ -5,9 +5,6 @@ use Prim.Native.Nat.{ℕ, _+_, _*_, _-_, _≤_, _<_}
 use native.Mathlib.Omega.{arith}
 use denote.Ref.{now}
 use lib.IntN.{ℤ, natAbs}
-use mir.Syntax.{w64}
-use mir.Val.{toZ, ofZ}
-use Rattle.steps.proofs.Signed.{read-back}
 use Rattle.likelihoods.proofs.RunningSums.{Running, running-start, running-more, running-end, added-fits, added-read}
 use Rattle.likelihoods.proofs.CallShares.{rowShare, between-sum, calls-fewer}
 use Rattle.likelihoods.proofs.likelihoods.read_likelihoods.Statement.{statement}
@@ -19,8 +16,8 @@ top j = 262144 * j
 
 abbrev Inv-loop : tie.InvT-loop
 Inv-loop rows hap mask a e n first₀ second₀ j₀ first second j =
-    Running (rowShare rows hap mask 0 a) top (e - a) (toZ w64 first) j
-    × Running (rowShare rows hap mask 1 a) top (e - a) (toZ w64 second) j
+    Running (rowShare rows hap mask 0 a) top (e - a) (first .0) j
+    × Running (rowShare rows hap mask 1 a) top (e - a) (second .0) j
 
 abbrev μ-loop : tie.MeasureT-loop
 μ-loop rows hap mask a e n first₀ second₀ j₀ first second j = e - a - j
@@ -53,52 +50,65 @@ add-i c = omega (arith, inside c, start c .pre .0 .count-top)
 call-share-requires : tie.Need-call-share-requires Inv-loop μ-loop
 call-share-requires c κs = (calls-fewer (inside c) (start c .pre .0), omega arith)
 
--- what is added, read back, and how far from 0 it is
-added : (c : tie.After-call-share Inv-loop μ-loop) → toZ w64 (ofZ w64 (c .call-share .result)) ≡ shares (start (c .before)) 0 (c .before .before .loop .j)
-added c = read-back w64 (c .call-share .result) (c .call-share .ok) ∙ c .call-share .ensures .0
+-- what is added, and how far from 0 it is
+added : (c : tie.After-call-share Inv-loop μ-loop) → c .call-share .result .0 ≡ shares (start (c .before)) 0 (c .before .before .loop .j)
+added c = c .call-share .ensures .0
 
 small : (c : tie.After-call-share Inv-loop μ-loop) → natAbs (shares (start (c .before)) 0 (c .before .before .loop .j)) ≤ 262144
 small c = omega (arith, ap natAbs (c .call-share .ensures .0), c .call-share .ensures .1)
 
+abbrev first-added : tie.After-struct-told2 Inv-loop μ-loop → tie.After-call-share Inv-loop μ-loop
+first-added c = c .before .before .before .before
+
 add-first : tie.Need-add-first Inv-loop μ-loop
 add-first c =
-    let l = c .before .before in
-    added-fits (toZ w64 (l .loop .first)) (c .call-share .result) _ (added c) (omega (arith, l .loop .inv .0 .small, small c, few (c .before)))
+    let d = first-added c in
+    let l = d .before .before in
+    added-fits (l .loop .first .0) (d .call-share .result .0) _ (added d) (omega (arith, l .loop .inv .0 .small, small d, few (d .before)))
 
 call-share-requires-2 : tie.Need-call-share-requires-2 Inv-loop μ-loop
-call-share-requires-2 c κs = (calls-fewer (inside (c .before)) (start (c .before) .pre .0), omega arith)
+call-share-requires-2 c κs = let i = first-added c .before in (calls-fewer (inside i) (start i .pre .0), omega arith)
 
-added-2 : (c : tie.After-call-share2 Inv-loop μ-loop) → toZ w64 (ofZ w64 (c .call-share2 .result)) ≡ shares (start (c .before .before)) 1 (c .before .before .before .loop .j)
-added-2 c = read-back w64 (c .call-share2 .result) (c .call-share2 .ok) ∙ c .call-share2 .ensures .0
+-- this turn of the loop
+abbrev turn : tie.After-call-share2 Inv-loop μ-loop → tie.In-loop Inv-loop μ-loop
+turn c = first-added (c .before) .before
 
-small-2 : (c : tie.After-call-share2 Inv-loop μ-loop) → natAbs (shares (start (c .before .before)) 1 (c .before .before .before .loop .j)) ≤ 262144
+added-2 : (c : tie.After-call-share2 Inv-loop μ-loop) → c .call-share2 .result .0 ≡ shares (start (turn c)) 1 (turn c .before .loop .j)
+added-2 c = c .call-share2 .ensures .0
+
+small-2 : (c : tie.After-call-share2 Inv-loop μ-loop) → natAbs (shares (start (turn c)) 1 (turn c .before .loop .j)) ≤ 262144
 small-2 c = omega (arith, ap natAbs (c .call-share2 .ensures .0), c .call-share2 .ensures .1)
+
+abbrev second-added : tie.After-struct-told4 Inv-loop μ-loop → tie.After-call-share2 Inv-loop μ-loop
+second-added c = c .before .before .before .before
 
 add-second : tie.Need-add-second Inv-loop μ-loop
 add-second c =
-    let l = c .before .before .before in
-    added-fits (toZ w64 (l .loop .second)) (c .call-share2 .result) _ (added-2 c) (omega (arith, l .loop .inv .1 .small, small-2 c, few (c .before .before)))
+    let d = second-added c in
+    let l = turn d .before in
+    added-fits (l .loop .second .0) (d .call-share2 .result .0) _ (added-2 d) (omega (arith, l .loop .inv .1 .small, small-2 d, few (turn d)))
 
 add-j : tie.Need-add-j Inv-loop μ-loop
-add-j c = omega (arith, few (c .before .before))
+add-j c = omega (arith, few (turn (second-added c)))
 
 loop-less : tie.Need-loop-less Inv-loop μ-loop
-loop-less c = omega (arith, c .before .before .loop-test .taken)
+loop-less c = omega (arith, turn (second-added c) .loop-test .taken)
 
 loop-again : tie.Need-loop-again Inv-loop μ-loop
 loop-again c =
-    let d = c .before in
+    let e = second-added c in
+    let d = first-added (e .before) in
     let i = d .before in
     let l = i .before in
     let s = start i in
     let n = s .args .e - s .args .a in
     let j = l .loop .j in (
-      running-more (shares s 0) top n (toZ w64 (l .loop .first)) _ j (l .loop .inv .0) (i .loop-test .taken)
-          (added-read (toZ w64 (l .loop .first)) (d .call-share .result) _ (added d) (omega (arith, l .loop .inv .0 .small, small d, few i)))
+      running-more (shares s 0) top n (l .loop .first .0) _ j (l .loop .inv .0) (i .loop-test .taken)
+          (added-read (l .loop .first .0) (d .call-share .result .0) _ (added d) (omega (arith, l .loop .inv .0 .small, small d, few i)))
           (omega (arith, small d)),
-      running-more (shares s 1) top n (toZ w64 (l .loop .second)) _ j (l .loop .inv .1) (i .loop-test .taken)
-          (added-read (toZ w64 (l .loop .second)) (c .call-share2 .result) _ (added-2 c) (omega (arith, l .loop .inv .1 .small, small-2 c, few i)))
-          (omega (arith, small-2 c)),
+      running-more (shares s 1) top n (l .loop .second .0) _ j (l .loop .inv .1) (i .loop-test .taken)
+          (added-read (l .loop .second .0) (e .call-share2 .result .0) _ (added-2 e) (omega (arith, l .loop .inv .1 .small, small-2 e, few i)))
+          (omega (arith, small-2 e)),
     )
 
 returns : tie.Need-returns Inv-loop μ-loop
@@ -106,8 +116,8 @@ returns c =
     let l = c .before in
     let s = l .before .before .before .before in
     let n = s .args .e - s .args .a in
-    let x = running-end (shares s 0) top n (toZ w64 (l .loop .first)) (l .loop .j) (l .loop .inv .0) (c .loop-test .left) in
-    let y = running-end (shares s 1) top n (toZ w64 (l .loop .second)) (l .loop .j) (l .loop .inv .1) (c .loop-test .left) in
+    let x = running-end (shares s 0) top n (l .loop .first .0) (l .loop .j) (l .loop .inv .0) (c .loop-test .left) in
+    let y = running-end (shares s 1) top n (l .loop .second .0) (l .loop .j) (l .loop .inv .1) (c .loop-test .left) in
     record {
       first-is = x .0 ∙ sym (between-sum (now (s .args .rows)) (now (s .args .hap)) (now (s .args .mask)) 0 (s .args .a) (s .args .e));
       second-is = y .0 ∙ sym (between-sum (now (s .args .rows)) (now (s .args .hap)) (now (s .args .mask)) 1 (s .args .a) (s .args .e));

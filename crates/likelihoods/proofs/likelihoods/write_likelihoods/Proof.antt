@@ -60,7 +60,7 @@ read-likelihoods-requires c κs =
 few : (c : tie.In-loop Inv-loop μ-loop) → getD (now (start (c .before) .args .ends)) (c .before .loop .f) 0 ≤ 16384
 few c = omega (arith, end-in c, start (c .before) .pre .0 .count-top)
 
-first-is : (c : tie.After-read-likelihoods Inv-loop μ-loop) → toZ w64 (ofZ w64 (c .read-likelihoods .result .first)) ≡ values (start (c .before .before .before)) (2 * c .before .before .before .loop .f)
+first-is : (c : tie.After-read-likelihoods Inv-loop μ-loop) → toZ w64 (ofZ w64 (c .read-likelihoods .result .first .0)) ≡ values (start (c .before .before .before)) (2 * c .before .before .before .loop .f)
 first-is c =
     let l = c .before .before .before in
     let s = start l in
@@ -69,7 +69,7 @@ first-is c =
     ∙ rw (l .loop .inv .1) at (r .first-is)
     ∙ sym (likelihood-first (now (s .args .rows)) (now (s .args .ends)) (now (s .args .hap)) (now (s .args .mask)) (l .loop .f))
 
-second-is : (c : tie.After-read-likelihoods Inv-loop μ-loop) → toZ w64 (ofZ w64 (c .read-likelihoods .result .second)) ≡ values (start (c .before .before .before)) (2 * c .before .before .before .loop .f + 1)
+second-is : (c : tie.After-read-likelihoods Inv-loop μ-loop) → toZ w64 (ofZ w64 (c .read-likelihoods .result .second .0)) ≡ values (start (c .before .before .before)) (2 * c .before .before .before .loop .f + 1)
 second-is c =
     let l = c .before .before .before in
     let s = start l in

@@ -1,15 +1,12 @@
 -- `likelihoods::totals::fragments_total` meets its contract. The loop's invariant: `sum` is that of the first f fragments, at most 262144
 -- steps from 0 for each of their rows and 8192 for each of them, and the rows of fragment f start at a. Assumes nothing.
-use mathlib.Core.Path.{_≡_, sym, ap, _∙_}
+use mathlib.Core.Path.{_≡_, sym, ap}
 use mathlib.Core.List.{List}
 use Prim.Native.Nat.{ℕ, _+_, _*_, _-_, _≤_, _<_, _^_}
 use native.Mathlib.Omega.{arith}
 use denote.Ref.{now}
 use lib.IntN.{ℤ, natAbs}
 use lib.ListN.{getD}
-use mir.Syntax.{w64}
-use mir.Val.{toZ, ofZ}
-use Rattle.steps.proofs.Signed.{read-back, read-small}
 use Rattle.pileup.specs.Inner.Packed.{groupStart}
 use Rattle.sweeps.specs.Sweeps.{likelihood}
 use Rattle.likelihoods.specs.Inner.Likelihoods.{callsOf, flagged, alleleOn}
@@ -26,7 +23,7 @@ top ends f = 262144 * groupStart ends f + 8192 * f
 abbrev Inv-loop : tie.InvT-loop
 Inv-loop t rows ends hap mask n sum₀ a₀ f₀ sum a f =
     (a ≡ groupStart ends f)
-    × Running (fragmentShare rows ends hap mask) (top ends) n (toZ w64 sum) f
+    × Running (fragmentShare rows ends hap mask) (top ends) n (sum .0) f
 
 abbrev μ-loop : tie.MeasureT-loop
 μ-loop t rows ends hap mask n sum₀ a₀ f₀ sum a f = n - f
@@ -69,59 +66,47 @@ shared-slice-read-e c = omega (arith, c .before .loop-test .taken, start (c .bef
 read-likelihoods-requires : tie.Need-read-likelihoods-requires Inv-loop μ-loop
 read-likelihoods-requires c κs = (calls-fewer (end-in (c .before)) (start (c .before .before) .pre .1), rises (c .before))
 
--- the two likelihoods, read back
+-- the two likelihoods
 abbrev read : (c : tie.After-read-likelihoods Inv-loop μ-loop) → ℕ → ℤ
 read c h =
     let l = c .before .before .before in
     let s = start l in
     likelihood (flagged (now (s .args .mask))) (alleleOn (now (s .args .hap)) h) (callsOf (now (s .args .rows)) (now (s .args .ends)) (l .loop .f))
 
-first-is : (c : tie.After-read-likelihoods Inv-loop μ-loop) → c .read-likelihoods .result .first ≡ read c 0
+first-is : (c : tie.After-read-likelihoods Inv-loop μ-loop) → c .read-likelihoods .result .first .0 ≡ read c 0
 unfolding callsOf
 first-is c = rw (c .before .before .before .loop .inv .0) at (c .read-likelihoods .ensures .first-is)
 
-second-is : (c : tie.After-read-likelihoods Inv-loop μ-loop) → c .read-likelihoods .result .second ≡ read c 1
+second-is : (c : tie.After-read-likelihoods Inv-loop μ-loop) → c .read-likelihoods .result .second .0 ≡ read c 1
 unfolding callsOf
 second-is c = rw (c .before .before .before .loop .inv .0) at (c .read-likelihoods .ensures .second-is)
 
-first-read : (c : tie.After-read-likelihoods Inv-loop μ-loop) → toZ w64 (ofZ w64 (c .read-likelihoods .result .first)) ≡ c .read-likelihoods .result .first
-first-read c = read-small w64 _ (omega (arith, c .read-likelihoods .ensures .first-small, few (c .before .before)))
-
-second-read : (c : tie.After-read-likelihoods Inv-loop μ-loop) → toZ w64 (ofZ w64 (c .read-likelihoods .result .second)) ≡ c .read-likelihoods .result .second
-second-read c = read-small w64 _ (omega (arith, c .read-likelihoods .ensures .second-small, few (c .before .before)))
-
 mixed-requires : tie.Need-mixed-requires Inv-loop μ-loop
 mixed-requires c κs =
-    let r = c .before .before in (
-      start (r .before .before .before) .pre .0,
-      omega (arith, ap natAbs (first-read r), r .read-likelihoods .ensures .first-small, few (r .before .before)),
-      omega (arith, ap natAbs (second-read r), r .read-likelihoods .ensures .second-small, few (r .before .before)),
+    let i = c .before .before in (
+      start (i .before) .pre .0,
+      omega (arith, c .read-likelihoods .ensures .first-small, few i),
+      omega (arith, c .read-likelihoods .ensures .second-small, few i),
     )
 
 -- this turn of the loop, and its head
 abbrev turn : tie.After-mixed Inv-loop μ-loop → tie.In-loop Inv-loop μ-loop
-turn c = c .before .before .before .before .before
+turn c = c .before .before .before
 
 abbrev at : tie.After-mixed Inv-loop μ-loop → tie.At-loop Inv-loop μ-loop
 at c = turn c .before
 
--- what is added, read back, and how far from 0 it is
-share-is : (c : tie.After-mixed Inv-loop μ-loop) → c .mixed .result ≡ shares (start (at c)) (at c .loop .f)
+-- what is added, and how far from 0 it is
+share-is : (c : tie.After-mixed Inv-loop μ-loop) → c .mixed .result .0 ≡ shares (start (at c)) (at c .loop .f)
 unfolding fragmentShare
-share-is c =
-    let r = c .before .before .before in
-    rw (first-read r, second-read r, first-is r, second-is r) at (c .mixed .ensures)
-
-added : (c : tie.After-mixed Inv-loop μ-loop) → toZ w64 (ofZ w64 (c .mixed .result)) ≡ shares (start (at c)) (at c .loop .f)
-added c = read-back w64 (c .mixed .result) (c .mixed .ok) ∙ share-is c
+share-is c = rw (first-is (c .before), second-is (c .before)) at (c .mixed .ensures)
 
 small : (c : tie.After-mixed Inv-loop μ-loop) → natAbs (shares (start (at c)) (at c .loop .f)) ≤ 262144 * (end-of (at c) - at c .loop .a) + 8192
 small c =
-    let r = c .before .before .before in
-    let l = r .before .before .before in
+    let r = c .before in
+    let l = at c in
     let e = r .read-likelihoods .ensures in
-    let m = rw (first-read r, second-read r) at (c .mixed .ensures) in
-    omega (arith, ap natAbs m, ap natAbs (share-is c), mix-small (r .read-likelihoods .result .first) (r .read-likelihoods .result .second) (262144 * (end-of l - l .loop .a)) (e .first-small) (e .second-small))
+    omega (arith, ap natAbs (c .mixed .ensures), ap natAbs (share-is c), mix-small (r .read-likelihoods .result .first .0) (r .read-likelihoods .result .second .0) (262144 * (end-of l - l .loop .a)) (e .first-small) (e .second-small))
 
 -- the sum so far and the fragment's share are within the next bound
 within : (c : tie.After-mixed Inv-loop μ-loop) → top (now (start (at c) .args .ends)) (at c .loop .f) + natAbs (shares (start (at c)) (at c .loop .f)) ≤ top (now (start (at c) .args .ends)) (at c .loop .f + 1)
@@ -129,36 +114,40 @@ within c =
     let l = at c in
     omega (arith, small c, l .loop .inv .0, start-next (now (start l .args .ends)) (l .loop .f), rises (turn c))
 
-fits : (c : tie.After-mixed Inv-loop μ-loop) → natAbs (toZ w64 (at c .loop .sum)) + natAbs (shares (start (at c)) (at c .loop .f)) < 2 ^ 63
+fits : (c : tie.After-mixed Inv-loop μ-loop) → natAbs (at c .loop .sum .0) + natAbs (shares (start (at c)) (at c .loop .f)) < 2 ^ 63
 fits c =
     let i = turn c in
     let l = at c in
     omega (arith, l .loop .inv .1 .small, within c, start-next (now (start l .args .ends)) (l .loop .f), few i, few-fragments i)
 
+abbrev share : tie.After-struct-told2 Inv-loop μ-loop → tie.After-mixed Inv-loop μ-loop
+share c = c .before .before .before .before
+
 add-sum : tie.Need-add-sum Inv-loop μ-loop
-add-sum c = added-fits (toZ w64 (at c .loop .sum)) (c .mixed .result) _ (added c) (fits c)
+add-sum c = let d = share c in added-fits (at d .loop .sum .0) (d .mixed .result .0) _ (share-is d) (fits d)
 
 add-f : tie.Need-add-f Inv-loop μ-loop
-add-f c = omega (arith, few-fragments (turn c))
+add-f c = omega (arith, few-fragments (turn (share c)))
 
 loop-less : tie.Need-loop-less Inv-loop μ-loop
-loop-less c = omega (arith, turn c .loop-test .taken)
+loop-less c = omega (arith, turn (share c) .loop-test .taken)
 
 loop-again : tie.Need-loop-again Inv-loop μ-loop
 loop-again c =
-    let l = at c in
+    let d = share c in
+    let l = at d in
     let s = start l in (
       sym (start-next (now (s .args .ends)) (l .loop .f)),
-      running-more (shares s) (top (now (s .args .ends))) (s .args .n) (toZ w64 (l .loop .sum)) _ (l .loop .f) (l .loop .inv .1) (turn c .loop-test .taken)
-          (added-read (toZ w64 (l .loop .sum)) (c .mixed .result) _ (added c) (fits c))
-          (within c),
+      running-more (shares s) (top (now (s .args .ends))) (s .args .n) (l .loop .sum .0) _ (l .loop .f) (l .loop .inv .1) (turn d .loop-test .taken)
+          (added-read (l .loop .sum .0) (d .mixed .result .0) _ (share-is d) (fits d))
+          (within d),
     )
 
 returns : tie.Need-returns Inv-loop μ-loop
 returns c =
     let l = c .before in
     let s = start l in
-    let r = running-end (shares s) (top (now (s .args .ends))) (s .args .n) (toZ w64 (l .loop .sum)) (l .loop .f) (l .loop .inv .1) (c .loop-test .left) in
+    let r = running-end (shares s) (top (now (s .args .ends))) (s .args .n) (l .loop .sum .0) (l .loop .f) (l .loop .inv .1) (c .loop-test .left) in
     (r .0, omega (arith, r .1, s .pre .1 .count-top, s .pre .3))
 
 pub fragments-total-spec : {M : Type 1} → statement M

@@ -60,23 +60,23 @@ start c = c .before .before .before .before .before
 cast-j : tie.Need-cast-j
 cast-j c = omega (arith, c .shared-slice-known4 .given (2 * start c .args .v + 1))
 
-mul-result : tie.Need-mul-result
-mul-result c = search needs
+mul-t14 : tie.Need-mul-t14
+mul-t14 c = search needs
 
-mul-result-2 : tie.Need-mul-result-2
-mul-result-2 c = omega (arith, below-nine (start c))
+mul-t16 : tie.Need-mul-t16
+mul-t16 c = omega (arith, below-nine (start c))
 
-add-result : tie.Need-add-result
-add-result c = omega (arith, below-nine (start c))
+add-t18 : tie.Need-add-t18
+add-t18 c = omega (arith, below-nine (start c))
 
-add-result-2 : tie.Need-add-result-2
-add-result-2 c = omega (arith, there (start c))
+add-t19 : tie.Need-add-t19
+add-t19 c = omega (arith, there (start c))
 
-mul-result-3 : tie.Need-mul-result-3
-mul-result-3 c = omega (arith, there (start c))
+mul-t20 : tie.Need-mul-t20
+mul-t20 c = omega (arith, there (start c))
 
-shared-slice-copy-out-result : tie.Need-shared-slice-copy-out-result
-shared-slice-copy-out-result c = there (start c)
+shared-slice-copy-out-t22 : tie.Need-shared-slice-copy-out-t22
+shared-slice-copy-out-t22 c = there (start c)
 
 returns : tie.Need-returns
 unfolding pairPrior
@@ -107,11 +107,11 @@ prior-share-spec =
     add-j
     shared-slice-read-j
     cast-j
-    mul-result
-    mul-result-2
-    add-result
-    add-result-2
-    mul-result-3
-    shared-slice-copy-out-result
+    mul-t14
+    mul-t16
+    add-t18
+    add-t19
+    mul-t20
+    shared-slice-copy-out-t22
     returns
     returns-2)

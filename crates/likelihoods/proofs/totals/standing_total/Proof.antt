@@ -20,21 +20,26 @@ mixes-total-requires c κs = search needs
 
 -- the parts
 abbrev x : tie.After-mixes-total → ℤ
-x c = c .before .priors-total .result
+x c = c .before .priors-total .result .0
 
 abbrev y : tie.After-mixes-total → ℤ
-y c = c .mixes-total .result
+y c = c .mixes-total .result .0
 
 small : (c : tie.After-mixes-total) → natAbs (x c) + natAbs (y c) ≤ 2 ^ 46
 small c = omega (arith, c .before .priors-total .ensures .1, c .mixes-total .ensures .1)
 
-add-result : tie.Need-add-result
-add-result c = plus-fits w64 (x c) (y c) (omega (arith, small c))
+abbrev parts : tie.After-struct-told2 → tie.After-mixes-total
+parts c = c .before .before .before .before
+
+add-t10 : tie.Need-add-t10
+add-t10 c = let d = parts c in plus-fits w64 (x d) (y d) (omega (arith, small d))
 
 returns : tie.Need-returns
 unfolding standingTotal
-returns c = plus-read w64 (x c) (y c) (omega (arith, small c)) ∙ same-sum (c .before .priors-total .ensures .0) (c .mixes-total .ensures .0)
+returns c =
+    let d = parts c in
+    plus-read w64 (x d) (y d) (omega (arith, small d)) ∙ same-sum (d .before .priors-total .ensures .0) (d .mixes-total .ensures .0)
 
 pub standing-total-spec : {M : Type 1} → statement M
 standing-total-spec =
-    tie.close (tie.spec priors-total-requires mixes-total-requires add-result returns)
+    tie.close (tie.spec priors-total-requires mixes-total-requires add-t10 returns)

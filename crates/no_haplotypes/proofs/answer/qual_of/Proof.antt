@@ -19,11 +19,11 @@ use borrow.Author.Needs.{needs}
 use Rattle.no_haplotypes.proofs.answer.qual_of.Statement.{statement}
 use Rattle.no_haplotypes.proofs.answer.qual_of.Tie as tie
 
-mul-t4 : tie.Need-mul-t4
-mul-t4 c = search needs
+mul-t3 : tie.Need-mul-t3
+mul-t3 c = search needs
 
-shared-slice-copy-out-t6 : tie.Need-shared-slice-copy-out-t6
-shared-slice-copy-out-t6 c = search needs
+shared-slice-copy-out-t5 : tie.Need-shared-slice-copy-out-t5
+shared-slice-copy-out-t5 c = search needs
 
 abbrev first : tie.Start → ℤ
 first s = getD (now (s .args .post)) (s .args .at) (pos 0)
@@ -43,4 +43,4 @@ returns c =
     c .capped-phred .ensures ∙ ap (λ (x : Log). capped (phredOf x)) (finite s ∙ ap steps (sym d))
 
 pub qual-of-spec : {M : Type 1} → statement M
-qual-of-spec = tie.close (tie.spec mul-t4 shared-slice-copy-out-t6 capped-phred-requires returns)
+qual-of-spec = tie.close (tie.spec mul-t3 shared-slice-copy-out-t5 capped-phred-requires returns)

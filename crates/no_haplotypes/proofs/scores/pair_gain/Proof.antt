@@ -15,11 +15,11 @@ use borrow.Author.Needs.{needs}
 use Rattle.no_haplotypes.proofs.scores.pair_gain.Statement.{statement}
 use Rattle.no_haplotypes.proofs.scores.pair_gain.Tie as tie
 
-mul-result : tie.Need-mul-result
-mul-result c = search needs
+mul-t6 : tie.Need-mul-t6
+mul-t6 c = search needs
 
-element-copy-out-result : tie.Need-element-copy-out-result
-element-copy-out-result c = search needs
+element-copy-out-t9 : tie.Need-element-copy-out-t9
+element-copy-out-t9 c = search needs
 
 abbrev both-of : tie.Start → ℤ
 both-of s = getD (now (s .args .gains)) (s .args .i) (pos 0)
@@ -30,87 +30,89 @@ first-of s = getD (now (s .args .gains)) (3 + s .args .i) (pos 0)
 abbrev second-of : tie.Start → ℤ
 second-of s = getD (now (s .args .gains)) (3 + s .args .j) (pos 0)
 
-two-small : (s : tie.Start) → natAbs (s .args .total) + natAbs (both-of s) ≤ 2 ^ 35
+two-small : (s : tie.Start) → natAbs (s .args .total .0) + natAbs (both-of s) ≤ 2 ^ 35
 two-small s = omega (arith, s .pre .0 .total-small, s .pre .0 .gains-in .small (s .args .i) (omega (arith, s .pre .1)))
 
-three-small : (s : tie.Start) → natAbs (s .args .total) + natAbs (first-of s) + natAbs (second-of s) ≤ 2 ^ 36
+three-small : (s : tie.Start) → natAbs (s .args .total .0) + natAbs (first-of s) + natAbs (second-of s) ≤ 2 ^ 36
 three-small s = omega (arith, s .pre .0 .total-small, s .pre .0 .gains-in .small (3 + s .args .i) (omega (arith, s .pre .1)), s .pre .0 .gains-in .small (3 + s .args .j) (omega (arith, s .pre .2)))
 
-first-sum : (s : tie.Start) → toZ w64 (ofZ w64 (toZ w64 (ofZ w64 (s .args .total)) +ℤ toZ w64 (ofZ w64 (first-of s)))) ≡ s .args .total +ℤ first-of s
-first-sum s = plus-read w64 (s .args .total) (first-of s) (omega (arith, three-small s))
+first-sum : (s : tie.Start) → toZ w64 (ofZ w64 (toZ w64 (ofZ w64 (s .args .total .0)) +ℤ toZ w64 (ofZ w64 (first-of s)))) ≡ s .args .total .0 +ℤ first-of s
+first-sum s = plus-read w64 (s .args .total .0) (first-of s) (omega (arith, three-small s))
 
 second-read : (s : tie.Start) → toZ w64 (ofZ w64 (second-of s)) ≡ second-of s
 second-read s = read-small w64 (second-of s) (omega (arith, three-small s))
 
-sum-small : (s : tie.Start) → natAbs (s .args .total +ℤ first-of s) + natAbs (second-of s) ≤ 2 ^ 36
-sum-small s = omega (arith, three-small s, add-abs (s .args .total) (first-of s))
+sum-small : (s : tie.Start) → natAbs (s .args .total .0 +ℤ first-of s) + natAbs (second-of s) ≤ 2 ^ 36
+sum-small s = omega (arith, three-small s, add-abs (s .args .total .0) (first-of s))
 
-add-result : tie.Need-add-result
-add-result c = plus-fits w64 (c .before .before .args .total) (both-of (c .before .before)) (omega (arith, two-small (c .before .before)))
+add-t10 : tie.Need-add-t10
+add-t10 c =
+    let s = c .before .before .before .before in plus-fits w64 (s .args .total .0) (both-of s) (omega (arith, two-small s))
 
 returns : tie.Need-returns
 unfolding pairGain
 returns c =
-    let s = c .before .before in
-    let e = plus-read w64 (s .args .total) (both-of s) (omega (arith, two-small s)) in
-    (rw (eq-eqb (s .args .i) (s .args .j) (c .before .if1 .taken)) e, omega (arith, ap natAbs e, add-abs (s .args .total) (both-of s), two-small s))
+    let s = c .before .before .before .before in
+    let e = plus-read w64 (s .args .total .0) (both-of s) (omega (arith, two-small s)) in
+    (rw (eq-eqb (s .args .i) (s .args .j) (c .before .before .before .if1 .taken)) e, omega (arith, ap natAbs e, add-abs (s .args .total .0) (both-of s), two-small s))
 
-add-result-2 : tie.Need-add-result-2
-add-result-2 c = search needs
+add-t11 : tie.Need-add-t11
+add-t11 c = search needs
 
-mul-result-2 : tie.Need-mul-result-2
-mul-result-2 c = search needs
+mul-t12 : tie.Need-mul-t12
+mul-t12 c = search needs
 
-element-copy-out-result-2 : tie.Need-element-copy-out-result-2
-element-copy-out-result-2 c = search needs
+element-copy-out-t15 : tie.Need-element-copy-out-t15
+element-copy-out-t15 c = search needs
 
-add-result-3 : tie.Need-add-result-3
-add-result-3 c = plus-fits w64 (c .before .before .args .total) (first-of (c .before .before)) (omega (arith, three-small (c .before .before)))
+add-t16 : tie.Need-add-t16
+add-t16 c =
+    let s = c .before .before .before .before in plus-fits w64 (s .args .total .0) (first-of s) (omega (arith, three-small s))
 
-add-result-4 : tie.Need-add-result-4
-add-result-4 c = search needs
+add-t17 : tie.Need-add-t17
+add-t17 c = search needs
 
-mul-result-3 : tie.Need-mul-result-3
-mul-result-3 c = search needs
+mul-t18 : tie.Need-mul-t18
+mul-t18 c = search needs
 
-element-copy-out-result-3 : tie.Need-element-copy-out-result-3
-element-copy-out-result-3 c = search needs
+element-copy-out-t21 : tie.Need-element-copy-out-t21
+element-copy-out-t21 c = search needs
 
 sum-fits : (a b : ℤ) → natAbs a + natAbs b ≤ 2 ^ 36 → SFits w64 (a +ℤ toZ w64 (ofZ w64 b))
 sum-fits a b h = rw (read-small w64 b (omega arith)) (sfits w64 (a +ℤ b) (omega (arith, add-abs a b)))
 
-add-result-5 : tie.Need-add-result-5
-add-result-5 c =
-    let s = c .before .before .before in
-    rw (first-sum s) (sum-fits (s .args .total +ℤ first-of s) (second-of s) (sum-small s))
+add-t22 : tie.Need-add-t22
+add-t22 c =
+    let s = c .before .before .before .before .before in
+    rw (first-sum s) (sum-fits (s .args .total .0 +ℤ first-of s) (second-of s) (sum-small s))
 
-three-sum : (s : tie.Start) → toZ w64 (ofZ w64 (toZ w64 (ofZ w64 (toZ w64 (ofZ w64 (s .args .total)) +ℤ toZ w64 (ofZ w64 (first-of s)))) +ℤ toZ w64 (ofZ w64 (second-of s)))) ≡ s .args .total +ℤ first-of s +ℤ second-of s
+three-sum : (s : tie.Start) → toZ w64 (ofZ w64 (toZ w64 (ofZ w64 (toZ w64 (ofZ w64 (s .args .total .0)) +ℤ toZ w64 (ofZ w64 (first-of s)))) +ℤ toZ w64 (ofZ w64 (second-of s)))) ≡ s .args .total .0 +ℤ first-of s +ℤ second-of s
 three-sum s =
     let h = sum-small s in
-    let n = add-abs (s .args .total +ℤ first-of s) (second-of s) in
-    rw (first-sum s, second-read s) (read-small w64 (s .args .total +ℤ first-of s +ℤ second-of s) (omega arith))
+    let n = add-abs (s .args .total .0 +ℤ first-of s) (second-of s) in
+    rw (first-sum s, second-read s) (read-small w64 (s .args .total .0 +ℤ first-of s +ℤ second-of s) (omega arith))
 
 returns-2 : tie.Need-returns-2
 unfolding pairGain
 returns-2 c =
-    let s = c .before .before .before in
+    let s = c .before .before .before .before .before in
     let e = three-sum s in
-    (rw (ne-eqb (s .args .i) (s .args .j) (c .before .before .if1 .left)) e, omega (arith, ap natAbs e, add-abs (s .args .total +ℤ first-of s) (second-of s), sum-small s))
+    (rw (ne-eqb (s .args .i) (s .args .j) (c .before .before .before .before .if1 .left)) e, omega (arith, ap natAbs e, add-abs (s .args .total .0 +ℤ first-of s) (second-of s), sum-small s))
 
 pub pair-gain-spec : {M : Type 1} → statement M
 pair-gain-spec =
     tie.close
     (tie.spec
-    mul-result
-    element-copy-out-result
-    add-result
+    mul-t6
+    element-copy-out-t9
+    add-t10
     returns
-    add-result-2
-    mul-result-2
-    element-copy-out-result-2
-    add-result-3
-    add-result-4
-    mul-result-3
-    element-copy-out-result-3
-    add-result-5
+    add-t11
+    mul-t12
+    element-copy-out-t15
+    add-t16
+    add-t17
+    mul-t18
+    element-copy-out-t21
+    add-t22
     returns-2)

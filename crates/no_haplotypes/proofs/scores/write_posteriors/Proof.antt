@@ -2,8 +2,6 @@
 -- Assumes nothing.
 use mathlib.Core.Path.{refl}
 use Prim.Native.Nat.{_≤_}
-use mir.Syntax.{w64}
-use Rattle.steps.proofs.Signed.{read-back}
 use Rattle.no_haplotypes.proofs.TallyLaws.{pile-sums, pile-counts}
 use Rattle.no_haplotypes.proofs.PosteriorLaws.{scored-table, posteriors-made}
 use borrow.Author.Needs.{needs}
@@ -34,7 +32,7 @@ write-scores-requires c κs =
     let a = c .before .before in
     let y = a .before in
     let s = st y in
-    (rw (read-back w64 (y .tally .result) (y .tally .ok)) (pile-sums (y .tally .ensures) (s .pre .0 .2)), low a, top a, s .pre .1 .1)
+    (pile-sums (y .tally .ensures) (s .pre .0 .2), low a, top a, s .pre .1 .1)
 
 -- the number of alleles, from the scores
 abbrev counted : tie.After-write-scores → tie.After-allele-count
@@ -49,7 +47,7 @@ normalize-requires c κs =
     let a = counted g in
     let y = a .before in
     let s = st y in
-    (s .pre .0 .0, scored-table (low a) (top a) (s .pre .1 .1) (rw (read-back w64 (y .tally .result) (y .tally .ok)) (pile-sums (y .tally .ensures) (s .pre .0 .2))) (g .write-scores .ensures))
+    (s .pre .0 .0, scored-table (low a) (top a) (s .pre .1 .1) (pile-sums (y .tally .ensures) (s .pre .0 .2)) (g .write-scores .ensures))
 
 same-length : tie.Need-same-length
 same-length c = search needs
@@ -61,7 +59,7 @@ returns c =
     let a = counted g in
     let y = a .before in
     let s = st y in
-    posteriors-made (low a) (top a) (s .pre .1 .1) (rw (read-back w64 (y .tally .result) (y .tally .ok)) (pile-sums (y .tally .ensures) (s .pre .0 .2))) (g .write-scores .ensures) (n .normalize .ensures) (rw (read-back w64 (y .tally .result) (y .tally .ok)) (y .tally .ensures)) refl (a .allele-count .ensures) (pile-counts (y .tally .ensures) (s .pre .0 .2))
+    posteriors-made (low a) (top a) (s .pre .1 .1) (pile-sums (y .tally .ensures) (s .pre .0 .2)) (g .write-scores .ensures) (n .normalize .ensures) (y .tally .ensures) refl (a .allele-count .ensures) (pile-counts (y .tally .ensures) (s .pre .0 .2))
 
 pub write-posteriors-spec : {M : Type 1} → statement M
 write-posteriors-spec =

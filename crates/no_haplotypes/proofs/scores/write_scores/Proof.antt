@@ -4,14 +4,14 @@ use mathlib.Core.Path.{_≡_, refl, sym, ap, _∙_}
 use mathlib.Core.List.{List}
 use Prim.Native.Nat.{_+_, _-_, _^_, _≤_}
 use native.Mathlib.Omega.{arith}
+use borrow.Author.Needs.{needs}
 use denote.Ref.{now}
 use lib.IntN.{ℤ, pos, natAbs}
 use lib.ListN.{length, getD, drop}
 use lib.Seq.{getD-drop}
 use mir.Syntax.{w64}
 use mir.Val.{toZ, ofZ}
-use mir.Facts.{toZ-ofZ}
-use Rattle.steps.proofs.Signed.{read-back, read-small}
+use Rattle.steps.proofs.Signed.{read-small}
 use Rattle.variants_and_fragments.specs.Inner.Written.{writtenFrom}
 use Rattle.variants_and_fragments.proofs.Written.{from-on, from-length, from-past}
 use Rattle.no_haplotypes.specs.Inner.Tally.{gained}
@@ -20,7 +20,7 @@ use Rattle.no_haplotypes.proofs.scores.write_scores.Tie as tie
 
 abbrev Inv-loop : tie.InvT-loop
 Inv-loop post₀ at k total gains p₀ post p =
-    (p ≤ 9) × (post ≡ writtenFrom (gained (drop at post₀) k (toZ w64 total) gains) at p post₀)
+    (p ≤ 9) × (post ≡ writtenFrom (gained (drop at post₀) k (total .0) gains) at p post₀)
 
 abbrev μ-loop : tie.MeasureT-loop
 μ-loop post₀ at k total gains p₀ post p =
@@ -47,28 +47,28 @@ old-small c = omega (arith, ap natAbs (old (c .before)), c .before .before .pre 
 old-read : (c : tie.In-loop Inv-loop μ-loop) → toZ w64 (ofZ w64 (getD (c .before .loop .post) (c .before .before .args .at + c .before .loop .p) (pos 0))) ≡ getD (c .before .loop .post) (c .before .before .args .at + c .before .loop .p) (pos 0)
 old-read c = let h = old-small c in read-small w64 _ (omega arith)
 
-add-score-at : tie.Need-add-score-at Inv-loop μ-loop
-add-score-at c = omega (arith, c .before .before .pre .3 .room)
+add-t10 : tie.Need-add-t10 Inv-loop μ-loop
+add-t10 c = omega (arith, c .before .before .pre .3 .room)
 
-mul-score-at : tie.Need-mul-score-at Inv-loop μ-loop
-mul-score-at c = omega (arith, c .before .before .pre .3 .room)
+mul-t11 : tie.Need-mul-t11 Inv-loop μ-loop
+mul-t11 c = omega (arith, c .before .before .pre .3 .room)
 
-slice-copy-out-score-at : tie.Need-slice-copy-out-score-at Inv-loop μ-loop
-slice-copy-out-score-at c = omega (arith, as-long (c .before), c .before .before .pre .3 .room)
+slice-copy-out-t13 : tie.Need-slice-copy-out-t13 Inv-loop μ-loop
+slice-copy-out-t13 c = omega (arith, as-long (c .before), c .before .before .pre .3 .room)
 
 score-at-requires : tie.Need-score-at-requires Inv-loop μ-loop
 score-at-requires c κs =
     let s = c .before .before .before in
-    (rw (toZ-ofZ (s .fits .total)) (s .pre .0), s .pre .1, s .pre .2, rw (old-read (c .before)) (old-small (c .before)))
+    (s .pre .0, s .pre .1, s .pre .2, rw (old-read (c .before)) (old-small (c .before)))
 
-add-t13 : tie.Need-add-t13 Inv-loop μ-loop
-add-t13 c = omega (arith, c .before .before .before .before .pre .3 .room)
+add-x : tie.Need-add-x Inv-loop μ-loop
+add-x c = omega (arith, c .before .before .before .before .before .pre .3 .room)
 
-mul-t14 : tie.Need-mul-t14 Inv-loop μ-loop
-mul-t14 c = omega (arith, c .before .before .before .before .pre .3 .room)
+mul-x : tie.Need-mul-x Inv-loop μ-loop
+mul-x c = omega (arith, c .before .before .before .before .before .pre .3 .room)
 
-slice-set-from-post : tie.Need-slice-set-from-post Inv-loop μ-loop
-slice-set-from-post c = omega (arith, as-long (c .before .before .before), c .before .before .before .before .pre .3 .room)
+slice-set-from-x : tie.Need-slice-set-from-x Inv-loop μ-loop
+slice-set-from-x c = omega (arith, as-long (c .before .before .before .before), c .before .before .before .before .before .pre .3 .room)
 
 add-p : tie.Need-add-p Inv-loop μ-loop
 add-p c = omega arith
@@ -79,13 +79,15 @@ loop-less c = omega arith
 loop-again : tie.Need-loop-again Inv-loop μ-loop
 unfolding gained
 loop-again c =
-    let d = c .before .before in
+    let y = c .before in
+    let d = y .before .before in
     let l = d .before in
     let s = l .before in
     let p = l .loop .p in
     let x = old-read d ∙ old l ∙ sym (getD-drop (s .args .at) (now (s .args .post)) p (pos 0)) in
-    let e = rw x at (c .score-at .ensures) in
-    (omega arith, from-on (gained (drop (s .args .at) (now (s .args .post))) (s .args .k) (toZ w64 (ofZ w64 (s .args .total))) (now (s .args .gains))) (s .args .at) p (now (s .args .post)) (l .loop .post) _ (l .loop .inv .1) (read-back w64 (c .score-at .result) (c .score-at .ok) ∙ e))
+    let e = rw x at (y .score-at .ensures) in
+    let r : toZ w64 (ofZ w64 (y .score-at .result .0)) ≡ y .score-at .result .0 = search needs in
+    (omega arith, from-on (gained (drop (s .args .at) (now (s .args .post))) (s .args .k) (s .args .total .0) (now (s .args .gains))) (s .args .at) p (now (s .args .post)) (l .loop .post) _ (l .loop .inv .1) (r ∙ e))
 
 same-length : tie.Need-same-length Inv-loop μ-loop
 same-length c = as-long (c .before)
@@ -95,7 +97,7 @@ returns c =
     let l = c .before in
     let s = l .before in
     let e : l .loop .p ≡ 9 = omega arith in
-    rw (e, toZ-ofZ (s .fits .total)) at (l .loop .inv .1)
+    rw e at (l .loop .inv .1)
 
 pub write-scores-spec : {M : Type 1} → statement M
 write-scores-spec =
@@ -104,13 +106,13 @@ write-scores-spec =
     Inv-loop
     μ-loop
     loop-holds
-    add-score-at
-    mul-score-at
-    slice-copy-out-score-at
+    add-t10
+    mul-t11
+    slice-copy-out-t13
     score-at-requires
-    add-t13
-    mul-t14
-    slice-set-from-post
+    add-x
+    mul-x
+    slice-set-from-x
     add-p
     loop-less
     loop-again

@@ -6,11 +6,12 @@ use native.Mathlib.Omega.{arith}
 use lib.IntN.{ℤ, natAbs, _+ℤ_}
 use mir.Syntax.{w64}
 use mir.Val.{toZ, ofZ}
-use Rattle.steps.specs.Logs.{addExp}
+use Rattle.steps.specs.Inner.Logs.{logOf, size}
 use Rattle.steps.proofs.AddExp.{add-size}
-use Rattle.steps.proofs.Signed.{add-abs, plus-fits, plus-read, read-back}
+use Rattle.steps.proofs.Marks.{size-small, add-is}
+use Rattle.steps.proofs.Signed.{add-abs, plus-fits, plus-read}
 use Rattle.genotype_probs.specs.Priors.{lnHalf}
-use Rattle.no_haplotypes.specs.NoHaplotypes.{mixed}
+use Rattle.steps.specs.Logs.{mixOf}
 use borrow.Author.Needs.{needs}
 use Rattle.no_haplotypes.proofs.tally.mix.Statement.{statement}
 use Rattle.no_haplotypes.proofs.tally.mix.Tie as tie
@@ -28,41 +29,58 @@ less z h l e = plus-read w64 z h (less-fits z h l e) ∙ ap (λ (x : ℤ). z +�
 less-small : (z : ℤ) → natAbs z ≤ 262144 → natAbs (z +ℤ lnHalf) ≤ 266240
 less-small z h = omega (arith, add-abs z lnHalf)
 
-add-add-exp : tie.Need-add-add-exp
-add-add-exp c = plus-fits w64 (c .before .args .qual) (c .ln-half .result) (less-fits (c .before .args .qual) (c .ln-half .result) (c .before .pre .1) (c .ln-half .ensures))
+add-t7 : tie.Need-add-t7
+add-t7 c =
+    let d = c .before .before .before .before in
+    let s = d .before in
+    plus-fits w64 (s .args .qual .0) (d .ln-half .result .0) (less-fits (s .args .qual .0) (d .ln-half .result .0) (s .pre .1) (d .ln-half .ensures))
 
 ln-half-requires-2 : tie.Need-ln-half-requires-2
 ln-half-requires-2 c κs = search needs
 
-add-add-exp-2 : tie.Need-add-add-exp-2
-add-add-exp-2 c = plus-fits w64 (c .before .before .args .one-minus-qual) (c .ln-half2 .result) (less-fits (c .before .before .args .one-minus-qual) (c .ln-half2 .result) (c .before .before .pre .2) (c .ln-half2 .ensures))
+-- the place after the first half, and the entry, from the place after the second
+abbrev first : tie.After-ln-half2 → tie.After-ln-half
+first d = d .before .before .before .before .before
 
-add-exp-requires : tie.Need-add-exp-requires
-add-exp-requires c κs =
-    let s = c .before .before in
-    let q = less-small (s .args .qual) (s .pre .1) in
-    let o = less-small (s .args .one-minus-qual) (s .pre .2) in
-    rw (less (s .args .qual) (c .before .ln-half .result) (s .pre .1) (c .before .ln-half .ensures), less (s .args .one-minus-qual) (c .ln-half2 .result) (s .pre .2) (c .ln-half2 .ensures))
-    (s .pre .0, omega arith, omega arith)
+abbrev st : tie.After-ln-half2 → tie.Start
+st d = first d .before
+
+add-t7-2 : tie.Need-add-t7-2
+add-t7-2 c =
+    let d = c .before .before .before .before in
+    let s = st d in
+    plus-fits w64 (s .args .one-minus-qual .0) (d .ln-half2 .result .0) (less-fits (s .args .one-minus-qual .0) (d .ln-half2 .result .0) (s .pre .2) (d .ln-half2 .ensures))
+
+-- both numbers that are mixed
+qual-less : (d : tie.After-ln-half2) → toZ w64 (ofZ w64 (toZ w64 (ofZ w64 (st d .args .qual .0)) +ℤ toZ w64 (ofZ w64 (first d .ln-half .result .0)))) ≡ st d .args .qual .0 +ℤ lnHalf
+qual-less d = less (st d .args .qual .0) (first d .ln-half .result .0) (st d .pre .1) (first d .ln-half .ensures)
+
+other-less : (d : tie.After-ln-half2) → toZ w64 (ofZ w64 (toZ w64 (ofZ w64 (st d .args .one-minus-qual .0)) +ℤ toZ w64 (ofZ w64 (d .ln-half2 .result .0)))) ≡ st d .args .one-minus-qual .0 +ℤ lnHalf
+other-less d = less (st d .args .one-minus-qual .0) (d .ln-half2 .result .0) (st d .pre .2) (d .ln-half2 .ensures)
+
+less-size : (z : ℤ) → natAbs z ≤ 262144 → size (logOf (z +ℤ lnHalf)) ≤ 2 ^ 61
+less-size z h = let l = less-small z h in omega (arith, size-small (z +ℤ lnHalf) (omega arith))
+
+ln-add-exp-requires : tie.Need-ln-add-exp-requires
+ln-add-exp-requires c κs =
+    let d = c .before .before .before .before in
+    let s = st d in
+    rw (qual-less d, other-less d) (s .pre .0, less-size (s .args .qual .0) (s .pre .1), less-size (s .args .one-minus-qual .0) (s .pre .2))
 
 returns : tie.Need-returns
-unfolding mixed
+unfolding mixOf
 returns c =
-    let d = c .before in
-    let s = d .before .before in
-    let q = s .args .qual in
-    let o = s .args .one-minus-qual in
-    let e : c .add-exp .result ≡ addExp (q +ℤ lnHalf) (o +ℤ lnHalf) = rw (less q (d .before .ln-half .result) (s .pre .1) (d .before .ln-half .ensures), less o (d .ln-half2 .result) (s .pre .2) (d .ln-half2 .ensures)) at (c .add-exp .ensures) in
-    let r = read-back w64 (c .add-exp .result) (c .add-exp .ok) ∙ e in
-    (r, omega (arith, ap natAbs r, add-size (q +ℤ lnHalf) (o +ℤ lnHalf) 266240 (less-small q (s .pre .1)) (less-small o (s .pre .2))))
+    let d = c .before .before .before .before .before in
+    let s = st d in
+    let q = s .args .qual .0 in
+    let o = s .args .one-minus-qual .0 in
+    let hq = less-small q (s .pre .1) in
+    let ho = less-small o (s .pre .2) in
+    let e = rw (qual-less d, other-less d) at (c .ln-add-exp .ensures) in
+    let r = add-is (q +ℤ lnHalf) (o +ℤ lnHalf) (c .ln-add-exp .result .0) (omega arith) (omega arith) e in
+    (r, omega (arith, ap natAbs r, add-size (q +ℤ lnHalf) (o +ℤ lnHalf) 266240 hq ho))
 
 pub mix-spec : {M : Type 1} → statement M
 mix-spec =
     tie.close
-    (tie.spec
-    ln-half-requires
-    add-add-exp
-    ln-half-requires-2
-    add-add-exp-2
-    add-exp-requires
-    returns)
+    (tie.spec ln-half-requires add-t7 ln-half-requires-2 add-t7-2 ln-add-exp-requires returns)

@@ -21,11 +21,11 @@ qual-read c = toZ-pos w64 (omega (arith, c .pre .0))
 small : (c : tie.Start) → natAbs (pos (c .args .gap) -ℤ pos (262144 + c .args .qual)) < 2 ^ 63
 small c = omega (arith, minus-abs (pos (c .args .gap)) (pos (262144 + c .args .qual)), c .pre .0, c .pre .1)
 
-sub-result : tie.Need-sub-result
-sub-result c = rw (gap-read c, qual-read c) (sfits w64 _ (small c))
+sub-t6 : tie.Need-sub-t6
+sub-t6 c = rw (gap-read c, qual-read c) (sfits w64 _ (small c))
 
 returns : tie.Need-returns
 returns c = rw (gap-read c, qual-read c) (read-small w64 _ (small c))
 
 pub above-spec : {M : Type 1} → statement M
-above-spec = tie.close (tie.spec (λ c. search needs) (λ c. search needs) (λ c. search needs) sub-result returns)
+above-spec = tie.close (tie.spec (λ c. search needs) (λ c. search needs) (λ c. search needs) sub-t6 returns)

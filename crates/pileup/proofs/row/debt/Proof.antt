@@ -3,25 +3,31 @@
 use mathlib.Core.Path.{_≡_, refl}
 use Prim.Native.Nat.{_≤_}
 use native.Mathlib.Omega.{arith}
-use lib.IntN.{pos, _-ℤ_}
+use lib.IntN.{ℤ, pos, _-ℤ_}
 use mir.Syntax.{w64}
 use mir.Val.{toZ, ofZ}
-use mir.Facts.{toZ-ofZ, toZ-pos}
-use Rattle.variants_and_fragments.specs.Words.{debtOf}
+use mir.Facts.{toZ-pos}
+use borrow.Author.Needs.{needs}
+use Rattle.variants_and_fragments.specs.Inner.Words.{debtOf}
 use Rattle.pileup.proofs.Packing.{down-debt, minus-down}
 use Rattle.pileup.proofs.row.debt.Statement.{statement}
 use Rattle.pileup.proofs.row.debt.Tie as tie
 
-low : (c : tie.Start) → debtOf (c .args .qual) ≤ 262144
-low c = down-debt (c .args .qual) (c .pre)
+abbrev qual : tie.After-struct-told → ℤ
+qual c = c .before .before .args .qual .0
 
-minus : (c : tie.Start) → pos 0 -ℤ toZ w64 (ofZ w64 (c .args .qual)) ≡ pos (debtOf (c .args .qual))
-minus c = rw (toZ-ofZ (c .fits .qual)) (minus-down (c .args .qual) (c .pre))
+low : (c : tie.After-struct-told) → debtOf (qual c) ≤ 262144
+low c = down-debt (qual c) (c .before .before .pre)
+
+minus : (c : tie.After-struct-told) → pos 0 -ℤ toZ w64 (ofZ w64 (qual c)) ≡ pos (debtOf (qual c))
+minus c =
+    let e : toZ w64 (ofZ w64 (qual c)) ≡ qual c = search needs in
+    rw e (minus-down (qual c) (c .before .before .pre))
 
 sub-result : tie.Need-sub-result
 sub-result c = rw (minus c) (record { sfits = omega (arith, low c) })
 
-back : (c : tie.Start) → toZ w64 (ofZ w64 (pos 0 -ℤ toZ w64 (ofZ w64 (c .args .qual)))) ≡ pos (debtOf (c .args .qual))
+back : (c : tie.After-struct-told) → toZ w64 (ofZ w64 (pos 0 -ℤ toZ w64 (ofZ w64 (qual c)))) ≡ pos (debtOf (qual c))
 back c = rw (minus c) (toZ-pos w64 (omega (arith, low c)))
 
 cast-result : tie.Need-cast-result

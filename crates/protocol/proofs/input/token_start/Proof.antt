@@ -1,4 +1,5 @@
 -- `input::token_start` is safe and ends. The measure is how far the step is from the end of what may be read. Assumes nothing.
+use mathlib.Core.Path.{_≡_}
 use borrow.Author.Needs.{needs}
 use Rattle.protocol.specs.Inner.Input.{ahead}
 use Rattle.protocol.proofs.Reading.{step-falls}
@@ -6,7 +7,7 @@ use Rattle.protocol.proofs.input.token_start.Statement.{statement}
 use Rattle.protocol.proofs.input.token_start.Tie as tie
 
 abbrev Inv-loop : tie.InvT-loop
-Inv-loop input₀ step₀ comment₀ input step comment = Unit {0}
+Inv-loop input₀ step₀ comment₀ input step comment = step .reader .token ≡ step₀ .reader .token
 
 abbrev μ-loop : tie.MeasureT-loop
 μ-loop input₀ step₀ comment₀ input step comment = ahead step
@@ -16,7 +17,7 @@ turn c = c .before .before .before .before .before .before
 
 loop-less : tie.Need-loop-less Inv-loop μ-loop
 loop-less c =
-    step-falls (turn c .before .loop .step) (ahead (c .next2 .result)) (turn c .loop-test .taken) (c .next2 .ensures)
+    step-falls (turn c .before .loop .step) (ahead (c .next2 .result)) (turn c .loop-test .taken) (c .next2 .ensures .falls)
 
 pub token-start-spec : {M : Type 1} → statement M
 token-start-spec =

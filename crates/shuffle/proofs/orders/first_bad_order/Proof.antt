@@ -11,7 +11,7 @@ use borrow.Author.Tests.{not-true, not-false}
 use Rattle.variants_and_fragments.proofs.First.{first-at, first-end}
 use Rattle.shuffle.specs.Permutation.{permutes}
 use Rattle.shuffle.specs.Orders.{orderAt}
-use Rattle.shuffle.specs.Answers.{firstBadOrder}
+use Rattle.shuffle.specs.Inner.Answers.{firstBadOrder}
 use Rattle.shuffle.proofs.Slices.{order-end, part-length, part-order}
 use Rattle.shuffle.proofs.orders.first_bad_order.Statement.{statement}
 use Rattle.shuffle.proofs.orders.first_bad_order.Tie as tie

@@ -1,4 +1,4 @@
--- `orders::order_count` meets its contract, one law a return. Assumes nothing.
+-- `orders::order_count` meets its contract, one law per return. Assumes nothing.
 use borrow.Author.Needs.{needs}
 use Rattle.shuffle.proofs.Slices.{count-empty, count-spare, count-whole, count-odd}
 use Rattle.shuffle.proofs.orders.order_count.Statement.{statement}

@@ -12,6 +12,7 @@ use borrow.Author.Count.{below-none, below-more}
 use borrow.Author.Tests.{eq-eqb, ne-eqb}
 use Rattle.variants_and_fragments.proofs.First.{first-at, first-end}
 use lib.Dec.{eqb}
+use Rattle.variants_and_fragments.specs.First.{holdsBelow}
 use Rattle.variants_and_fragments.specs.Alleles.{allelesLength, allelesStart, allelesOk}
 use Rattle.variants_and_fragments.proofs.AlleleBytes.{off-on, off-le}
 use Rattle.variants_and_fragments.proofs.alleles.first_bad_alleles.Statement.{statement}
@@ -43,7 +44,7 @@ span c =
     omega (arith, st (lp c) .pre .1 .1, off-on (W c) v, off-le (W c) (v + 1) (st (lp c) .args .s .n) (omega arith))
 
 found : (c : tie.After-first-bad-base Inv-loop μ-loop) → allelesOk (W (c .before)) (B (c .before)) (lp (c .before) .loop .v) ≡ eqb (c .first-bad-base .result) (c .before .alleles-length .result)
-unfolding allelesOk
+unfolding allelesOk holdsBelow
 found c = cc
 
 loop-holds : tie.Need-loop-holds Inv-loop μ-loop

@@ -1,8 +1,6 @@
 -- `calls::call_ok` meets its contract: past the test of the variant, each test of the code is one of the definition's.
 -- Assumes nothing.
-use borrow.Author.Tests.{lt-ltb, le-ltb}
-use mathlib.Core.Path.{sym}
-use Rattle.variants_and_fragments.specs.Layout.{callOk}
+use Rattle.variants_and_fragments.proofs.Records.{call-tests, call-off}
 use borrow.Author.Needs.{needs}
 use Rattle.variants_and_fragments.proofs.calls.call_ok.Statement.{statement}
 use Rattle.variants_and_fragments.proofs.calls.call_ok.Tie as tie
@@ -11,8 +9,7 @@ call-variant-requires : tie.Need-call-variant-requires
 call-variant-requires c κs = search needs
 
 returns : tie.Need-returns
-unfolding callOk
-returns c = simp (sym (c .before .call-variant .ensures), le-ltb _ _ (c .if1 .taken))
+returns c = call-off _ _ _ (c .before .before .pre .0) (rw (c .before .call-variant .ensures) at (c .if1 .taken))
 
 allele-count-requires : tie.Need-allele-count-requires
 allele-count-requires c κs = search needs
@@ -27,12 +24,12 @@ one-minus-qual-ok-requires : tie.Need-one-minus-qual-ok-requires
 one-minus-qual-ok-requires c κs = search needs
 
 returns-2 : tie.Need-returns-2
-unfolding callOk
 returns-2 c =
     let count = c .before .before .before in
     let kept = count .before in
     let v = kept .before .call-variant .ensures in
-    simp (sym v, lt-ltb _ _ (kept .if1 .left), sym (count .allele-count .ensures), sym (c .before .before .called-allele .ensures), sym (c .before .qual-ok .ensures), sym (c .one-minus-qual-ok .ensures))
+    let st = kept .before .before in
+    rw (call-tests _ _ _ (st .pre .0) (st .pre .1 .0) (rw v at (kept .if1 .left)), ← v, ← count .allele-count .ensures, ← c .before .before .called-allele .ensures, ← c .before .qual-ok .ensures, ← c .one-minus-qual-ok .ensures)
 
 pub call-ok-spec : {M : Type 1} → statement M
 call-ok-spec =

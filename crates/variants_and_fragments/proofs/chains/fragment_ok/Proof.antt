@@ -17,13 +17,13 @@ strand-of-requires : tie.Need-strand-of-requires
 strand-of-requires c κs = search needs
 
 returns : tie.Need-returns
-returns c = record { ok = frag-strand _ _ _ _ (rw (c .before .strand-of .ensures) at (c .if1 .taken)); marked = λ z. true-false z refl }
+returns c = record { ok = frag-strand _ _ _ (rw (c .before .strand-of .ensures) at (c .if1 .taken)); marked = λ z. true-false z refl }
 
 first-word-requires : tie.Need-first-word-requires
 first-word-requires c κs = search needs
 
 returns-2 : tie.Need-returns-2
-returns-2 c = record { ok = frag-first _ _ _ _ (strand-in (c .before .before)) (rw (c .before .first-word .ensures) at (c .if2 .taken)); marked = λ z. true-false z refl }
+returns-2 c = record { ok = frag-first _ _ _ (c .before .before .before .before .before .pre .0 .c-top) (strand-in (c .before .before)) (rw (c .before .first-word .ensures) at (c .if2 .taken)); marked = λ z. true-false z refl }
 
 walk-chain-requires : tie.Need-walk-chain-requires
 walk-chain-requires c κs = search needs
@@ -36,7 +36,7 @@ returns-3 c =
     let walked = c .before .before in
     let kept = walked .before .before in
     let read = kept .before in
-    record { ok = walked .walk-chain .ensures .ok ∙ frag-in _ _ _ _ (strand-in (read .before)) (rw (read .first-word .ensures) at (kept .if2 .left)); marked = walked .walk-chain .ensures .marked }
+    record { ok = walked .walk-chain .ensures .ok ∙ frag-in _ _ _ (read .before .before .before .before .pre .0 .c-top) (strand-in (read .before)) (rw (read .first-word .ensures) at (kept .if2 .left)); marked = walked .walk-chain .ensures .marked }
 
 pub fragment-ok-spec : {M : Type 1} → statement M
 fragment-ok-spec =

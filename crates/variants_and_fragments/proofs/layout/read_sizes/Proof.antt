@@ -1,6 +1,9 @@
 -- `layout::read_sizes` meets its contract: four words are there.
 -- Assumes nothing.
 use borrow.Author.Needs.{needs}
+use mir.Syntax.{w32}
+use mir.Val.{SFits}
+use mir.Facts.{toZ-ofZ}
 use Rattle.variants_and_fragments.proofs.layout.read_sizes.Statement.{statement}
 use Rattle.variants_and_fragments.proofs.layout.read_sizes.Tie as tie
 
@@ -13,12 +16,15 @@ nat-at-requires-2 c κs = search needs
 nat-at-requires-3 : tie.Need-nat-at-requires-3
 nat-at-requires-3 c κs = search needs
 
-debt-at-requires : tie.Need-debt-at-requires
-debt-at-requires c κs = search needs
+word-at-requires : tie.Need-word-at-requires
+word-at-requires c κs = search needs
 
 returns : tie.Need-returns
-returns c = cc
+returns c =
+    let f : SFits w32 (c .word-at .result) = search needs in
+    let n = c .before .before .before in
+    rw (n .nat-at .ensures, c .before .before .nat-at2 .ensures, c .before .nat-at3 .ensures, toZ-ofZ f, c .word-at .ensures)
 
 pub read-sizes-spec : {M : Type 1} → statement M
 read-sizes-spec =
-    tie.close (tie.spec nat-at-requires nat-at-requires-2 nat-at-requires-3 debt-at-requires returns)
+    tie.close (tie.spec nat-at-requires nat-at-requires-2 nat-at-requires-3 word-at-requires returns)

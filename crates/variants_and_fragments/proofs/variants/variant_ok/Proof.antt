@@ -1,21 +1,21 @@
 -- `variants::variant_ok` meets its contract: each test of the code is one of the definition's.
 -- Assumes nothing.
-use Rattle.variants_and_fragments.specs.Layout.{variantOk}
+use Rattle.variants_and_fragments.proofs.Records.{variant-tests}
 use borrow.Author.Needs.{needs}
+use mir.Syntax.{w32}
+use mir.Val.{SFits}
+use mir.Facts.{toZ-ofZ}
 use Rattle.variants_and_fragments.proofs.variants.variant_ok.Statement.{statement}
 use Rattle.variants_and_fragments.proofs.variants.variant_ok.Tie as tie
 
-pos0-ok-requires : tie.Need-pos0-ok-requires
-pos0-ok-requires c κs = search needs
-
-pos0-at-requires : tie.Need-pos0-at-requires
-pos0-at-requires c κs = search needs
+pos0-word-requires : tie.Need-pos0-word-requires
+pos0-word-requires c κs = search needs
 
 prior-pos0-requires : tie.Need-prior-pos0-requires
 prior-pos0-requires c κs = search needs
 
-depth-ok-requires : tie.Need-depth-ok-requires
-depth-ok-requires c κs = search needs
+depth-word-requires : tie.Need-depth-word-requires
+depth-word-requires c κs = search needs
 
 genotype-of-requires : tie.Need-genotype-of-requires
 genotype-of-requires c κs = search needs
@@ -45,7 +45,6 @@ length-ok-requires-3 : tie.Need-length-ok-requires-3
 length-ok-requires-3 c κs = search needs
 
 returns : tie.Need-returns
-unfolding variantOk
 returns c =
     let l2 = c .before .before in
     let l1 = l2 .before .before in
@@ -55,11 +54,17 @@ returns c =
     let dp = a .before in
     let q = dp .before in
     let p = q .before in
+    let fp : SFits w32 (p .pos0-word .result) = search needs in
+    let fq : SFits w32 (q .prior-pos0 .result) = search needs in
+    let fd : SFits w32 (dp .depth-word .result) = search needs in
     rw (
-      p .before .pos0-ok .ensures,
-      p .pos0-at .ensures,
+      variant-tests,
+      toZ-ofZ fp,
+      toZ-ofZ fq,
+      toZ-ofZ fd,
+      p .pos0-word .ensures,
       q .prior-pos0 .ensures,
-      dp .depth-ok .ensures,
+      dp .depth-word .ensures,
       a .genotype-of .ensures,
       b .genotype-of2 .ensures,
       l1 .length-ok .ensures,
@@ -75,10 +80,9 @@ pub variant-ok-spec : {M : Type 1} → statement M
 variant-ok-spec =
     tie.close
     (tie.spec
-    pos0-ok-requires
-    pos0-at-requires
+    pos0-word-requires
     prior-pos0-requires
-    depth-ok-requires
+    depth-word-requires
     genotype-of-requires
     genotype-of-requires-2
     allele-count-requires

@@ -2,17 +2,13 @@
 -- answers.
 -- Assumes nothing.
 use borrow.Author.Needs.{needs}
-use mathlib.Core.Path.{_≡_, sym, ap, _∙_, subst}
-use mathlib.Core.List.{List}
-use Prim.Native.Nat.{ℕ, _*_, _-_, _≤_}
+use mathlib.Core.Path.{_≡_, sym, ap, _∙_}
+use Prim.Native.Nat.{ℕ, _*_, _-_}
 use native.Mathlib.Omega.{arith}
 use denote.Ref.{now}
-use lib.ListN.{length, take}
+use lib.ListN.{length}
 use Rattle.variants_and_fragments.specs.Inner.Accepted.{CaseIn}
 use Rattle.variants_and_fragments.proofs.Written.{written-length}
-use Rattle.call_genotypes.specs.Inner.Scores.{sweepState}
-use Rattle.with_haplotypes.specs.Round.{runInput, roundInput, runOf}
-use Rattle.with_haplotypes.specs.Inner.Steps.{RunGiven, RunMade}
 use Rattle.with_haplotypes.proofs.RunLaws.{known}
 use Rattle.with_haplotypes.proofs.StartLaws.{as-long, still-long, over, start-here, flags-here, given-here, run-here}
 use Rattle.with_haplotypes.proofs.FinishLaws as finish

@@ -1,8 +1,7 @@
 -- `checks::check_limits` meets its contract: each way out is one law of CheckLaws.
 -- Assumes nothing.
-use mathlib.Core.Path.{_≡_}
 use native.Mathlib.Omega.{arith}
-use Rattle.with_haplotypes.specs.Inner.Steps.{checkedAs}
+use Rattle.with_haplotypes.specs.Inner.Checks.{checkedAs}
 use Rattle.with_haplotypes.proofs.CheckLaws.{limit-low, limit-high, slice-short, limits-good}
 use Rattle.with_haplotypes.proofs.checks.check_limits.Statement.{statement}
 use Rattle.with_haplotypes.proofs.checks.check_limits.Tie as tie

@@ -2,14 +2,13 @@
 -- Assumes nothing.
 use mathlib.Core.Path.{_≡_, sym, ap, _∙_}
 use Prim.Native.Nat.{_<_}
-use native.Mathlib.Omega.{arith}
 use borrow.Author.Needs.{needs}
 use denote.Ref.{now}
-use Rattle.genotype_probs.specs.Rates.{ratesFault}
-use Rattle.haplotype_assembly.specs.GivenPhase.{phaseFault}
+use Rattle.genotype_probs.specs.Inner.Rates.{ratesFault}
+use Rattle.haplotype_assembly.specs.Inner.GivenPhase.{phaseFault}
 use Rattle.shuffle.specs.Inner.Answers.{checkedAs as ordersAs}
 use Rattle.genotype_probs.proofs.AcceptedPriors.{rates-good}
-use Rattle.with_haplotypes.specs.Inner.Steps.{checkedAs}
+use Rattle.with_haplotypes.specs.Inner.Checks.{checkedAs}
 use Rattle.with_haplotypes.proofs.CheckLaws.{rates-refused, phase-refused, orders-refused, orders-passed}
 use Rattle.with_haplotypes.proofs.checks.round_checks.Statement.{statement}
 use Rattle.with_haplotypes.proofs.checks.round_checks.Tie as tie

@@ -1,8 +1,8 @@
 -- `checks::round_short` meets its contract: the parts of the definition, one after the other.
 -- Assumes nothing.
-use mathlib.Core.Path.{_≡_, sym, ap, _∙_}
+use mathlib.Core.Path.{_∙_}
 use borrow.Author.Needs.{needs}
-use Rattle.with_haplotypes.specs.Promise.{roundShort}
+use Rattle.variants_and_fragments.proofs.Short.{short-last, short-more}
 use Rattle.with_haplotypes.proofs.checks.round_short.Statement.{statement}
 use Rattle.with_haplotypes.proofs.checks.round_short.Tie as tie
 
@@ -43,9 +43,17 @@ earlier-requires-4 : tie.Need-earlier-requires-4
 earlier-requires-4 c κs = search needs
 
 returns : tie.Need-returns
-unfolding roundShort
 returns c =
-    rw (c .earlier4 .ensures, c .before .short-of5 .ensures, c .before .before .earlier3 .ensures, c .before .before .before .short-of4 .ensures, c .before .before .before .before .earlier2 .ensures, c .before .before .before .before .before .short-of3 .ensures, c .before .before .before .before .before .before .earlier .ensures, c .before .before .before .before .before .before .before .short-of2 .ensures, c .before .before .before .before .before .before .before .before .short-of .ensures)
+    let e3 = c .before .before in
+    let e2 = e3 .before .before in
+    let e1 = e2 .before .before in
+    c .earlier4 .ensures
+    ∙ short-more _ _ _ _ _ (c .before .short-of5 .ensures)
+    (e3 .earlier3 .ensures
+    ∙ short-more _ _ _ _ _ (e3 .before .short-of4 .ensures)
+    (e2 .earlier2 .ensures
+    ∙ short-more _ _ _ _ _ (e2 .before .short-of3 .ensures)
+    (e1 .earlier .ensures ∙ short-more _ _ _ _ _ (e1 .before .before .short-of .ensures) (short-last _ _ _ (e1 .before .short-of2 .ensures)))))
 
 pub round-short-spec : {M : Type 1} → statement M
 round-short-spec =

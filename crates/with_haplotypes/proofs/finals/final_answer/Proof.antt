@@ -14,8 +14,7 @@ use Rattle.steps.specs.Logs.{Log, steps}
 use Rattle.steps.specs.Inner.Logs.{logOf, size}
 use Rattle.steps.specs.Phred.{phredOf, capped}
 use Rattle.steps.proofs.Marks.{of-small, size-steps}
-use Rattle.steps.proofs.Signed.{read-back, read-small}
-use Rattle.genotype_probs.specs.Posteriors.{maxGenotype}
+use Rattle.steps.proofs.Signed.{read-small}
 use Rattle.genotype_probs.proofs.Maxima.{genotype-maximum}
 use Rattle.genotype_probs.proofs.TableSums.{place-in, pair-in}
 use Rattle.with_haplotypes.specs.Finals.{finalOf}
@@ -81,8 +80,7 @@ capped-phred-requires c κs =
 
 capped-phred-requires-2 : tie.Need-capped-phred-requires-2
 capped-phred-requires-2 c κs =
-    let o = c .before .before in
-    rw (read-back w64 (o .other-sum .result) (o .other-sum .ok)) (omega (arith, o .other-sum .ensures .1))
+    let o = c .before .before in omega (arith, o .other-sum .ensures .1)
 
 returns : tie.Need-returns
 unfolding finalOf
@@ -97,7 +95,7 @@ returns c =
     let z : s .args .at + 0 ≡ s .args .at = omega arith in
     let d : getD tab 0 (pos 0) ≡ first s = getD-drop (s .args .at) (now (s .args .post)) 0 (pos 0) ∙ ap (λ (i : ℕ). getD (now (s .args .post)) i (pos 0)) z in
     let qual : q .capped-phred .result .0 ≡ capped (phredOf (steps (getD tab 0 (pos 0)))) = q .capped-phred .ensures ∙ ap (λ (x : Log). capped (phredOf x)) (ap logOf (first-read s) ∙ of-small (first s) (omega arith) ∙ ap steps (sym d)) in
-    let gq : c .capped-phred2 .result .0 ≡ capped (phredOf (otherSum tab (s .args .k) p)) = c .capped-phred2 .ensures ∙ ap (λ (x : Log). capped (phredOf x)) (ap logOf (read-back w64 (o .other-sum .result) (o .other-sum .ok)) ∙ o .other-sum .ensures .0) in
+    let gq : c .capped-phred2 .result .0 ≡ capped (phredOf (otherSum tab (s .args .k) p)) = c .capped-phred2 .ensures ∙ ap (λ (x : Log). capped (phredOf x)) (o .other-sum .ensures .0) in
     rw (qual, gq, g .max-genotype .ensures)
 
 pub final-answer-spec : {M : Type 1} → statement M

@@ -1,10 +1,9 @@
 -- `finals::write_finals` meets its contract. The loop's invariant: the qualities of the variants before v are written.
 -- Assumes nothing.
-use mathlib.Core.Path.{_≡_, refl, sym, ap, _∙_}
-use Prim.Native.Nat.{ℕ, _+_, _*_, _-_, _≤_, _<_}
+use mathlib.Core.Path.{_≡_, refl, ap, _∙_}
+use Prim.Native.Nat.{_*_, _-_, _≤_}
 use native.Mathlib.Omega.{arith}
 use denote.Ref.{now}
-use lib.Ieee.{Float}
 use lib.ListN.{length, drop}
 use Rattle.variants_and_fragments.specs.Written.{written}
 use Rattle.variants_and_fragments.proofs.Written.{written-on, written-length}
@@ -75,8 +74,8 @@ loop-again c =
     let e : c .final-answer .result ≡ finalAt w post v = c .final-answer .ensures ∙ ap (finalOf (drop (9 * v) post)) (c .before .allele-count .ensures) in (
       omega (arith, c .before .before .loop-test .taken),
       record {
-        quals-are = written-on (λ v. finalAt w post v .qual) v (now (s .args .quals)) (l .loop .quals) _ (l .loop .inv .1 .quals-are) (ap (λ (r : FinalAnswer). r .qual) e);
-        gqs-are = written-on (λ v. finalAt w post v .gq) v (now (s .args .gqs)) (l .loop .gqs) _ (l .loop .inv .1 .gqs-are) (ap (λ (r : FinalAnswer). r .gq) e);
+        quals-are = written-on (λ v. finalAt w post v .qual .0) v (now (s .args .quals)) (l .loop .quals) _ (l .loop .inv .1 .quals-are) (ap (λ (r : FinalAnswer). r .qual .0) e);
+        gqs-are = written-on (λ v. finalAt w post v .gq .0) v (now (s .args .gqs)) (l .loop .gqs) _ (l .loop .inv .1 .gqs-are) (ap (λ (r : FinalAnswer). r .gq .0) e);
       },
     )
 

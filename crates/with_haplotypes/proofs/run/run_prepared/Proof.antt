@@ -4,8 +4,6 @@
 use borrow.Author.Needs.{needs}
 use mathlib.Core.Path.{refl, _∙_}
 use native.Mathlib.Omega.{arith}
-use mir.Syntax.{w64}
-use Rattle.steps.proofs.Signed.{read-back}
 use Rattle.with_haplotypes.proofs.RunLaws.{known, all-ones, calls-asked, liks-here, begins, standing-asks, total-asks, phased-total, source-total, left-good, run-made}
 use Rattle.with_haplotypes.proofs.run.run_prepared.Statement.{statement}
 use Rattle.with_haplotypes.proofs.run.run_prepared.Tie as tie
@@ -91,9 +89,9 @@ returns c p =
     let g = left-good (p .given) (p .prepared) r in
     let k = known (p .given .given) in
     run-made (p .given) (p .prepared) r _ refl refl
-    (read-back w64 _ (b .standing-total .ok) ∙ b .standing-total .ensures ∙ phased-total (p .given) (p .prepared) (p .given .good-start) (begun .standing .liks))
-    (read-back w64 _ (e .standing-total2 .ok) ∙ e .standing-total2 .ensures ∙ phased-total (p .given) (p .prepared) g (r .liks))
-    (read-back w64 _ (c .total .ok) ∙ c .total .ensures .0 ∙ source-total (p .given) (p .prepared) _ g (omega (arith, k .sized .n-top, o .ones .ensures .0)) (λ v h. all-ones _ (o .ones .ensures .1) v (omega (arith, k .sized .n-top, o .ones .ensures .0))))
+    (b .standing-total .ensures ∙ phased-total (p .given) (p .prepared) (p .given .good-start) (begun .standing .liks))
+    (e .standing-total2 .ensures ∙ phased-total (p .given) (p .prepared) g (r .liks))
+    (c .total .ensures .0 ∙ source-total (p .given) (p .prepared) _ g (omega (arith, k .sized .n-top, o .ones .ensures .0)) (λ v h. all-ones _ (o .ones .ensures .1) v (omega (arith, k .sized .n-top, o .ones .ensures .0))))
 
 pub run-prepared-spec : {M : Type 1} → statement M
 run-prepared-spec =
