@@ -118,6 +118,6 @@ def ask(command, requests):
         for request in requests[len(answers):]:
             answers.append("".join(lines[start:start + request.lines()]))
             start += request.lines()
-            if start > len(lines) or answers[-1] == "unreadable\n":
+            if start > len(lines) or answers[-1].startswith("unreadable"):
                 break
     return answers

@@ -93,7 +93,8 @@ def words_text(case, words):
     def record(kind):
         return plain_text(next(at) for _ in range(kind.words))
 
-    lines = ["# the words: how many; then the head: variants, fragments, calls, cutoff (Phred 7: less is unused)",
+    lines = ["# the words: how many; then the head: variants, fragments, calls, cutoff",
+             "# (the cutoff is an error probability of 0.2, Phred 6.99; a call is used if its qual is below it)",
              "%d  %s" % (len(words), record(HEAD)),
              "# each variant: pos0, depth, genotype (2), alleles, their lengths (3)"]
     for row in ROWS:
@@ -116,7 +117,7 @@ def text(case, asked):
     lines += words_text(case, asked.words)
     lines += ["# the alleles' bases (A 65, C 67, G 71, T 84)", "%d  %s" % (len(asked.bases), plain_text(asked.bases)),
               "# rates in steps: hom_snv 0.0005, het_snv 0.001, hom_indel 0.00005, het_indel 0.0001; ts 1/2, tv 1/4",
-              plain_text(rates), "# the given phase: a byte a variant ('0' 48, '1' 49, '-' 45), then its set or -1",
+              plain_text(rates), "# the given phase: a byte per variant ('0' 48, '1' 49, '-' 45), then its set or -1",
               "%d  %s" % (n, plain_text(phase)), "%d  %s" % (n, plain_text(sets)),
               "# the orders of the sweeps: three, as the request `orders` gives them for seed 0", str(len(orders))]
     lines += [plain_text(orders[i:i + n]) for i in range(0, len(orders), n)]

@@ -1,5 +1,6 @@
-// The program's arrays. Each has exactly the largest need of an operation and SPARE more, so that a slice one too
-// long can be shown, except orders: they have no largest need, and get 65,536 entries, 64 orders at N = 1,024. The
+// The program's arrays. Each has the largest need of an operation and SPARE more, so that a slice one too long can be shown, but for
+// two: orders have no largest need, and get 65,536 entries, 64 orders at N = 1,024; fragment lines get 10 bytes per fragment and 8 per
+// call, and lines of ten blocks or more can need up to 239 bytes more than that (docs/FORMAT.md, "The program's arrays"). The
 // arrays that an operation writes are filled: bytes 170, integers 77, f64 77.0.
 use variants_and_fragments::layout::CALL_WORDS;
 use variants_and_fragments::layout::FRAGMENT_WORDS;

@@ -23,7 +23,7 @@ use Rattle.pileup.specs.Inner.Packed.{RowIn, Grouped}
 use Rattle.haplotype_assembly.specs.declared.tally.Counted.{Counted}
 use Rattle.haplotype_assembly.specs.Phase.{phasedRule}
 use Rattle.haplotype_assembly.specs.Lines.{lineCalls, lineOf, hasLine, linesFrom, lineCount, flistBuffer, flistLines}
-use Rattle.haplotype_assembly.specs.FlistBuffer.{Amount, amountOf, flistBufferWritten}
+use Rattle.haplotype_assembly.specs.FlistBuffer.{Amount, amountOf, generateFlistBufferWritten}
 use Rattle.haplotype_assembly.specs.Inner.LinesRead.{shownCalls, shownFragment, shownFragments, LinesGiven, LinesCounted, headerOf, lineWith, headAt, fragmentLine, hasOne, linesOver, linesCount}
 use Rattle.haplotype_assembly.proofs.Cited.{fragment-here, sizes-are, group-rows, group-in}
 use Rattle.haplotype_assembly.proofs.Decodes.{accepted-in, count-is, rule-is}
@@ -117,8 +117,8 @@ module _ (w : List ℤ) (b : List ℕ) (s : Sizes) (h : checkCaseOutcome w b ≡
     pub amount-is : (c : Counted) → LinesCounted (s .n) single (shownFragments w s rows ends) c → _≡_ {A = Amount} (record { bytes = c .bytes; lines = c .lines }) (amountOf case single)
     amount-is c counted = rw (bytes-are c counted, counted .lines-are ∙ lines-are single)
 
-    pub buffer-written : (before : List ℕ) → length (flistBuffer case single) ≤ length before → sets before 0 (linesOver (s .n) single 0 (shownFragments w s rows ends)) ≡ flistBufferWritten case single before
-    unfolding flistBufferWritten
+    pub buffer-written : (before : List ℕ) → length (flistBuffer case single) ≤ length before → sets before 0 (linesOver (s .n) single 0 (shownFragments w s rows ends)) ≡ generateFlistBufferWritten case single before
+    unfolding generateFlistBufferWritten
     buffer-written before h =
         let bytes = flistBuffer case single in
         let e : 0 + length bytes ≡ length bytes = omega arith in

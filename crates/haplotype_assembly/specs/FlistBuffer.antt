@@ -22,8 +22,8 @@ abbrev pub amountOf : Case → Bool → Amount
 amountOf case single = record { bytes = length (flistBuffer case single); lines = flistLines case single }
 
 -- 1 to 5, and 10: the bytes of all lines
-unfoldable pub flistBufferOutcome : List ℤ → List ℕ → Bool → List ℕ → Outcome Amount
-flistBufferOutcome w b single before =
+unfoldable pub generateFlistBufferOutcome : List ℤ → List ℕ → Bool → List ℕ → Outcome Amount
+generateFlistBufferOutcome w b single before =
     andThen (checkCaseOutcome w b) (λ s.
     longEnough ((length (flistBuffer (decode w b) single), length before) ∷ [])
     (done (amountOf (decode w b) single)))
@@ -34,11 +34,11 @@ outcomeOf (Done bytes lines) = done (record { bytes = bytes; lines = lines })
 outcomeOf (Refused x) = refusal x
 
 -- section 7: the lines from the start of the buffer on; past them it is as before
-unfoldable pub flistBufferWritten : Case → Bool → List ℕ → List ℕ
-flistBufferWritten case single before =
+unfoldable pub generateFlistBufferWritten : Case → Bool → List ℕ → List ℕ
+generateFlistBufferWritten case single before =
     let lines = flistBuffer case single in
     lines ++ drop (length lines) before
 
 abbrev pub FlistBuffer : List ℤ → List ℕ → Bool → List ℕ → Outcome Amount → List ℕ → Type 0
 FlistBuffer w b single before answer after =
-    Promise (flistBufferOutcome w b single before) (flistBufferWritten (decode w b) single before) before answer after
+    Promise (generateFlistBufferOutcome w b single before) (generateFlistBufferWritten (decode w b) single before) before answer after

@@ -22,7 +22,7 @@ use Rattle.genotype_probs.specs.Posteriors.{normalized}
 use Rattle.genotype_probs.specs.Normalized.{isNormal}
 use Rattle.genotype_probs.proofs.AlleleLaws.{nine}
 use Rattle.genotype_probs.proofs.NormalizedLaws.{all-normal}
-use Rattle.no_haplotypes.specs.NoHaplotypes.{scoreAt, posteriors, CallSlices, callSlices, noHaplotypesOutcome, noHaplotypesWritten}
+use Rattle.no_haplotypes.specs.NoHaplotypes.{scoreAt, posteriors, CallSlices, callSlices, callGenotypesNoHaplotypesOutcome, callGenotypesNoHaplotypesWritten}
 use Rattle.no_haplotypes.specs.Inner.Calling.{AcceptedCalled}
 
 -- the slices, each with what it needs
@@ -45,12 +45,12 @@ module _ (w : List ℤ) (b : List ℕ) (rates : Rates) (before : CallSlices) (s 
       (omega (arith, nine (counted v) (omega (arith, allele-count-is case-of b v h, case-of .variants .each v h .k-high)))))
 
   -- past the case
-  pub past-case : each 6 (rateTest rates) 0 7 (longEnough (needs-of s before) (done tt)) ≡ noHaplotypesOutcome w b rates before
-  unfolding noHaplotypesOutcome
+  pub past-case : each 6 (rateTest rates) 0 7 (longEnough (needs-of s before) (done tt)) ≡ callGenotypesNoHaplotypesOutcome w b rates before
+  unfolding callGenotypesNoHaplotypesOutcome
   past-case = ap (λ (o : Outcome Unit). each 6 (rateTest rates) 0 7 (longEnough (needs-of s before) o)) normal-line ∙ then-on _ _ s accepted
 
 -- what an accepted case leaves
 pub all-called : (w : List ℤ) (b : List ℕ) (rates : Rates) (s : Sizes) → CaseIn w s → {variants variants' : List ℤ} {quals gqs quals' gqs' : List Float} → AcceptedCalled w b rates (s .n) variants quals gqs variants' quals' gqs'
-    → callSlices variants' quals' gqs' ≡ noHaplotypesWritten rates (decode w b) (callSlices variants quals gqs)
-unfolding noHaplotypesWritten
+    → callSlices variants' quals' gqs' ≡ callGenotypesNoHaplotypesWritten rates (decode w b) (callSlices variants quals gqs)
+unfolding callGenotypesNoHaplotypesWritten
 all-called w b rates s k c = rw (variants-are k b) (cc (c .variants-are, c .quals-are, c .gqs-are))

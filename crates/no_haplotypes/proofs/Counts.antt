@@ -20,7 +20,7 @@ use Rattle.variants_and_fragments.proofs.Outcomes.{then-past, each-past, enough
 use Rattle.variants_and_fragments.proofs.Short.{short-fits}
 use Rattle.variants_and_fragments.proofs.Written.{written-at}
 use Rattle.genotype_probs.specs.declared.Rates.{Rates}
-use Rattle.no_haplotypes.specs.NoHaplotypes.{alleleCalls, strandCalls, callsAt, answerFrom, countWord, forwardWord, reverseWord, ambiguousWord, CountsAddUp, variantAnswer, answerAt, CallSlices, noHaplotypesOutcome, noHaplotypesWritten, CalledNoHaplotypes}
+use Rattle.no_haplotypes.specs.NoHaplotypes.{alleleCalls, strandCalls, callsAt, answerFrom, countWord, forwardWord, reverseWord, ambiguousWord, CountsAddUp, variantAnswer, answerAt, CallSlices, callGenotypesNoHaplotypesOutcome, callGenotypesNoHaplotypesWritten, CalledNoHaplotypes}
 use Rattle.no_haplotypes.proofs.CountLaws.{forward-reverse, two-strands, counts-ambiguous, absent-none}
 
 -- ---- the words of a variant, whatever its posteriors
@@ -80,8 +80,8 @@ record Room (w : List ℤ) (b : List ℕ) (variants : List ℤ) : Type 0 where
   accepted : checkCaseOutcome w b ≡ done sizes
   long : 13 * sizes .n ≤ length variants
 
-called-room : (w : List ℤ) (b : List ℕ) (rates : Rates) (before : CallSlices) → noHaplotypesOutcome w b rates before ≡ done tt → Room w b (before .variants)
-unfolding noHaplotypesOutcome
+called-room : (w : List ℤ) (b : List ℕ) (rates : Rates) (before : CallSlices) → callGenotypesNoHaplotypesOutcome w b rates before ≡ done tt → Room w b (before .variants)
+unfolding callGenotypesNoHaplotypesOutcome
 called-room w b rates before e =
     let c = then-past (checkCaseOutcome w b) _ tt e in
     let x = each-past 6 _ 0 7 _ tt (c .1 .1) in
@@ -90,7 +90,7 @@ called-room w b rates before e =
 
 module _ (w : List ℤ) (b : List ℕ) (rates : Rates) (before after : CallSlices) (called : CalledNoHaplotypes w b rates before (done tt) after) where
   written-word : Room w b (before .variants) → (v : ℕ) → v < length (decode w b .variants) → (p : ℕ) → p < 13 → getD (after .variants) (13 * v + p) (pos 0) ≡ variantAnswer rates (decode w b) v p
-  unfolding afterwards noHaplotypesWritten answerAt
+  unfolding afterwards callGenotypesNoHaplotypesWritten answerAt
   written-word room v h p l =
       let n = variants-are (case-in w b (room .sizes) (room .accepted)) b in
       let e : after .variants ≡ written (answerAt rates (decode w b)) (13 * length (decode w b .variants)) (before .variants) = ap (λ (x : CallSlices). x .variants) (called .slices) in

@@ -140,20 +140,20 @@ abbrev pub callSlices : List ℤ → List Float → List Float → CallSlices
 callSlices variants quals gqs = record { variants = variants; quals = quals; gqs = gqs }
 
 -- 1 to 5, the case; 6, the rates; 10, 13 N words and N of each quality; 12, the posteriors
-unfoldable pub noHaplotypesOutcome : List ℤ → List ℕ → Rates → CallSlices → Outcome Unit
-noHaplotypesOutcome w b rates before =
+unfoldable pub callGenotypesNoHaplotypesOutcome : List ℤ → List ℕ → Rates → CallSlices → Outcome Unit
+callGenotypesNoHaplotypesOutcome w b rates before =
     andThen (checkCaseOutcome w b) (λ s.
     each 6 (rateTest rates) 0 7
     (longEnough ((13 * (s .n), length (before .variants)) ∷ (s .n, length (before .quals)) ∷ (s .n, length (before .gqs)) ∷ [])
     (each 12 (isNormal (posteriors rates (decode w b)) (λ v. alleleCount (variantOf (decode w b) v))) 0 (s .n)
     (done tt))))
 
-unfoldable pub noHaplotypesWritten : Rates → Case → CallSlices → CallSlices
-noHaplotypesWritten rates case before =
+unfoldable pub callGenotypesNoHaplotypesWritten : Rates → Case → CallSlices → CallSlices
+callGenotypesNoHaplotypesWritten rates case before =
     let n = length (case .variants) in
     callSlices (written (answerAt rates case) (13 * n) (before .variants)) (written (qualAt rates case) n (before .quals)) (written (gqAt rates case) n (before .gqs))
 
 -- the promise, of the slices lent
 abbrev pub CalledNoHaplotypes : List ℤ → List ℕ → Rates → CallSlices → Outcome Unit → CallSlices → Type 0
 CalledNoHaplotypes w b rates before answer after =
-    Promise (noHaplotypesOutcome w b rates before) (noHaplotypesWritten rates (decode w b) before) before answer after
+    Promise (callGenotypesNoHaplotypesOutcome w b rates before) (callGenotypesNoHaplotypesWritten rates (decode w b) before) before answer after

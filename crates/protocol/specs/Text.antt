@@ -1,4 +1,4 @@
--- The request stream, "Form": which bytes part tokens, and which integer a token stands for. Assumes nothing.
+-- The request stream (docs/FORMAT.md, "Tokens"): which bytes part tokens, and which integer a token stands for. Assumes nothing.
 use mathlib.Core.Bool.{Bool, true, false, cond, _&&_, _||_}
 use mathlib.Core.List.{List, [], _∷_}
 use Prim.Native.Nat.{ℕ, _+_, _-_, _*_, _^_}

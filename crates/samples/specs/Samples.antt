@@ -24,7 +24,7 @@ use Rattle.genotype_probs.specs.Priors.{allPriors}
 use Rattle.haplotype_assembly.specs.Phase.{phase0, phase1}
 use Rattle.with_haplotypes.specs.declared.RoundAnswer.{RoundAnswer}
 use Rattle.with_haplotypes.specs.Round.{RoundInput, roundInput, runOf, result, returned}
-use Rattle.with_haplotypes.specs.Promise.{RoundSlices, roundNeeds, maxLimit, withHaplotypesOutcome}
+use Rattle.with_haplotypes.specs.Promise.{RoundSlices, roundNeeds, maxLimit, callGenotypesWithHaplotypesOutcome}
 
 -- −n
 abbrev pub neg : ℕ → ℤ
@@ -92,7 +92,7 @@ pub record SampleRound (sample : Case) (phase order given left : List ℕ) (answ
   pub returns : returned (runOf (roundOn sample phase order)) ≡ answer
   -- nothing is refused, whatever slices are lent that are long enough
   pub outcome : (slices : RoundSlices) → smallestShort (roundNeeds (length (sample .variants)) (length (sample .fragments)) slices) ≡ 0
-      → withHaplotypesOutcome (roundOn sample phase order) (setsOf phase) slices ≡ done answer
+      → callGenotypesWithHaplotypesOutcome (roundOn sample phase order) (setsOf phase) slices ≡ done answer
 
 pub record Samples : Type 0 where
   -- (a) T[0] 4096, (b) T[128] 2396, (c) T[256] 1318, (d) T[1664] 0

@@ -40,7 +40,7 @@ use Rattle.with_haplotypes.specs.declared.RoundAnswer.{RoundAnswer}
 use Rattle.with_haplotypes.specs.declared.RoundSizes.{RoundSizes}
 use Rattle.with_haplotypes.specs.declared.Round.the-variants.{Done, Refused}
 use Rattle.with_haplotypes.specs.Round.{RoundInput, caseOfRound, runOf, sweepCase, orderOfSweep, result, returned, posteriors, latestScore, final}
-use Rattle.with_haplotypes.specs.Promise.{RoundSlices, roundSlices, roundNeeds, maxLimit, withHaplotypesOutcome, withHaplotypesWritten, outcomeOf, ToldTotals, pairOn, CalledWithHaplotypes}
+use Rattle.with_haplotypes.specs.Promise.{RoundSlices, roundSlices, roundNeeds, maxLimit, callGenotypesWithHaplotypesOutcome, callGenotypesWithHaplotypesWritten, outcomeOf, ToldTotals, pairOn, CalledWithHaplotypes}
 use Rattle.with_haplotypes.specs.Inner.Checks.{limitChecks, roundChecks}
 use Rattle.with_haplotypes.proofs.CheckLaws.{checks-then}
 use Rattle.with_haplotypes.specs.Inner.Steps.{Admitted, RoundRoom, RoundMade}
@@ -127,11 +127,11 @@ module _ (input : RoundInput) (sets : List ℤ) (before : RoundSlices) where
   lastLine s = each 12 (isNormal (posteriors (runOf input)) (λ v. alleleCount (variantOf (caseOfRound input) v))) 0 (s .n) (done (returned (runOf input)))
 
   -- past the case, the checks and that
-  past-case : (s : Sizes) → checkCaseOutcome (input .words) (input .bases) ≡ done s → andThen (checksOf s) (λ m. lastLine s) ≡ withHaplotypesOutcome input sets before
-  unfolding withHaplotypesOutcome
+  past-case : (s : Sizes) → checkCaseOutcome (input .words) (input .bases) ≡ done s → andThen (checksOf s) (λ m. lastLine s) ≡ callGenotypesWithHaplotypesOutcome input sets before
+  unfolding callGenotypesWithHaplotypesOutcome
   past-case s e = checks-then (s .n) (input .rates) (input .phase) sets (input .orders) (input .limit) (roundNeeds (s .n) (s .f) before) (lastLine s) ∙ then-on _ _ s e
 
-  turned-down : (x : Refusal) → refusal x ≡ withHaplotypesOutcome input sets before → CalledWithHaplotypes input sets before (outcomeOf (Refused x)) before
+  turned-down : (x : Refusal) → refusal x ≡ callGenotypesWithHaplotypesOutcome input sets before → CalledWithHaplotypes input sets before (outcomeOf (Refused x)) before
   unfolding outcomeOf
   turned-down x e = record {
     promise = promise-refused x e;
@@ -142,7 +142,7 @@ module _ (input : RoundInput) (sets : List ℤ) (before : RoundSlices) where
 
   -- 1 to 5
   pub answer-case : (x : Refusal) → check.outcomeOf (NotAccepted x) ≡ checkCaseOutcome (input .words) (input .bases) → CalledWithHaplotypes input sets before (outcomeOf (Refused x)) before
-  unfolding withHaplotypesOutcome
+  unfolding callGenotypesWithHaplotypesOutcome
   answer-case x e = turned-down x (case-stops _ _ _ x e)
 
   -- 6 to 10
@@ -165,7 +165,7 @@ module _ (input : RoundInput) (sets : List ℤ) (before : RoundSlices) where
         (λ v h. g .variants-in v (omega arith) .some-allele)
         (λ v h p l. tabulate-at 9 (normalized (tabulate (count v * count v) (latestScore (runOf input) v)) (count v)) p (pos 0) (omega (arith, nine (count v) (g .variants-in v (omega arith) .three-alleles))))
 
-    pub outcome-done : done (returned (runOf input)) ≡ withHaplotypesOutcome input sets before
+    pub outcome-done : done (returned (runOf input)) ≡ callGenotypesWithHaplotypesOutcome input sets before
     outcome-done = normal-line ∙ then-on (checksOf s) (λ k. lastLine s) m q ∙ past-case s e
 
     -- what is told of the run
@@ -218,7 +218,7 @@ module _ (input : RoundInput) (sets : List ℤ) (before : RoundSlices) where
           (ok last) (omega arith) (g .variants-in v (omega arith) .some-allele) (g .variants-in v (omega arith) .three-alleles)
 
     pub answer-done : (r : RoundAnswer) (after : RoundSlices) → RoundMade (runOf input) s before r after → CalledWithHaplotypes input sets before (outcomeOf (Done r)) after
-    unfolding outcomeOf withHaplotypesWritten
+    unfolding outcomeOf callGenotypesWithHaplotypesWritten
     answer-done r after M =
         let A = admits s m e q .0 in
         let n = variants-are (known (A .given)) (input .bases) in

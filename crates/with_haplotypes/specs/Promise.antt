@@ -54,8 +54,8 @@ maxLimit = 1000000
 
 -- 1 to 5, the case; 6, the rates; 7, the phase bytes and sets; 8, the orders; 9, the limit in 1..1000000; 10, the slices; 12, the
 -- posteriors
-unfoldable pub withHaplotypesOutcome : RoundInput → List ℤ → RoundSlices → Outcome RoundAnswer
-withHaplotypesOutcome input sets slices =
+unfoldable pub callGenotypesWithHaplotypesOutcome : RoundInput → List ℤ → RoundSlices → Outcome RoundAnswer
+callGenotypesWithHaplotypesOutcome input sets slices =
     andThen (checkCaseOutcome (input .words) (input .bases)) (λ s.
     each 6 (rateTest (input .rates)) 0 7
     (phaseTests (s .n) (input .phase) sets
@@ -66,8 +66,8 @@ withHaplotypesOutcome input sets slices =
     (done (returned (runOf input)))))))))
 
 -- sections 6 and 7: what the round leaves
-unfoldable pub withHaplotypesWritten : RoundInput → RoundSlices → RoundSlices
-withHaplotypesWritten input before =
+unfoldable pub callGenotypesWithHaplotypesWritten : RoundInput → RoundSlices → RoundSlices
+callGenotypesWithHaplotypesWritten input before =
     let n = length (caseOfRound input .variants) in
     roundSlices
     (written (haplotypeAt (runOf input)) (2 * n) (before .haplotypes))
@@ -97,7 +97,7 @@ pairOn h v = record { 0 = allele0 h v; 1 = allele1 h v }
 -- The promise: the answer and the slices lent, and where it is done, demand 3 of what is returned and written, and that the final answers
 -- are of the pairs written, whether the run settled or not
 pub record CalledWithHaplotypes (input : RoundInput) (sets : List ℤ) (before : RoundSlices) (answer : Outcome RoundAnswer) (after : RoundSlices) : Type 0 where
-  pub promise : Promise (withHaplotypesOutcome input sets before) (withHaplotypesWritten input before) before answer after
+  pub promise : Promise (callGenotypesWithHaplotypesOutcome input sets before) (callGenotypesWithHaplotypesWritten input before) before answer after
   pub demand3 : (x : RoundAnswer) → answer ≡ done x
       → Demand3 (sweepCase (runOf input)) (orderOfSweep (runOf input)) (input .limit) (runOf input .start) (record { sweeps = x .sweeps; settled = x .settled; haps = take (2 * length (caseOfRound input .variants)) (after .haplotypes) })
   pub totals : (x : RoundAnswer) → answer ≡ done x → ToldTotals (sweepCase (runOf input)) (runOf input .start) (take (2 * length (caseOfRound input .variants)) (after .haplotypes)) x

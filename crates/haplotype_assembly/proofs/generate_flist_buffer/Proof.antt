@@ -20,7 +20,7 @@ use Rattle.variants_and_fragments.specs.Refusals.{refused, done, longEnough}
 use Rattle.variants_and_fragments.proofs.Outcomes.{enough-on, enough-at, case-stops, case-past, is-done, promise-refused, promise-done}
 use Rattle.pileup.specs.Inner.Packed.{Grouped}
 use Rattle.haplotype_assembly.specs.Lines.{flistBuffer}
-use Rattle.haplotype_assembly.specs.FlistBuffer.{Amount, amountOf, flistBufferOutcome, outcomeOf}
+use Rattle.haplotype_assembly.specs.FlistBuffer.{Amount, amountOf, generateFlistBufferOutcome, outcomeOf}
 use Rattle.haplotype_assembly.specs.Inner.LinesRead.{LinesGiven}
 use Rattle.haplotype_assembly.proofs.Decodes.{accepted-in}
 use Rattle.haplotype_assembly.proofs.LinesDecoded.{given, bytes-are, amount-is, buffer-written}
@@ -54,8 +54,8 @@ amount c = amountOf (decode (now (c .args .words)) (now (c .args .bases))) (c .a
 abbrev slices : tie.Start → List (ℕ × ℕ)
 slices c = (length (lines c), length (now (c .args .buffer))) ∷ []
 
-past-case : (c : tie.After-checked2) → longEnough (slices (st c)) (done (amount (st c))) ≡ flistBufferOutcome (now (st c .args .words)) (now (st c .args .bases)) (st c .args .single-reads) (now (st c .args .buffer))
-unfolding flistBufferOutcome
+past-case : (c : tie.After-checked2) → longEnough (slices (st c)) (done (amount (st c))) ≡ generateFlistBufferOutcome (now (st c .args .words)) (now (st c .args .bases)) (st c .args .single-reads) (now (st c .args .buffer))
+unfolding generateFlistBufferOutcome
 past-case c = case-past _ _ _ _ (checked c)
 
 -- ---- its rows
@@ -143,7 +143,7 @@ write-lines-requires c κs = let n = counted c in
     (lines-given (made (n .before)), omega (arith, n .count-lines .ensures .bytes-are, c .before .before .before .if1 .left))
 
 returns-2 : tie.Need-returns-2
-unfolding outcomeOf flistBufferOutcome
+unfolding outcomeOf generateFlistBufferOutcome
 returns-2 c = promise-refused (c .before .checked .given .0 .0) (case-stops _ _ _ _ (ap check.outcomeOf (sym (c .before .checked .given .1)) ∙ c .before .before .before .check-case .ensures))
 
 same-length : tie.Need-same-length

@@ -13,7 +13,7 @@ use Rattle.variants_and_fragments.proofs.Short.{short-last, short-more, short-f
 use Rattle.genotype_probs.specs.Inner.Rates.{ratesFault}
 use Rattle.genotype_probs.proofs.AcceptedPriors.{rates-good}
 use Rattle.genotype_probs.proofs.RateLaws.{rates-on, rates-at}
-use Rattle.no_haplotypes.specs.NoHaplotypes.{CallSlices, callSlices, noHaplotypesOutcome}
+use Rattle.no_haplotypes.specs.NoHaplotypes.{CallSlices, callSlices, callGenotypesNoHaplotypesOutcome}
 use Rattle.no_haplotypes.proofs.Calling.{few-calls}
 use Rattle.no_haplotypes.proofs.CallRefusals.{needs-of, past-case, all-called}
 use Rattle.no_haplotypes.proofs.call_genotypes_no_haplotypes.Statement.{
@@ -48,7 +48,7 @@ accepted p = sym (case-of p .before .before .check-case .ensures) ∙ ap outcome
 good : (c : tie.Else1) → ratesFault (start (c .before) .args .rates) ≡ 7
 good c = rates-good _ (c .before .rates-fault .result) (c .before .rates-fault .ensures) (c .if1 .left)
 
-past-rates : (c : tie.Else1) → longEnough (needs-of (S (c .before)) (before (c .before))) (done tt) ≡ noHaplotypesOutcome (now (start (c .before) .args .words)) (now (start (c .before) .args .bases)) (start (c .before) .args .rates) (before (c .before))
+past-rates : (c : tie.Else1) → longEnough (needs-of (S (c .before)) (before (c .before))) (done tt) ≡ callGenotypesNoHaplotypesOutcome (now (start (c .before) .args .words)) (now (start (c .before) .args .bases)) (start (c .before) .args .rates) (before (c .before))
 past-rates c = rates-on _ _ (good c) ∙ past-case _ _ _ _ _ (accepted (c .before))
 
 short : (c : tie.After-earlier2) → c .earlier2 .result ≡ smallestShort (needs-of (S (faultless c .before)) (before (faultless c .before)))
@@ -120,7 +120,7 @@ call-accepted-requires c κs =
     ((p .before .before .table .ensures, case-in _ _ _ a, few-calls _ _ _ a, bases-in _ _ _ a, good f), (v .0, q .0, short-fits _ _ _ (q .1) .0))
 
 returns-3 : tie.Need-returns-3
-unfolding noHaplotypesOutcome
+unfolding callGenotypesNoHaplotypesOutcome
 returns-3 c = let d = c .before in refuses _ (case-stops _ _ _ _ (ap outcomeOf (sym (d .checked .given .1)) ∙ d .before .before .check-case .ensures))
 
 same-length : tie.Need-same-length
