@@ -1,5 +1,5 @@
 #!/usr/bin/env python3
-"""Write crates/steps/src/lines.rt: the straight lines of ln(1 + exp(d)), as crates/steps/specs/Lines.antt defines them.
+"""Write crates/steps/src/lines.rt: the straight lines of ln(1 + exp(d)), as crates/steps/specs/Inner/Lines.antt defines them.
 
 Run as python3 tools/lines.py at the repository's root; tools/knots.py stands beside it.
 """
@@ -9,7 +9,7 @@ from knots import table
 # From here on the knots are 0.
 FLAT = 1604
 
-CODE = """// The lines of specs/Lines.antt, base and slope of each: below zero, from zero on, far above, far below.
+CODE = """// The lines of specs/Inner/Lines.antt, base and slope of each: below zero, from zero on, far above, far below.
 pub const LINES: [u32; %d] = [
 %s];
 """

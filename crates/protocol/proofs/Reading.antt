@@ -11,7 +11,7 @@ use Rattle.protocol.specs.declared.input.Reader.{Reader}
 use Rattle.protocol.specs.declared.input.Reason.{Reason}
 use Rattle.protocol.specs.declared.input.Step.{Step}
 
-pub step-falls : (s : Step) (n : ℕ) → s .more ≡ true → n ≤ s .reader .left → n < ahead s
+pub step-falls : (s : Step) (n : ℕ) → s .more ≡ true → n ≤ s .cursor .left → n < ahead s
 step-falls s n h l = simp h (omega arith)
 
 -- The number of a token: counted by a reader that did not fail, kept by one that failed, and by the failure itself.
@@ -28,7 +28,7 @@ module _ (r : Reader) where
   unfolding failed
   failed-token reason = by-ok (r .ok)
     where
-      by-ok : (b : Bool) → cond b (record { at = r .at; fill = r .fill; left = r .left; line = r .line; feed = r .feed; token = r .token; ok = false; reason = reason }) r .token ≡ r .token
+      by-ok : (b : Bool) → cond b (record { cursor = r .cursor; line = r .line; below = r .below; token = r .token; ok = false; reason = reason }) r .token ≡ r .token
       by-ok true = refl
       by-ok false = refl
 

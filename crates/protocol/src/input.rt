@@ -1,7 +1,7 @@
 // Standard input through a buffer, token by token.
 ghost use Prim.Native.Nat.{_≤_};
 ghost use mathlib.Core.Path.{_≡_};
-ghost use Rattle.protocol.specs.Inner.Input.{Counts, Next, failed, nextLine, nextToken};
+ghost use Rattle.protocol.specs.Inner.Input.{Counts, afterToken, ahead, failed, lineAfter, nextToken};
 ghost use Rattle.protocol.specs.Word.{pushedWord};
 use crate::BUFFER_BYTES;
 use crate::Buffer;
@@ -25,36 +25,44 @@ pub enum Reason {
     End,
 }
 
-// Where the reading stands: the next byte and the end of the bytes in the buffer, how many bytes may
-// still be read, the line of the byte read last and whether it is a line feed, the number in its
-// request of the token read last, whether all that was read so far could be read, and if not, why.
-pub struct Reader {
+// Where the reading stands in the input: the next byte and the end of the bytes in the buffer, and how
+// many bytes may still be read.
+pub struct Cursor {
     pub at: usize,
     pub fill: usize,
     pub left: u64,
-    pub line: u64,
-    pub feed: bool,
-    pub token: u64,
-    pub ok: bool,
-    pub reason: Reason,
 }
 
 // A byte of the input, or its end (`more` is false), and where the reading stands after it.
 pub struct Step {
     pub byte: u8,
     pub more: bool,
-    pub reader: Reader,
+    pub cursor: Cursor,
+}
+
+// Where the reading stands after a token: in the input, the token's line and that of the next byte, its
+// number in the request, whether all that was read so far could be read, and if not, why.
+pub struct Reader {
+    pub cursor: Cursor,
+    pub line: u64,
+    pub below: u64,
+    pub token: u64,
+    pub ok: bool,
+    pub reason: Reason,
 }
 
 impl Reader {
     // The start of the input. A proved loop has to end, so at most 2^64 − 1 bytes are read.
     pub fn new() -> Reader {
-        Reader {
+        let cursor = Cursor {
             at: 0,
             fill: 0,
             left: 18446744073709551615,
+        };
+        Reader {
+            cursor,
             line: 1,
-            feed: false,
+            below: 1,
             token: 0,
             ok: true,
             reason: Reason::End,
@@ -65,13 +73,12 @@ impl Reader {
     pub fn fail(self, reason: Reason) -> Reader
         ensures { λ r. ⌜ r ≡ failed self reason ⌝ }
     {
+        let cursor = self.cursor;
         if self.ok {
             return Reader {
-                at: self.at,
-                fill: self.fill,
-                left: self.left,
+                cursor,
                 line: self.line,
-                feed: self.feed,
+                below: self.below,
                 token: self.token,
                 ok: false,
                 reason,
@@ -80,77 +87,85 @@ impl Reader {
         self
     }
 
-    // The reader in front of the token of this number.
-    fn numbered(mut self, token: u64) -> Reader
-        ensures { λ r. ⌜ r .token ≡ token ⌝ }
+    // The reader after the token of this number and line, which the byte of the step ended.
+    fn passed(self, token: u64, line: u64, step: Step) -> Reader
+        ensures { λ r. ⌜ r ≡ afterToken self token line step ⌝ }
     {
-        self.token = token;
-        self
-    }
-
-    // The line of the next byte.
-    fn next_line(self) -> u64
-        ensures { λ r. ⌜ r ≡ nextLine self ⌝ }
-    {
-        if self.feed {
-            std::num::wrapping_add_u64(self.line, 1)
-        } else {
-            self.line
+        let cursor = step.cursor;
+        let reason = self.reason;
+        let below = line_after(line, step.byte);
+        Reader {
+            cursor,
+            line,
+            below,
+            token,
+            ok: self.ok,
+            reason,
         }
     }
+}
 
-    // The step to the byte b, after which the next one is at `at` in a buffer filled up to `fill`.
-    fn step(mut self, at: usize, fill: usize, b: u8) -> Step
-        requires { ⌜ 1 ≤ self .left ⌝ }
-        ensures { λ r. ⌜ Next self r ⌝ }
-    {
-        let line = self.next_line();
-        self.line = line;
-        self.at = at;
-        self.fill = fill;
-        self.left -= 1;
-        self.feed = b == b'\n';
-        Step {
-            byte: b,
-            more: true,
-            reader: self,
-        }
+// The line of the byte after the byte b of this line.
+fn line_after(line: u64, b: u8) -> u64
+    ensures { λ r. ⌜ r ≡ lineAfter line b ⌝ }
+{
+    if b == b'\n' {
+        std::num::wrapping_add_u64(line, 1)
+    } else {
+        line
     }
+}
 
+impl Cursor {
     // The step at the end of the input.
-    fn end(mut self) -> Step
-        ensures { λ r. ⌜ Next self r ⌝ }
+    fn end(self) -> Step
+        ensures { λ r. ⌜ ahead r ≤ 0 ⌝ }
     {
-        let line = self.next_line();
-        self.line = line;
-        self.feed = false;
         Step {
             byte: 0,
             more: false,
-            reader: self,
+            cursor: self,
         }
     }
 }
 
 // The next byte of the input.
-fn next(input: &mut Buffer, reader: Reader) -> Step
-    ensures { λ r. ⌜ Next reader r ⌝ }
+fn next(input: &mut Buffer, cursor: Cursor) -> Step
+    ensures { λ r. ⌜ ahead r ≤ cursor .left ⌝ }
 {
-    let at = reader.at;
-    let fill = reader.fill;
-    if reader.left == 0 {
-        return reader.end();
+    let at = cursor.at;
+    let left = cursor.left;
+    if left == 0 {
+        return cursor.end();
     }
-    if at < fill {
+    if at < cursor.fill {
         if at < BUFFER_BYTES {
-            return reader.step(at + 1, fill, input[at]);
+            let after = Cursor {
+                at: at + 1,
+                fill: cursor.fill,
+                left: left - 1,
+            };
+            return Step {
+                byte: input[at],
+                more: true,
+                cursor: after,
+            };
         }
     }
-    let got = refill(input);
-    if got == 0 {
-        return reader.end();
+    let fill = refill(input);
+    if fill == 0 {
+        return cursor.end();
     }
-    reader.step(1, got, input[0])
+    let after = Cursor {
+        at: 1,
+        fill,
+        left: left - 1,
+    };
+    Step {
+        byte: input[0],
+        more: true,
+        cursor: after,
+    }
 }
 
 // Reads once into the buffer, and answers how many bytes came: 0 at the end of the input.
@@ -159,12 +174,17 @@ fn refill(input: &mut [u8]) -> usize {
     io::count(got, input)
 }
 
-// The first byte of the next token, or the end of the input: white space and comments are passed. In
-// the loop `comment` says whether the step stands in a comment.
-fn token_start(input: &mut Buffer, reader: Reader) -> Step
-    ensures { λ r. ⌜ r .reader .token ≡ reader .token ⌝ }
-{
-    let mut step = next(input, reader);
+// The step to the first byte of a token, or to the end of the input, and its line.
+pub struct Start {
+    pub step: Step,
+    pub line: u64,
+}
+
+// The start of the next token, from the line `from` on: white space and comments are passed. In the loop
+// `comment` says whether the step stands in a comment.
+fn token_start(input: &mut Buffer, cursor: Cursor, from: u64) -> Start {
+    let mut step = next(input, cursor);
+    let mut line = from;
     let mut comment = false;
     while step.more {
         let b = step.byte;
@@ -172,10 +192,11 @@ fn token_start(input: &mut Buffer, reader: Reader) -> Step
         if !(comment | is_space(b)) {
             break;
         }
-        let after = step.reader;
+        line = line_after(line, b);
+        let after = step.cursor;
         step = next(input, after);
     }
-    step
+    Start { step, line }
 }
 
 // A token that is to be a number, and the reader after it.
@@ -192,10 +213,12 @@ pub fn read_token(input: &mut Buffer, reader: Reader) -> Token
     if !reader.ok {
         return Token { number, reader };
     }
+    let cursor = reader.cursor;
+    let start = token_start(input, cursor, reader.below);
+    let mut step = start.step;
     let token = std::num::wrapping_add_u64(reader.token, 1);
-    let mut step = token_start(input, reader.numbered(token));
     if !step.more {
-        let end = step.reader;
+        let end = reader.passed(token, start.line, step);
         return Token {
             number,
             reader: end.fail(Reason::End),
@@ -207,13 +230,12 @@ pub fn read_token(input: &mut Buffer, reader: Reader) -> Token
             break;
         }
         number = number.push(b);
-        let after = step.reader;
+        let after = step.cursor;
         step = next(input, after);
     }
-    let after = step.reader;
     Token {
         number,
-        reader: after,
+        reader: reader.passed(token, start.line, step),
     }
 }
 
@@ -507,19 +529,20 @@ pub fn read_word(input: &mut Buffer, reader: Reader) -> WordPart
     ensures { λ r. ⌜ r .reader .token ≡ 1 ⌝ }
 {
     let mut word: u64 = 1;
-    let mut step = token_start(input, reader.numbered(1));
+    let cursor = reader.cursor;
+    let start = token_start(input, cursor, reader.below);
+    let mut step = start.step;
     while step.more {
         let b = step.byte;
         if is_space(b) {
             break;
         }
         word = push_word(word, b);
-        let after = step.reader;
+        let after = step.cursor;
         step = next(input, after);
     }
-    let after = step.reader;
     WordPart {
         word,
-        reader: after,
+        reader: reader.passed(1, start.line, step),
     }
 }

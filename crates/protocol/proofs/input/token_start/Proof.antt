@@ -1,5 +1,4 @@
 -- `input::token_start` is safe and ends. The measure is how far the step is from the end of what may be read. Assumes nothing.
-use mathlib.Core.Path.{_≡_}
 use borrow.Author.Needs.{needs}
 use Rattle.protocol.specs.Inner.Input.{ahead}
 use Rattle.protocol.proofs.Reading.{step-falls}
@@ -7,17 +6,17 @@ use Rattle.protocol.proofs.input.token_start.Statement.{statement}
 use Rattle.protocol.proofs.input.token_start.Tie as tie
 
 abbrev Inv-loop : tie.InvT-loop
-Inv-loop input₀ step₀ comment₀ input step comment = step .reader .token ≡ step₀ .reader .token
+Inv-loop input₀ from step₀ line₀ comment₀ input step line comment = Unit {0}
 
 abbrev μ-loop : tie.MeasureT-loop
-μ-loop input₀ step₀ comment₀ input step comment = ahead step
+μ-loop input₀ from step₀ line₀ comment₀ input step line comment = ahead step
 
 abbrev turn : tie.After-next2 Inv-loop μ-loop → tie.In-loop Inv-loop μ-loop
-turn c = c .before .before .before .before .before .before
+turn c = c .before .before .before .before .before .before .before
 
 loop-less : tie.Need-loop-less Inv-loop μ-loop
 loop-less c =
-    step-falls (turn c .before .loop .step) (ahead (c .next2 .result)) (turn c .loop-test .taken) (c .next2 .ensures .falls)
+    step-falls (turn c .before .loop .step) (ahead (c .next2 .result)) (turn c .loop-test .taken) (c .next2 .ensures)
 
 pub token-start-spec : {M : Type 1} → statement M
 token-start-spec =
@@ -27,6 +26,7 @@ token-start-spec =
     μ-loop
     (λ c κs. search needs)
     (λ c. search needs)
+    (λ c κs. search needs)
     (λ c κs. search needs)
     (λ c κs. search needs)
     (λ c κs. search needs)
