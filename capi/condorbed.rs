@@ -2,7 +2,7 @@
 //!
 //! The operations require nothing of their slices, and Rust's references have true lengths and do not overlap where
 //! they are `&mut`: so every call is safe. A call answers its result, or `Refused`, which leaves every slice as it was.
-//! It uses up to 1 MiB of stack. `condorbed.h` says how a case is laid out, and what is written.
+//! It uses up to 1 MiB of stack. docs/FORMAT.md says how a case is laid out, and what is written.
 
 use std::fmt;
 
