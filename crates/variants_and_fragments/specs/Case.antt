@@ -1,6 +1,6 @@
--- 01, section 2: a case, free of its layout. Sections 3 to 7 are definitions over this record.
+-- 01, section 2, as amended by request 1: a case, free of its layout. Sections 3 to 7 are definitions over this record.
 -- Assumes nothing.
-use mathlib.Core.Bool.{Bool}
+use mathlib.Core.Bool.{Bool, false}
 use mathlib.Core.List.{List, []}
 use Prim.Native.Nat.{ℕ}
 use lib.IntN.{ℤ}
@@ -23,8 +23,9 @@ pub record Call : Type 0 where
   pub qual : ℤ
   pub one-minus-qual : ℤ
 
--- a fragment: its strand (0 forward, 1 reverse) and its calls by rising variant
+-- a fragment: whether it is present, its strand (0 forward, 1 reverse) and its calls by rising variant; an absent one has no calls
 pub record Fragment : Type 0 where
+  pub present : Bool
   pub strand : ℕ
   pub calls : List Call
 
@@ -46,7 +47,7 @@ abbrev pub noVariant : Variant
 noVariant = record { pos0 = 0; dp = 0; genotype0 = 0; genotype1 = 0; alleles = [] }
 
 abbrev pub noFragment : Fragment
-noFragment = record { strand = 0; calls = [] }
+noFragment = record { present = false; strand = 0; calls = [] }
 
 abbrev pub variantOf : Case → ℕ → Variant
 variantOf case v = getD (case .variants) v noVariant

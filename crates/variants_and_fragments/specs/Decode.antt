@@ -1,4 +1,4 @@
--- 01, section 2: the case that accepted words and bases stand for.
+-- 01, section 2, as amended by request 1: the case that accepted words and bases stand for.
 -- Assumes nothing.
 use mathlib.Core.List.{List, [], _∷_, map}
 use Prim.Native.Nat.{ℕ, zero, suc, _+_}
@@ -7,7 +7,7 @@ use lib.ListN.{take, drop}
 use Rattle.variants_and_fragments.specs.declared.Sizes.{Sizes}
 use Rattle.variants_and_fragments.specs.Case.{Case, Variant, Fragment, Call}
 use Rattle.variants_and_fragments.specs.Layout.{sizesOf, pos0At, depthAt, genotypeAt, alleleCountAt, lengthAt, callVariantAt, calledAlleleAt, qualAt, oneMinusQualAt, cutoffAt}
-use Rattle.variants_and_fragments.specs.Chain.{strandAt, chainOf}
+use Rattle.variants_and_fragments.specs.Chain.{presentAt, strandAt, chainOf}
 use Rattle.variants_and_fragments.specs.Alleles.{allelesStart}
 
 -- g 0, .., g (n − 1), counted from i on
@@ -44,7 +44,7 @@ callFrom w s r = record {
 }
 
 unfoldable pub fragmentFrom : List ℤ → Sizes → ℕ → Fragment
-fragmentFrom w s f = record { strand = strandAt w s f; calls = map (callFrom w s) (chainOf w s f) }
+fragmentFrom w s f = record { present = presentAt w s f; strand = strandAt w s f; calls = map (callFrom w s) (chainOf w s f) }
 
 unfoldable pub decode : List ℤ → List ℕ → Case
 decode w b = let s = sizesOf w in record {

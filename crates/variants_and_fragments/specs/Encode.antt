@@ -1,12 +1,13 @@
--- 01, section 2: words and allele bytes made of a case, from which `decode` gives back every case of at most three alleles per variant
--- (`decode-encode` of proofs/Encoded.antt). Records are numbered fragment after fragment, and a fragment's chain goes through consecutive
+-- 01, section 2, as amended by request 1: words and allele bytes made of a case, from which `decode` gives back every case of at most three
+-- alleles per variant whose absent fragments have no calls (`decode-encode` of proofs/Encoded.antt). Every record is used. Records are numbered fragment after fragment, and a fragment's chain goes through consecutive
 -- records. Samples make their words here; that the check accepts them is shown of these samples, and not in general. Assumes nothing.
+use mathlib.Core.Bool.{cond}
 use mathlib.Core.List.{List, [], _∷_, _++_, map}
 use Prim.Native.Nat.{ℕ, suc, _+_}
-use lib.IntN.{ℤ, pos}
+use lib.IntN.{ℤ, pos, negsuc}
 use lib.ListN.{length, set, replicate}
 use Rattle.variants_and_fragments.specs.Case.{Case, Variant, Fragment, Call, alleleCount, callCount}
-use Rattle.variants_and_fragments.specs.Layout.{headWords, variantWords, fragmentWords, callWords, variantsField, fragmentsField, callsField, cutoffField, pos0Field, depthField, genotypeField, alleleCountField, lengthField, firstField, strandField, variantField, alleleField, qualField, oneMinusQualField, nextField}
+use Rattle.variants_and_fragments.specs.Layout.{headWords, variantWords, fragmentWords, callWords, variantsField, fragmentsField, callsField, cutoffField, usedField, pos0Field, depthField, genotypeField, alleleCountField, lengthField, firstField, strandField, variantField, alleleField, qualField, oneMinusQualField, nextField}
 
 -- a record of n words: each field at its place, and 0 in each word that none of them fills
 unfoldable pub laid : ℕ → List (ℕ × ℤ) → List ℤ
@@ -18,7 +19,7 @@ unfoldable pub joined : {X : Type 0} → List (List X) → List X
 joined [] = []
 joined (xs ∷ rest) = xs ++ joined rest
 
--- N, F, C, cutoff
+-- N, F, C, cutoff, used
 unfoldable pub headOf : Case → List ℤ
 unfolding laid
 headOf case =
@@ -27,6 +28,7 @@ headOf case =
     ∷ (fragmentsField, pos (length (case .fragments)))
     ∷ (callsField, pos (callCount case))
     ∷ (cutoffField, case .cutoff)
+    ∷ (usedField, pos (callCount case))
     ∷ [])
 
 -- the lengths of alleles, from place i on
@@ -51,12 +53,17 @@ unfoldable pub firstOf : ℕ → List Call → ℕ
 firstOf r [] = 0
 firstOf r (call ∷ calls) = r
 
+-- the first call of a fragment whose calls are numbered from r on; −1 where it is absent
+unfoldable pub firstWord : ℕ → Fragment → ℤ
+unfolding firstOf
+firstWord r fragment = cond (fragment .present) (pos (firstOf r (fragment .calls))) (negsuc 0)
+
 -- first call, strand; the fragments' calls are numbered from r on
 unfoldable pub fragmentRecords : ℕ → List Fragment → List ℤ
-unfolding laid firstOf
+unfolding laid firstWord
 fragmentRecords r [] = []
 fragmentRecords r (fragment ∷ rest) =
-    laid fragmentWords ((firstField, pos (firstOf r (fragment .calls))) ∷ (strandField, pos (fragment .strand)) ∷ [])
+    laid fragmentWords ((firstField, firstWord r fragment) ∷ (strandField, pos (fragment .strand)) ∷ [])
     ++ fragmentRecords (r + length (fragment .calls)) rest
 
 -- variant, allele, qual, one_minus_qual, next; the calls of one fragment, numbered from r on

@@ -5,6 +5,7 @@ use mathlib.Core.Bool.{Bool, true, cond, _&&_}
 use mathlib.Core.List.{List, [], _∷_}
 use Prim.Native.Nat.{ℕ, _+_, _*_, _-_}
 use lib.IntN.{ℤ, pos, negℤ}
+use lib.ListN.{length, getD}
 use lib.Signed.{leZ}
 use lib.Dec.{ltb, eqb}
 use Rattle.variants_and_fragments.specs.declared.Sizes.{Sizes}
@@ -13,7 +14,7 @@ use Rattle.variants_and_fragments.specs.Words.{word, within, below, natO
 -- ---- the numbers of section 2
 -- words of the head, of a variant, a fragment, a call
 abbrev pub headWords : ℕ
-headWords = 4
+headWords = 5
 
 abbrev pub variantWords : ℕ
 variantWords = 8
@@ -46,7 +47,7 @@ abbrev pub lowestQuality : ℤ
 lowestQuality = negℤ (pos 262144)
 
 -- ---- the fields, each by its place in its record
--- of the head: N, F, C, the cutoff
+-- of the head: N, F, C, the cutoff, and how many records are used (request 1)
 abbrev pub variantsField : ℕ
 variantsField = 0
 
@@ -58,6 +59,9 @@ callsField = 2
 
 abbrev pub cutoffField : ℕ
 cutoffField = 3
+
+abbrev pub usedField : ℕ
+usedField = 4
 
 -- of a variant; the genotype has 2 words, the lengths have 3
 abbrev pub pos0Field : ℕ
@@ -99,12 +103,12 @@ abbrev pub nextField : ℕ
 nextField = 4
 
 -- ---- where things stand
--- what the head says: N, F, C and the cutoff
+-- what the head says: N, F, C, how many records are used, and the cutoff
 abbrev pub cutoffAt : List ℤ → ℤ
 cutoffAt w = word w cutoffField
 
 abbrev pub sizesOf : List ℤ → Sizes
-sizesOf w = record { n = natAt w variantsField; f = natAt w fragmentsField; c = natAt w callsField; cutoff = cutoffAt w }
+sizesOf w = record { n = natAt w variantsField; f = natAt w fragmentsField; c = natAt w callsField; used = natAt w usedField; cutoff = cutoffAt w }
 
 abbrev pub totalWords : Sizes → ℕ
 totalWords s = headWords + variantWords * (s .n) + fragmentWords * (s .f) + callWords * (s .c)
@@ -145,9 +149,12 @@ alleleCountAt w v = natOf (variantWord w v alleleCountField)
 abbrev pub lengthAt : List ℤ → ℕ → ℕ → ℕ
 lengthAt w v j = natOf (variantWord w v (lengthField + j))
 
--- of fragment f
+-- of fragment f; where its first call is −1 it is absent (request 1)
 abbrev pub firstCallAt : List ℤ → Sizes → ℕ → ℕ
 firstCallAt w s f = natOf (fragmentWord w s f firstField)
+
+abbrev pub presentAt : List ℤ → Sizes → ℕ → Bool
+presentAt w s f = leZ (pos 0) (fragmentWord w s f firstField)
 
 abbrev pub strandAt : List ℤ → Sizes → ℕ → ℕ
 strandAt w s f = natOf (fragmentWord w s f strandField)
@@ -183,9 +190,14 @@ allOf [] = true
 allOf (b ∷ []) = b
 allOf (b ∷ c ∷ bs) = b && allOf (c ∷ bs)
 
--- pos0 ≥ 0, not falling; dp ≥ 0; k in 1..3; genotype a, b, each in 0..k−1; three allele lengths
-abbrev pub variantTests : List ℤ → ℕ → List Bool
-variantTests w v =
+-- haplotype i of variant v, 0 or 1, is below its k; where the slice does not go so far, nothing is asked here
+abbrev pub haplotypeOk : List ℤ → List ℕ → ℕ → ℕ → Bool
+haplotypeOk w h v i = cond (ltb (2 * v + i) (length h)) (ltb (getD h (2 * v + i) 0) (alleleCountAt w v)) true
+
+-- pos0 ≥ 0, not falling; dp ≥ 0; k in 1..3; genotype a, b, each in 0..k−1; three allele lengths; and (request 1) each haplotype lent as
+-- input below k
+abbrev pub variantTests : List ℤ → List ℕ → ℕ → List Bool
+variantTests w h v =
     leZ (pos 0) (variantWord w v pos0Field)
     ∷ leZ (priorPos0At w v) (variantWord w v pos0Field)
     ∷ leZ (pos 0) (variantWord w v depthField)
@@ -195,10 +207,12 @@ variantTests w v =
     ∷ lengthOk w v 0
     ∷ lengthOk w v 1
     ∷ lengthOk w v 2
+    ∷ haplotypeOk w h v 0
+    ∷ haplotypeOk w h v 1
     ∷ []
 
-unfoldable pub variantOk : List ℤ → ℕ → Bool
-variantOk w v = allOf (variantTests w v)
+unfoldable pub variantOk : List ℤ → List ℕ → ℕ → Bool
+variantOk w h v = allOf (variantTests w h v)
 
 -- ---- 4, a call record
 -- its variant is one of the case, its allele below that variant's k, and both qualities are in −262144..0

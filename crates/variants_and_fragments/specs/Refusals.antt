@@ -6,7 +6,7 @@ use mathlib.Core.List.{List, [], _∷_}
 use Prim.Native.Nat.{ℕ, _+_}
 use lib.Dec.{eqb, leb}
 use Rattle.variants_and_fragments.specs.declared.Refusal.{Refusal}
-use Rattle.variants_and_fragments.specs.declared.Refusal.the-variants.{Head, Variant, Alleles, Call, Chain, Rates, Phase, Orders, Limit, Short, DensityQual, Normalize}
+use Rattle.variants_and_fragments.specs.declared.Refusal.the-variants.{Head, Variant, Alleles, Call, Chain, Rates, Phase, Orders, Limit, Short, DensityQual, Normalize, Fragment, Room}
 use Rattle.variants_and_fragments.specs.declared.Answered.{Answered}
 use Rattle.variants_and_fragments.specs.declared.Answered.the-variants.{Done, Refused}
 use Rattle.variants_and_fragments.specs.First.{firstFailFrom}
@@ -25,6 +25,8 @@ number (Limit p) = 9
 number (Short p) = 10
 number (DensityQual p) = 11
 number (Normalize p) = 12
+number (Fragment p) = 13
+number (Room p) = 14
 
 -- the column "Returned place"
 abbrev pub place : Refusal → ℕ
@@ -40,6 +42,8 @@ place (Limit p) = p
 place (Short p) = p
 place (DensityQual p) = p
 place (Normalize p) = p
+place (Fragment p) = p
+place (Room p) = p
 
 -- what an operation answers: refused with a number and a place, or done with its values
 pub data Outcome (Values : Type 0) : Type 0 where

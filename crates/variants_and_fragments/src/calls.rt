@@ -1,8 +1,10 @@
-// The check of the call records: number 4 of document 01's table.
+// The check of the call records: number 4 of document 01's table, as amended by request 1.
 ghost use mathlib.Core.Path.{_≡_};
 ghost use Prim.Native.Nat.{_≤_};
 ghost use Rattle.variants_and_fragments.specs.First.{firstFailFrom};
 ghost use Rattle.variants_and_fragments.specs.Layout.{callOk};
+ghost use Rattle.variants_and_fragments.specs.Chain.{reached, reachedCallOk};
+ghost use Rattle.variants_and_fragments.specs.Inner.Chain.{Marked};
 ghost use Rattle.variants_and_fragments.specs.Inner.Layout.{Sized};
 ghost use Rattle.variants_and_fragments.specs.Inner.Alleles.{VariantsIn};
 use crate::Sizes;
@@ -31,17 +33,20 @@ pub fn call_ok(words: &[i32], s: Sizes, r: usize) -> bool
     (a < k) & (qual & one_minus_qual)
 }
 
-// The first call whose record is wrong, counted from 1, or C + 1. At the loop's head the records before r are right.
-pub fn first_bad_call(words: &[i32], s: Sizes) -> usize
+// The first record that is marked as reached and wrong, counted from 1, or used + 1. At the loop's head those before r are right.
+pub fn first_bad_call(words: &[i32], s: Sizes, seen: &[u8]) -> usize
     requires { ⌜ Sized (now words) s ⌝ }
     requires { ⌜ VariantsIn (now words) s ⌝ }
-    ensures { λ r. ⌜ r ≡ firstFailFrom (callOk (now (words .entry)) s) 1 (s .c) ⌝ }
+    requires { ⌜ Marked (now seen) (reached (now words) s (s .f)) ⌝ }
+    ensures { λ r. ⌜ r ≡ firstFailFrom (reachedCallOk (now (words .entry)) s) 1 (s .used) ⌝ }
 {
-    let c = s.c;
+    let used = s.used;
     let mut r = 1;
-    while r <= c {
-        if !call_ok(words, s, r) {
-            return r;
+    while r <= used {
+        if seen[r] != 0 {
+            if !call_ok(words, s, r) {
+                return r;
+            }
         }
         r += 1;
     }

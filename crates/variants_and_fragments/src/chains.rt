@@ -1,31 +1,36 @@
-// The check of the chains: number 5 of document 01's table.
+// The check of the chains: numbers 4 and 5 of document 01's table, as amended by request 1.
 ghost use mathlib.Core.Path.{_≡_};
-ghost use Prim.Native.Nat.{_+_, _<_, _≤_};
-ghost use lib.ListN.{length};
-ghost use Rattle.variants_and_fragments.specs.First.{firstFail};
+ghost use Prim.Native.Nat.{suc, _+_, _<_, _≤_};
+ghost use Rattle.variants_and_fragments.specs.First.{firstFailFrom};
 ghost use Rattle.variants_and_fragments.specs.Inner.Layout.{Sized};
-ghost use Rattle.variants_and_fragments.specs.Chain.{nextCallAt, linkOk, reached};
-ghost use Rattle.variants_and_fragments.specs.Inner.Chain.{Walked, FragmentChecked, FragmentsChecked, markedAt, Marked};
+ghost use Rattle.variants_and_fragments.specs.Chain.{nextCallAt, linkOk, reached, reachedCallOk};
+ghost use Rattle.variants_and_fragments.specs.Inner.Chain.{Walked, FragmentChecked, FragmentsChecked, Marked, ReachMarked, chainsOutcome};
+ghost use Rattle.variants_and_fragments.specs.Check.{outcomeOf};
+ghost use Rattle.variants_and_fragments.specs.Inner.Alleles.{VariantsIn};
 ghost use mathlib.Core.List.{[]};
+use crate::Checked;
+use crate::Refusal;
 use crate::Sizes;
+use crate::calls::first_bad_call;
 use crate::layout::call_variant;
 use crate::layout::first_call;
-use crate::layout::first_word;
+use crate::layout::first_ok;
 use crate::layout::next_call;
+use crate::layout::next_record;
 use crate::layout::strand_of;
 
 // Record r's next is right: 0, or a larger record at a larger variant.
 pub fn link_ok(words: &[i32], s: Sizes, r: usize) -> bool
     requires { ⌜ Sized (now words) s ⌝ }
-    requires { ⌜ (1 ≤ r) × (r ≤ s .c) ⌝ }
+    requires { ⌜ (1 ≤ r) × (r ≤ s .used) ⌝ }
     ensures { λ ok. ⌜ ok ≡ linkOk (now (words .entry)) s r ⌝ }
 {
-    let c = s.c;
+    let used = s.used;
     let t = next_call(words, s, r);
     if t == 0 {
         return true;
     }
-    if c < t {
+    if used < t {
         return false;
     }
     let v = call_variant(words, s, r);
@@ -36,12 +41,12 @@ pub fn link_ok(words: &[i32], s: Sizes, r: usize) -> bool
 // The same where record r's next is the record after it.
 fn after_ok(words: &[i32], s: Sizes, r: usize) -> bool
     requires { ⌜ Sized (now words) s ⌝ }
-    requires { ⌜ (1 ≤ r) × (r ≤ s .c) × (nextCallAt (now words) s r ≡ r + 1) ⌝ }
+    requires { ⌜ (1 ≤ r) × (r ≤ s .used) × (nextCallAt (now words) s r ≡ r + 1) ⌝ }
     ensures { λ ok. ⌜ ok ≡ linkOk (now (words .entry)) s r ⌝ }
 {
-    let c = s.c;
+    let used = s.used;
     let after = r + 1;
-    if c < after {
+    if used < after {
         return false;
     }
     let v = call_variant(words, s, r);
@@ -95,13 +100,11 @@ pub fn fragment_ok(words: &[i32], s: Sizes, f: usize, seen: &mut [u8]) -> bool
     requires { ⌜ Marked (now seen) (reached (now words) s f) ⌝ }
     ensures { λ r. ⌜ FragmentChecked (now (words .entry)) s f (now (seen .exit)) r ⌝ }
 {
-    let c = s.c;
     let strand = strand_of(words, s, f);
     if 1 < strand {
         return false;
     }
-    let first = first_word(words, s, f);
-    if c < first {
+    if !first_ok(words, s, f) {
         return false;
     }
     walk_chain(words, s, f, seen)
@@ -125,17 +128,75 @@ pub fn first_bad_fragment(words: &[i32], s: Sizes, seen: &mut [u8]) -> usize
     f
 }
 
-// The first record, counted from 0, that is not marked, or c. At the loop's head those before i are marked.
-pub fn first_unreached(seen: &[u8], c: usize) -> usize
-    requires { ⌜ (c ≤ 16384) × (16384 < length (now seen)) ⌝ }
-    ensures { λ r. ⌜ r ≡ firstFail (markedAt (now (seen .entry))) c ⌝ }
+// Marks the records that fragment f reaches, whatever faults its chain has. It stops at a record marked before, whose chain is marked.
+// At the loop's head the k records before r are marked.
+fn mark_chain(words: &[i32], s: Sizes, f: usize, seen: &mut [u8])
+    requires { ⌜ Sized (now words) s ⌝ }
+    requires { ⌜ f < s .f ⌝ }
+    requires { ⌜ ReachMarked (now words) s f (now seen) ⌝ }
+    ensures { λ _. ⌜ ReachMarked (now (words .entry)) s (suc f) (now (seen .exit)) ⌝ }
 {
-    let mut i = 0;
-    while i < c {
-        if seen[i + 1] != 1 {
-            return i;
+    let c = s.c;
+    let mut r = first_call(words, s, f);
+    let mut k = 0;
+    while k < c {
+        k += 1;
+        if r == 0 {
+            return;
         }
-        i += 1;
+        if seen[r] != 0 {
+            return;
+        }
+        seen[r] = 1;
+        r = next_record(words, s, r);
     }
-    i
+}
+
+// Marks every record that some fragment reaches. At the loop's head those of the fragments before f are marked.
+fn mark_reached(words: &[i32], s: Sizes, seen: &mut [u8])
+    requires { ⌜ Sized (now words) s ⌝ }
+    requires { ⌜ Marked (now seen) [] ⌝ }
+    ensures { λ _. ⌜ Marked (now (seen .exit)) (reached (now (words .entry)) s (s .f)) ⌝ }
+{
+    let n = s.f;
+    let mut f = 0;
+    while f < n {
+        mark_chain(words, s, f, seen);
+        f += 1;
+    }
+}
+
+// The first record that some fragment reaches and that is wrong, counted from 1, or used + 1; whatever faults the chains have.
+fn first_bad_reached(words: &[i32], s: Sizes) -> usize
+    requires { ⌜ Sized (now words) s ⌝ }
+    requires { ⌜ VariantsIn (now words) s ⌝ }
+    ensures { λ r. ⌜ r ≡ firstFailFrom (reachedCallOk (now (words .entry)) s) 1 (s .used) ⌝ }
+{
+    let mut seen = [0u8; 16385];
+    mark_reached(words, s, &mut seen);
+    first_bad_call(words, s, &seen)
+}
+
+// Numbers 4 and 5. The chains are walked first: where all are right, they mark what is reached, and no second walk is needed.
+pub fn check_chains(words: &[i32], s: Sizes) -> Checked
+    requires { ⌜ Sized (now words) s ⌝ }
+    requires { ⌜ VariantsIn (now words) s ⌝ }
+    ensures { λ r. ⌜ outcomeOf r ≡ chainsOutcome (now (words .entry)) s ⌝ }
+{
+    let m = s.f;
+    let used = s.used;
+    let mut seen = [0u8; 16385];
+    let f = first_bad_fragment(words, s, &mut seen);
+    if f < m {
+        let r = first_bad_reached(words, s);
+        if r <= used {
+            return Checked::Refused(Refusal::Call(r));
+        }
+        return Checked::Refused(Refusal::Chain(f));
+    }
+    let r = first_bad_call(words, s, &seen);
+    if r <= used {
+        return Checked::Refused(Refusal::Call(r));
+    }
+    Checked::Accepted(s)
 }

@@ -9,7 +9,7 @@ use crate::layout::cutoff_ok;
 use crate::layout::read_sizes;
 use crate::layout::total_words;
 
-// The place of the head's fault: a word 0 to 3, 4 for the length, 0 under four words; 5 where there is none.
+// The place of the head's fault: a word 0 to 4, 5 for the length, 0 under five words; 6 where there is none.
 pub fn head_fault(words: &[i32]) -> usize
     ensures { λ r. ⌜ r ≡ headFault (now (words .entry)) ⌝ }
 {
@@ -29,9 +29,12 @@ pub fn head_fault(words: &[i32]) -> usize
     if !cutoff_ok(words) {
         return 3;
     }
+    if s.c < s.used {
+        return 4;
+    }
     let all = total_words(s);
     if words.len() == all {
-        return 5;
+        return 6;
     }
-    4
+    5
 }

@@ -2,12 +2,12 @@
 ghost use mathlib.Core.Path.{_≡_};
 ghost use Prim.Native.Nat.{_+_, _<_, _≤_};
 ghost use lib.ListN.{length};
-ghost use lib.IntN.{pos};
+ghost use lib.IntN.{pos, negsuc};
 ghost use lib.Signed.{leZ};
 ghost use Rattle.variants_and_fragments.specs.Words.{natOf, word, within, natAt};
-ghost use Rattle.variants_and_fragments.specs.Layout.{sizesOf, lowestQuality, headWords, variantWords, fragmentWords, callWords, totalWords, maxVariants, maxFragments, maxCalls, variantAt, fragmentAt, callAt, cutoffAt, qualAt, oneMinusQualAt, pos0Field, depthField, variantWord, callWord, pos0At, depthAt, genotypeAt, alleleCountAt, lengthAt, callVariantAt, calledAlleleAt, firstCallAt, strandAt, nextCallAt};
+ghost use Rattle.variants_and_fragments.specs.Layout.{sizesOf, lowestQuality, headWords, variantWords, fragmentWords, callWords, totalWords, maxVariants, maxFragments, maxCalls, variantAt, fragmentAt, callAt, firstField, fragmentWord, cutoffAt, qualAt, oneMinusQualAt, pos0Field, depthField, variantWord, callWord, pos0At, depthAt, genotypeAt, alleleCountAt, lengthAt, callVariantAt, calledAlleleAt, firstCallAt, presentAt, strandAt, nextCallAt};
 ghost use Rattle.variants_and_fragments.specs.Inner.Layout.{Sized};
-ghost use Rattle.variants_and_fragments.specs.Inner.Chain.{firstRecordAt};
+ghost use Rattle.variants_and_fragments.specs.Inner.Chain.{recordOf, firstRecordAt};
 ghost use Rattle.variants_and_fragments.specs.Inner.Alleles.{VariantsIn};
 ghost use mathlib.Core.Bool.{true};
 use crate::Sizes;
@@ -16,7 +16,7 @@ use crate::Sizes;
 pub const NONE: usize = 4294967296;
 
 // The numbers of section 2: words of the head and of each record.
-pub const HEAD_WORDS: usize = 4;
+pub const HEAD_WORDS: usize = 5;
 
 pub const VARIANT_WORDS: usize = 8;
 
@@ -32,6 +32,8 @@ const FRAGMENTS: usize = 1;
 const CALLS: usize = 2;
 
 const CUTOFF: usize = 3;
+
+const USED: usize = 4;
 
 // Of a variant; the genotype has 2 words, the lengths have 3.
 const POS0: usize = 0;
@@ -119,7 +121,7 @@ pub fn word_at(words: &[i32], i: usize) -> i32
 
 // ---- the head
 
-// What the head says: N, F, C and the cutoff.
+// What the head says: N, F, C, how many records are used, and the cutoff.
 pub fn read_sizes(words: &[i32]) -> Sizes
     requires { ⌜ headWords ≤ length (now words) ⌝ }
     ensures { λ r. ⌜ r ≡ sizesOf (now (words .entry)) ⌝ }
@@ -128,6 +130,7 @@ pub fn read_sizes(words: &[i32]) -> Sizes
         n: nat_at(words, VARIANTS),
         f: nat_at(words, FRAGMENTS),
         c: nat_at(words, CALLS),
+        used: nat_at(words, USED),
         cutoff: word_at(words, CUTOFF),
     }
 }
@@ -261,8 +264,46 @@ fn fragment_field(words: &[i32], s: Sizes, f: usize, k: usize) -> usize
     nat_at(words, fragment_at(s, f) + k)
 }
 
-// Fragment f's first call as its word has it: 0, a record, or what the check refuses.
-pub fn first_word(words: &[i32], s: Sizes, f: usize) -> usize
+// Fragment f's first call, as its word has it.
+fn first_value(words: &[i32], s: Sizes, f: usize) -> i32
+    requires { ⌜ Sized (now words) s × (f < s .f) ⌝ }
+    ensures { λ r. ⌜ r ≡ fragmentWord (now (words .entry)) s f firstField ⌝ }
+{
+    word_at(words, fragment_at(s, f) + FIRST)
+}
+
+// Fragment f is present: its first call is not −1.
+pub fn is_present(words: &[i32], s: Sizes, f: usize) -> bool
+    requires { ⌜ Sized (now words) s ⌝ }
+    requires { ⌜ f < s .f ⌝ }
+    ensures { λ r. ⌜ r ≡ presentAt (now (words .entry)) s f ⌝ }
+{
+    0 <= first_value(words, s, f)
+}
+
+// Fragment f's first call is in −1..used.
+pub fn first_ok(words: &[i32], s: Sizes, f: usize) -> bool
+    requires { ⌜ Sized (now words) s ⌝ }
+    requires { ⌜ f < s .f ⌝ }
+    ensures { λ r. ⌜ r ≡ within (negsuc 0) (pos (s .used)) (fragmentWord (now (words .entry)) s f firstField) ⌝ }
+{
+    let z = first_value(words, s, f);
+    (-1 <= z) & (z <= s.used as i32)
+}
+
+// What a word names as a record, and 0 where that is none of those used.
+pub fn record_of(s: Sizes, t: usize) -> usize
+    ensures { λ r. ⌜ r ≡ recordOf s t ⌝ }
+{
+    let used = s.used;
+    if used < t {
+        return 0;
+    }
+    t
+}
+
+// Fragment f's first call as its word has it: 0, a record, or NONE.
+fn first_word(words: &[i32], s: Sizes, f: usize) -> usize
     requires { ⌜ Sized (now words) s ⌝ }
     requires { ⌜ f < s .f ⌝ }
     ensures { λ t. ⌜ t ≡ firstCallAt (now (words .entry)) s f ⌝ }
@@ -276,12 +317,7 @@ pub fn first_call(words: &[i32], s: Sizes, f: usize) -> usize
     requires { ⌜ f < s .f ⌝ }
     ensures { λ t. ⌜ t ≡ firstRecordAt (now (words .entry)) s f ⌝ }
 {
-    let c = s.c;
-    let t = first_word(words, s, f);
-    if c < t {
-        return 0;
-    }
-    t
+    record_of(s, first_word(words, s, f))
 }
 
 // Fragment f's strand.
@@ -386,4 +422,13 @@ pub fn next_call(words: &[i32], s: Sizes, r: usize) -> usize
     ensures { λ t. ⌜ t ≡ nextCallAt (now (words .entry)) s r ⌝ }
 {
     call_field(words, s, r, NEXT)
+}
+
+// The record after call r in its chain, or 0 where its word names none of those used.
+pub fn next_record(words: &[i32], s: Sizes, r: usize) -> usize
+    requires { ⌜ Sized (now words) s ⌝ }
+    requires { ⌜ (1 ≤ r) × (r ≤ s .c) ⌝ }
+    ensures { λ t. ⌜ t ≡ recordOf s (nextCallAt (now (words .entry)) s r) ⌝ }
+{
+    record_of(s, next_call(words, s, r))
 }

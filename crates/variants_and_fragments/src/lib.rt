@@ -1,11 +1,9 @@
 // A case of variants and fragments: its check, and the types that every crate over it shares.
 ghost use mathlib.Core.Path.{_≡_};
-ghost use Rattle.variants_and_fragments.specs.Check.{outcomeOf, checkCaseOutcome};
+ghost use Rattle.variants_and_fragments.specs.Check.{outcomeOf, checkCaseOutcome, checkCaseAndHaplotypesOutcome};
 use crate::alleles::all_alleles_length;
 use crate::alleles::first_bad_alleles;
-use crate::calls::first_bad_call;
-use crate::chains::first_bad_fragment;
-use crate::chains::first_unreached;
+use crate::chains::check_chains;
 use crate::head::head_fault;
 use crate::layout::read_sizes;
 use crate::variants::first_bad_variant;
@@ -22,15 +20,16 @@ pub mod layout;
 mod refusals;
 mod variants;
 
-// What the head says: N, F, C and the cutoff.
+// What the head says: N, F, C, how many records are used, and the cutoff.
 pub struct Sizes {
     pub n: usize,
     pub f: usize,
     pub c: usize,
+    pub used: usize,
     pub cutoff: i32,
 }
 
-// Why an operation turned its input down, with the place of the fault: document 01's table, number by number.
+// Why an operation turned its input down, with the place of the fault: document 01's table and the requests', number by number.
 pub enum Refusal {
     Head(usize),
     Variant(usize),
@@ -44,6 +43,8 @@ pub enum Refusal {
     Short(usize),
     DensityQual(usize),
     Normalize(usize),
+    Fragment(usize),
+    Room(usize),
 }
 
 // The answer of an operation that returns nothing but done: what it makes stands in the lent slices.
@@ -74,15 +75,21 @@ pub enum VarFilter {
 pub fn check_case(words: &[i32], bases: &[u8]) -> Checked
     ensures { λ r. ⌜ outcomeOf r ≡ checkCaseOutcome (now (words .entry)) (now (bases .entry)) ⌝ }
 {
+    let none = [0u8; 0];
+    check_case_and_haplotypes(words, bases, &none)
+}
+
+// The same for an operation that takes haplotypes as input, which number 2 looks at too.
+pub fn check_case_and_haplotypes(words: &[i32], bases: &[u8], haplotypes: &[u8]) -> Checked
+    ensures { λ r. ⌜ outcomeOf r ≡ checkCaseAndHaplotypesOutcome (now (words .entry)) (now (bases .entry)) (now (haplotypes .entry)) ⌝ }
+{
     let p = head_fault(words);
-    if p < 5 {
+    if p < 6 {
         return Checked::Refused(Refusal::Head(p));
     }
     let s = read_sizes(words);
     let n = s.n;
-    let c = s.c;
-    let m = s.f;
-    let v = first_bad_variant(words, s);
+    let v = first_bad_variant(words, s, haplotypes);
     if v < n {
         return Checked::Refused(Refusal::Variant(v));
     }
@@ -93,17 +100,5 @@ pub fn check_case(words: &[i32], bases: &[u8]) -> Checked
     if b < n {
         return Checked::Refused(Refusal::Alleles(b));
     }
-    let r = first_bad_call(words, s);
-    if r <= c {
-        return Checked::Refused(Refusal::Call(r));
-    }
-    let mut seen = [0u8; 16385];
-    let f = first_bad_fragment(words, s, &mut seen);
-    if f < m {
-        return Checked::Refused(Refusal::Chain(f));
-    }
-    if first_unreached(&seen, c) < c {
-        return Checked::Refused(Refusal::Chain(m));
-    }
-    Checked::Accepted(s)
+    check_chains(words, s)
 }

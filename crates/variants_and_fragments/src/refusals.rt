@@ -20,6 +20,8 @@ pub fn number(r: Refusal) -> usize
         Refusal::Short(_) => 10,
         Refusal::DensityQual(_) => 11,
         Refusal::Normalize(_) => 12,
+        Refusal::Fragment(_) => 13,
+        Refusal::Room(_) => 14,
     }
 }
 
@@ -40,6 +42,8 @@ pub fn place(r: Refusal) -> usize
         Refusal::Short(p) => p,
         Refusal::DensityQual(p) => p,
         Refusal::Normalize(p) => p,
+        Refusal::Fragment(p) => p,
+        Refusal::Room(p) => p,
     }
 }
 

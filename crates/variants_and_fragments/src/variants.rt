@@ -1,8 +1,9 @@
 // The check of the variant records: number 2 of document 01's table.
 ghost use mathlib.Core.Path.{_≡_};
+ghost use mathlib.Core.List.{[]};
 ghost use Prim.Native.Nat.{_<_};
 ghost use Rattle.variants_and_fragments.specs.First.{firstFail};
-ghost use Rattle.variants_and_fragments.specs.Layout.{priorPos0At, variantOk};
+ghost use Rattle.variants_and_fragments.specs.Layout.{priorPos0At, haplotypeOk, variantOk};
 ghost use Rattle.variants_and_fragments.specs.Inner.Layout.{Sized, lengthTest};
 use crate::Sizes;
 use crate::layout::MAX_ALLELE_LENGTH;
@@ -35,11 +36,24 @@ pub fn length_ok(j: usize, k: usize, x: usize) -> bool
     x == 0
 }
 
+// Haplotype i of variant v, 0 or 1, is below its allele count k, where the slice goes so far.
+pub fn haplotype_ok(words: &[i32], s: Sizes, haplotypes: &[u8], v: usize, i: usize) -> bool
+    requires { ⌜ Sized (now words) s ⌝ }
+    requires { ⌜ (v < s .n) × (i < 2) ⌝ }
+    ensures { λ r. ⌜ r ≡ haplotypeOk (now (words .entry)) (now (haplotypes .entry)) v i ⌝ }
+{
+    let at = 2 * v + i;
+    if haplotypes.len() <= at {
+        return true;
+    }
+    (haplotypes[at] as usize) < allele_count(words, s, v)
+}
+
 // Variant v's record is right.
-pub fn variant_ok(words: &[i32], s: Sizes, v: usize) -> bool
+fn record_ok(words: &[i32], s: Sizes, v: usize) -> bool
     requires { ⌜ Sized (now words) s ⌝ }
     requires { ⌜ v < s .n ⌝ }
-    ensures { λ r. ⌜ r ≡ variantOk (now (words .entry)) v ⌝ }
+    ensures { λ r. ⌜ r ≡ variantOk (now (words .entry)) [] v ⌝ }
 {
     let p = pos0_word(words, s, v);
     let q = prior_pos0(words, s, v);
@@ -56,15 +70,27 @@ pub fn variant_ok(words: &[i32], s: Sizes, v: usize) -> bool
                 & (((1 <= k) & (k <= MAX_ALLELES)) & ((a < k) & ((b < k) & (l0 & (l1 & l2)))))))
 }
 
-// The first variant whose record is wrong, or N. At the loop's head the records before v are right.
-pub fn first_bad_variant(words: &[i32], s: Sizes) -> usize
+// Variant v's record and its haplotypes are right.
+pub fn variant_ok(words: &[i32], s: Sizes, haplotypes: &[u8], v: usize) -> bool
     requires { ⌜ Sized (now words) s ⌝ }
-    ensures { λ r. ⌜ r ≡ firstFail (variantOk (now (words .entry))) (s .n) ⌝ }
+    requires { ⌜ v < s .n ⌝ }
+    ensures { λ r. ⌜ r ≡ variantOk (now (words .entry)) (now (haplotypes .entry)) v ⌝ }
+{
+    let ok = record_ok(words, s, v);
+    let first = haplotype_ok(words, s, haplotypes, v, 0);
+    let second = haplotype_ok(words, s, haplotypes, v, 1);
+    ok & (first & second)
+}
+
+// The first variant whose record or haplotypes are wrong, or N. At the loop's head those before v are right.
+pub fn first_bad_variant(words: &[i32], s: Sizes, haplotypes: &[u8]) -> usize
+    requires { ⌜ Sized (now words) s ⌝ }
+    ensures { λ r. ⌜ r ≡ firstFail (variantOk (now (words .entry)) (now (haplotypes .entry))) (s .n) ⌝ }
 {
     let n = s.n;
     let mut v = 0;
     while v < n {
-        if !variant_ok(words, s, v) {
+        if !variant_ok(words, s, haplotypes, v) {
             return v;
         }
         v += 1;

@@ -1,16 +1,16 @@
--- What an accepted case gives (proofs/Accepted: case-in, bases-in). That every record is reached stays inside the check.
+-- What an accepted case gives (proofs/Accepted: case-in, bases-in).
 -- Assumes nothing.
 use mathlib.Core.Path.{_≡_}
 use mathlib.Core.Bool.{Bool, true, _&&_}
 use mathlib.Core.List.{List, [], _∷_}
 use Prim.Native.Nat.{ℕ, _≤_, _<_}
 use lib.ListN.{length, getD}
-use lib.IntN.{ℤ, pos}
+use lib.IntN.{ℤ, pos, negsuc}
 use Rattle.variants_and_fragments.specs.declared.Sizes.{Sizes}
 use Rattle.variants_and_fragments.specs.Words.{within}
-use Rattle.variants_and_fragments.specs.Layout.{sizesOf, cutoffAt, lowestQuality, alleleCountAt, callVariantAt, calledAlleleAt, qualAt, oneMinusQualAt, callOk}
+use Rattle.variants_and_fragments.specs.Layout.{firstField, fragmentWord, sizesOf, cutoffAt, lowestQuality, alleleCountAt, callVariantAt, calledAlleleAt, qualAt, oneMinusQualAt, callOk}
 use Rattle.variants_and_fragments.specs.Inner.Layout.{Sized}
-use Rattle.variants_and_fragments.specs.Chain.{firstCallAt, strandAt, chainOf, goodChain, reached}
+use Rattle.variants_and_fragments.specs.Chain.{strandAt, chainOf, goodChain, reached}
 use Rattle.variants_and_fragments.specs.Alleles.{allelesStart, isBase}
 use Rattle.variants_and_fragments.specs.Inner.Alleles.{VariantsIn}
 
@@ -29,7 +29,7 @@ pub record CallIn (w : List ℤ) (s : Sizes) (r : ℕ) : Type 0 where
 -- a fragment and its own chain
 pub record FragmentIn (w : List ℤ) (s : Sizes) (f : ℕ) : Type 0 where
   pub strand-in : strandAt w s f ≤ 1
-  pub first-in : firstCallAt w s f ≤ s .c
+  pub first-in : within (negsuc 0) (pos (s .used)) (fragmentWord w s f firstField) ≡ true
   pub right : goodChain w s (reached w s f) (chainOf w s f) ≡ true
   pub calls : allb (callOk w s) (chainOf w s f) ≡ true
 

@@ -1,6 +1,6 @@
 -- What an accepted case has: each allele, variant, call and fragment in its ranges, and rising calls. Assumes nothing.
 use mathlib.Core.Path.{_≡_}
-use mathlib.Core.Bool.{Bool, true, _&&_}
+use mathlib.Core.Bool.{Bool, true, false, _&&_}
 use mathlib.Core.List.{List, [], _∷_}
 use Prim.Native.Nat.{ℕ, suc, _≤_, _<_, _^_}
 use lib.Dec.{leb}
@@ -53,6 +53,8 @@ pub record GoodCall (variants : List Variant) (call : Call) : Type 0 where
 
 -- a fragment, among these variants
 pub record GoodFragment (variants : List Variant) (fragment : Fragment) : Type 0 where
+  -- an absent one has no calls
+  pub absent : fragment .present ≡ false → fragment .calls ≡ []
   -- strand (0 forward, 1 reverse)
   pub strand-in : fragment .strand ≤ 1
   pub calls-in : All (GoodCall variants) (fragment .calls)

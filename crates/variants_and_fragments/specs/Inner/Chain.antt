@@ -2,18 +2,23 @@
 use mathlib.Core.Path.{_≡_}
 use mathlib.Core.Bool.{Bool, true, false, cond}
 use mathlib.Core.List.{List}
-use Prim.Native.Nat.{ℕ, suc, _+_, _≤_, _<_}
+use Prim.Native.Nat.{ℕ, suc, _≤_, _<_}
 use lib.ListN.{length, getD}
 use lib.IntN.{ℤ}
-use lib.Dec.{eqb}
+use lib.Dec.{leb}
 use Rattle.variants_and_fragments.specs.declared.Sizes.{Sizes}
 use Rattle.variants_and_fragments.specs.First.{firstFail}
-use Rattle.variants_and_fragments.specs.Layout.{maxCalls, firstCallAt}
-use Rattle.variants_and_fragments.specs.Chain.{isRecord, chainOf, memb, reached, goodChain, fragmentOk}
+use Rattle.variants_and_fragments.specs.Layout.{maxCalls, firstCallAt, nextCallAt}
+use Rattle.variants_and_fragments.specs.Chain.{isRecord, chainOf, memb, reached, reachedCallOk, goodChain, fragmentOk}
+use Rattle.variants_and_fragments.specs.Refusals.{Outcome, done, each}
 
--- where fragment f's chain starts: its first call, and 0 where that is no record (absent, −1, or past C)
-unfoldable pub firstRecordAt : List ℤ → Sizes → ℕ → ℕ
-firstRecordAt w s f = cond (isRecord s (firstCallAt w s f)) (firstCallAt w s f) 0
+-- what a word names as a record, and 0 where that is none of those used
+unfoldable pub recordOf : Sizes → ℕ → ℕ
+recordOf s t = cond (leb t (s .used)) t 0
+
+-- where fragment f's chain starts: its first call, and 0 where that is no record (absent, −1, or past those used)
+abbrev pub firstRecordAt : List ℤ → Sizes → ℕ → ℕ
+firstRecordAt w s f = recordOf s (firstCallAt w s f)
 
 -- flags: what stands at x is 1 where x is in l, and 0 elsewhere
 abbrev pub flag : Bool → ℕ
@@ -39,6 +44,15 @@ pub record FragmentsChecked (w : List ℤ) (s : Sizes) (seen : List ℕ) (r : �
   pub at : r ≡ firstFail (fragmentOk w s) (s .f)
   pub marked : r ≡ s .f → Marked seen (reached w s (s .f))
 
--- record i + 1 has its flag
-abbrev pub markedAt : List ℕ → ℕ → Bool
-markedAt seen i = eqb (getD seen (i + 1) 0) 1
+-- the record after each of l is one of l, or none
+pub record Closed (w : List ℤ) (s : Sizes) (l : List ℕ) : Type 0 where
+  pub closed : (x : ℕ) → memb x l ≡ true → isRecord s (nextCallAt w s x) ≡ true → memb (nextCallAt w s x) l ≡ true
+
+-- the flags mark what the fragments below f reach
+pub record ReachMarked (w : List ℤ) (s : Sizes) (f : ℕ) (seen : List ℕ) : Type 0 where
+  pub marked : Marked seen (reached w s f)
+  pub whole : Closed w s (reached w s f)
+
+-- the table's lines for numbers 4 and 5
+unfoldable pub chainsOutcome : List ℤ → Sizes → Outcome Sizes
+chainsOutcome w s = each 4 (reachedCallOk w s) 1 (s .used) (each 5 (fragmentOk w s) 0 (s .f) (done s))

@@ -16,6 +16,7 @@ pub record Sized (w : List ℤ) (s : Sizes) : Type 0 where
   pub n-top : s .n ≤ maxVariants
   pub f-top : s .f ≤ maxFragments
   pub c-top : s .c ≤ maxCalls
+  pub used-top : s .used ≤ s .c
 
 -- the length x of allele j of k: 1..64 where present, 0 where absent
 abbrev pub lengthTest : ℕ → ℕ → ℕ → Bool
