@@ -26,50 +26,79 @@ use Rattle.variants_and_fragments.proofs.AlleleBytes.{base-at}
 use Rattle.variants_and_fragments.proofs.Chain.{fragment-tests, all-chain}
 
 -- no test stopped
-record Passed (w : List ℤ) (b : List ℕ) (s : Sizes) : Type 0 where
-  head : 5 ≤ headFault w
-  variants : s .n ≤ firstFail (variantOk w) (s .n)
+record Passed (w : List ℤ) (b h : List ℕ) (s : Sizes) : Type 0 where
+  head : 6 ≤ headFault w
+  variants : s .n ≤ firstFail (variantOk w h) (s .n)
   size : length b ≡ allelesStart w (s .n)
   bytes : s .n ≤ firstFail (allelesOk w b) (s .n)
-  calls : 1 + s .c ≤ firstFailFrom (callOk w s) 1 (s .c)
+  calls : 1 + s .used ≤ firstFailFrom (reachedCallOk w s) 1 (s .used)
   frags : s .f ≤ firstFail (fragmentOk w s) (s .f)
 
-passed : (w : List ℤ) (b : List ℕ) (s : Sizes) → checkCaseOutcome w b ≡ done s → (s ≡ sizesOf w) × Passed w b (sizesOf w)
-unfolding checkCaseOutcome firstFail
-passed w b s h =
-    let h1 = unless-past (leb 5 (headFault w)) 1 (headFault w) _ s (head-lines w _ ∙ h) in
+passed : (w : List ℤ) (b h : List ℕ) (s : Sizes) → checkCaseAndHaplotypesOutcome w b h ≡ done s → (s ≡ sizesOf w) × Passed w b h (sizesOf w)
+unfolding checkCaseAndHaplotypesOutcome firstFail
+passed w b h s ok =
+    let h1 = unless-past (leb 6 (headFault w)) 1 (headFault w) _ s (head-lines w _ ∙ ok) in
     let h2 = each-past 2 _ 0 _ _ s (h1 .1) in
     let h3 = unless-past _ 3 _ _ s (h2 .1) in
     let h4 = each-past 3 _ 0 _ _ s (h3 .1) in
     let h5 = each-past 4 _ 1 _ _ s (h4 .1) in
     let h6 = each-past 5 _ 0 _ _ s (h5 .1) in
-    let h7 = unless-past _ 5 _ _ s (h6 .1) in
     let e : s ≡ sizesOf w = cc in
     (e, record { head = leb-true _ _ (h1 .0); variants = omega (arith, h2 .0); size = eqb-true _ _ (h3 .0); bytes = omega (arith, h4 .0); calls = h5 .0; frags = omega (arith, h6 .0) })
 
-frag-facts : (w : List ℤ) (s : Sizes) (f : ℕ) → ((r : ℕ) → 1 ≤ r → r ≤ s .c → callOk w s r ≡ true) → fragmentOk w s f ≡ true → FragmentIn w s f
-unfolding chainOf
+-- a record that is reached is right
+reached-right : (w : List ℤ) (s : Sizes) (r : ℕ) → reachedCallOk w s r ≡ true → isReached w s r ≡ true → callOk w s r ≡ true
+unfolding reachedCallOk
+reached-right w s r h i = rw i at h
+
+-- a fragment's records are reached
+chain-right : (w : List ℤ) (s : Sizes) → ((r : ℕ) → 1 ≤ r → r ≤ s .used → reachedCallOk w s r ≡ true) → (f : ℕ) → f < s .f → allb (callOk w s) (chainOf w s f) ≡ true
+unfolding isReached
+chain-right w s calls f l = all-memb (callOk w s) (chainOf w s f) (λ r m.
+    let in-chain = chain-record w s f r m in
+    reached-right w s r (calls r (in-chain .0) (in-chain .1)) (reached-has w s r f (s .f) l m))
+
+frag-facts : (w : List ℤ) (s : Sizes) (f : ℕ) → allb (callOk w s) (chainOf w s f) ≡ true → fragmentOk w s f ≡ true → FragmentIn w s f
 frag-facts w s f calls h =
     let t = fragment-tests w s f h in
-    record { strand-in = t .strand-in; first-in = t .first-in; right = t .right; calls = all-chain w s (callOk w s) calls (s .c) (firstCallAt w s f) }
+    record { strand-in = t .strand-in; first-in = t .first-in; right = t .right; calls = calls }
 
--- what a case gives that the check accepts
-pub case-in : (w : List ℤ) (b : List ℕ) (s : Sizes) → checkCaseOutcome w b ≡ done s → CaseIn w s
-case-in w b s h =
-    let p = passed w b s h in
+-- what a case gives that the check accepts, with haplotypes or without
+pub checked-in : (w : List ℤ) (b h : List ℕ) (s : Sizes) → checkCaseAndHaplotypesOutcome w b h ≡ done s → CaseIn w s
+checked-in w b h s ok =
+    let p = passed w b h s ok in
     let z = sizesOf w in
-    let calls : (r : ℕ) → 1 ≤ r → r ≤ z .c → callOk w z r ≡ true = λ r lo hi. from-all (callOk w z) 1 (z .c) (p .1 .calls) r lo (omega arith) in
+    let calls : (r : ℕ) → 1 ≤ r → r ≤ z .used → reachedCallOk w z r ≡ true = λ r lo hi. from-all (reachedCallOk w z) 1 (z .used) (p .1 .calls) r lo (omega arith) in
     rw (p .0) (record {
       shape = refl;
       sized = head-sized w (p .1 .head);
-      variants = variants-in w z (p .1 .variants);
-      frags = λ f l. frag-facts w z f calls (first-all (fragmentOk w z) (z .f) (p .1 .frags) f l);
+      variants = variants-in w h z (p .1 .variants);
+      frags = λ f l. frag-facts w z f (chain-right w z calls f l) (first-all (fragmentOk w z) (z .f) (p .1 .frags) f l);
       cutoff-in = head-in w (p .1 .head) .cutoff-in;
     })
 
+pub case-in : (w : List ℤ) (b : List ℕ) (s : Sizes) → checkCaseOutcome w b ≡ done s → CaseIn w s
+unfolding checkCaseOutcome
+case-in w b s ok = checked-in w b [] s ok
+
 -- and its allele bytes
-pub bases-in : (w : List ℤ) (b : List ℕ) (s : Sizes) → checkCaseOutcome w b ≡ done s → BasesIn w s b
-bases-in w b s h =
-    let p = passed w b s h in
+pub checked-bases : (w : List ℤ) (b h : List ℕ) (s : Sizes) → checkCaseAndHaplotypesOutcome w b h ≡ done s → BasesIn w s b
+checked-bases w b h s ok =
+    let p = passed w b h s ok in
     let z = sizesOf w in
     rw (p .0) (record { size = p .1 .size; each = λ i l. base-at w b (z .n) (first-all (allelesOk w b) (z .n) (p .1 .bytes)) i (omega (arith, p .1 .size)) })
+
+pub bases-in : (w : List ℤ) (b : List ℕ) (s : Sizes) → checkCaseOutcome w b ≡ done s → BasesIn w s b
+unfolding checkCaseOutcome
+bases-in w b s ok = checked-bases w b [] s ok
+
+-- and its haplotypes, where there are so many
+pub haplotypes-in : (w : List ℤ) (b h : List ℕ) (s : Sizes) → checkCaseAndHaplotypesOutcome w b h ≡ done s → (v i : ℕ) → v < s .n → i < 2 → 2 * v + i < length h → getD h (2 * v + i) 0 < alleleCountAt w v
+haplotypes-in w b h s ok v i l m long =
+    let p = passed w b h s ok in
+    let n-same : v < sizesOf w .n = subst (λ (t : Sizes). v < t .n) (p .0) l in
+    haplotype-facts w h v (first-all (variantOk w h) (sizesOf w .n) (p .1 .variants) v n-same) i m long
+
+-- a case that is accepted with haplotypes is accepted without
+pub checked-case : (w : List ℤ) (b h : List ℕ) (s : Sizes) → checkCaseAndHaplotypesOutcome w b h ≡ done s → checkCaseOutcome w b ≡ done s
+checked-case w b h s ok = ?

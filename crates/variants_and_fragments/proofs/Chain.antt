@@ -1,19 +1,19 @@
 -- The tests of a link and of a fragment, case by case, and where a chain starts.
 -- Assumes nothing.
 use mathlib.Core.Path.{_≡_, refl}
-use mathlib.Core.Bool.{Bool, true, false, cond, _&&_}
+use mathlib.Core.Bool.{Bool, true, false, cond, _&&_, and-false}
 use Prim.Native.Nat.{ℕ, zero, suc, _+_, _≤_, _<_}
 use native.Mathlib.Omega.{arith}
 use native.Mathlib.Decide.{decLt}
 use mathlib.Core.List.{List, [], _∷_}
-use lib.IntN.{ℤ, pos}
+use lib.IntN.{ℤ, pos, negsuc}
 use lib.Dec.{leb, ltb, lit<}
 use borrow.Author.Tests.{lt-ltb, le-leb, lt-leb, eq-eqb, ne-eqb, leb-true, ltb-true}
 use Rattle.variants_and_fragments.specs.declared.Sizes.{Sizes}
 use Rattle.variants_and_fragments.specs.Words.{within}
 use Rattle.variants_and_fragments.specs.Layout.{maxCalls, firstField, strandField, nextField, fragmentWord, callWord, callVariantAt}
 use Rattle.variants_and_fragments.specs.Chain.{firstCallAt, strandAt, nextCallAt, chainFrom, chainOf, isRecord, reached, linkOk, goodChain, fragmentOk}
-use Rattle.variants_and_fragments.specs.Inner.Chain.{firstRecordAt}
+use Rattle.variants_and_fragments.specs.Inner.Chain.{recordOf}
 use Rattle.variants_and_fragments.specs.Inner.Accepted.{allb}
 use Rattle.variants_and_fragments.proofs.Bools.{both}
 use Rattle.variants_and_fragments.proofs.Ranges.{upto-nat, within-top}
@@ -21,51 +21,51 @@ use Rattle.variants_and_fragments.proofs.Ranges.{upto-nat, within-top}
 -- ---- a link
 module _ (w : List ℤ) (s : Sizes) (r : ℕ) where
   -- a right one leads to zero or to a record, which is at a variant above
-  pub link-top : linkOk w s r ≡ true → nextCallAt w s r ≤ s .c
+  pub link-top : linkOk w s r ≡ true → nextCallAt w s r ≤ s .used
   unfolding linkOk
-  link-top h = within-top 0 (s .c) (callWord w s r nextField) (both (within (pos 0) (pos (s .c)) (callWord w s r nextField)) _ h .0)
+  link-top h = within-top 0 (s .used) (callWord w s r nextField) (both (within (pos 0) (pos (s .used)) (callWord w s r nextField)) _ h .0)
 
   pub next-rises : linkOk w s r ≡ true → 1 ≤ nextCallAt w s r → callVariantAt w s r < callVariantAt w s (nextCallAt w s r)
   unfolding linkOk
   next-rises h l =
       let t = nextCallAt w s r in
       let up : Bool = ltb (callVariantAt w s r) (callVariantAt w s t) in
-      let k : (ltb r t && up) ≡ true = rw (ne-eqb t 0 (λ e. omega arith)) at (both (within (pos 0) (pos (s .c)) (callWord w s r nextField)) _ h .1) in
+      let k : (ltb r t && up) ≡ true = rw (ne-eqb t 0 (λ e. omega arith)) at (both (within (pos 0) (pos (s .used)) (callWord w s r nextField)) _ h .1) in
       ltb-true _ _ (both (ltb r t) up k .1)
 
-  module _ (top : s .c ≤ maxCalls) where
-    next-in : within (pos 0) (pos (s .c)) (callWord w s r nextField) ≡ leb (nextCallAt w s r) (s .c)
-    next-in = upto-nat (s .c) (callWord w s r nextField) (omega arith)
+  module _ (top : s .used ≤ maxCalls) where
+    next-in : within (pos 0) (pos (s .used)) (callWord w s r nextField) ≡ leb (nextCallAt w s r) (s .used)
+    next-in = upto-nat (s .used) (callWord w s r nextField) (omega arith)
 
     pub link-end : nextCallAt w s r ≡ 0 → true ≡ linkOk w s r
     unfolding linkOk
-    link-end e = simp (next-in, le-leb (nextCallAt w s r) (s .c) (omega arith), eq-eqb (nextCallAt w s r) 0 e)
+    link-end e = simp (next-in, le-leb (nextCallAt w s r) (s .used) (omega arith), eq-eqb (nextCallAt w s r) 0 e)
 
-    pub link-over : s .c < nextCallAt w s r → false ≡ linkOk w s r
+    pub link-over : s .used < nextCallAt w s r → false ≡ linkOk w s r
     unfolding linkOk
-    link-over h = simp (next-in, lt-leb (nextCallAt w s r) (s .c) h)
+    link-over h = simp (next-in, lt-leb (nextCallAt w s r) (s .used) h)
 
-    pub link-in : (nextCallAt w s r ≡ 0 → ⊥) → nextCallAt w s r ≤ s .c → (ltb r (nextCallAt w s r) && ltb (callVariantAt w s r) (callVariantAt w s (nextCallAt w s r))) ≡ linkOk w s r
+    pub link-in : (nextCallAt w s r ≡ 0 → ⊥) → nextCallAt w s r ≤ s .used → (ltb r (nextCallAt w s r) && ltb (callVariantAt w s r) (callVariantAt w s (nextCallAt w s r))) ≡ linkOk w s r
     unfolding linkOk
-    link-in n h = simp (next-in, le-leb (nextCallAt w s r) (s .c) h, ne-eqb (nextCallAt w s r) 0 n)
+    link-in n h = simp (next-in, le-leb (nextCallAt w s r) (s .used) h, ne-eqb (nextCallAt w s r) 0 n)
 
     -- a next that is the record after r is above r
-    pub link-after : nextCallAt w s r ≡ r + 1 → r + 1 ≤ s .c → ltb (callVariantAt w s r) (callVariantAt w s (nextCallAt w s r)) ≡ linkOk w s r
+    pub link-after : nextCallAt w s r ≡ r + 1 → r + 1 ≤ s .used → ltb (callVariantAt w s r) (callVariantAt w s (nextCallAt w s r)) ≡ linkOk w s r
     link-after e h = let above : r < nextCallAt w s r = omega arith in rw (← link-in (λ z. omega arith) (omega arith), lt-ltb r (nextCallAt w s r) above) refl
 
 -- ---- a fragment
 module _ (w : List ℤ) (s : Sizes) (f : ℕ) where
   pub record FragmentTests : Type 0 where
     pub strand-in : strandAt w s f ≤ 1
-    pub first-in : firstCallAt w s f ≤ s .c
+    pub first-in : within (negsuc 0) (pos (s .used)) (fragmentWord w s f firstField) ≡ true
     pub right : goodChain w s (reached w s f) (chainOf w s f) ≡ true
 
   pub fragment-tests : fragmentOk w s f ≡ true → FragmentTests
   unfolding fragmentOk
   fragment-tests h =
       let a = both (within (pos 0) (pos 1) (fragmentWord w s f strandField)) _ h in
-      let b = both (within (pos 0) (pos (s .c)) (fragmentWord w s f firstField)) (goodChain w s (reached w s f) (chainOf w s f)) (a .1) in
-      record { strand-in = within-top 0 1 _ (a .0); first-in = within-top 0 (s .c) _ (b .0); right = b .1 }
+      let b = both (within (negsuc 0) (pos (s .used)) (fragmentWord w s f firstField)) (goodChain w s (reached w s f) (chainOf w s f)) (a .1) in
+      record { strand-in = within-top 0 1 _ (a .0); first-in = b .0; right = b .1 }
 
   strand-test : within (pos 0) (pos 1) (fragmentWord w s f strandField) ≡ leb (strandAt w s f) 1
   strand-test = upto-nat 1 (fragmentWord w s f strandField) (lit< tt)
@@ -74,52 +74,45 @@ module _ (w : List ℤ) (s : Sizes) (f : ℕ) where
   unfolding fragmentOk
   frag-strand h = simp (strand-test, lt-leb (strandAt w s f) 1 h)
 
-  module _ (top : s .c ≤ maxCalls) (strand-in : strandAt w s f ≤ 1) where
-    first-test : within (pos 0) (pos (s .c)) (fragmentWord w s f firstField) ≡ leb (firstCallAt w s f) (s .c)
-    first-test = upto-nat (s .c) (fragmentWord w s f firstField) (omega arith)
-
-    pub frag-first : s .c < firstCallAt w s f → false ≡ fragmentOk w s f
+  module _ (strand-in : strandAt w s f ≤ 1) where
+    pub frag-first : within (negsuc 0) (pos (s .used)) (fragmentWord w s f firstField) ≡ false → false ≡ fragmentOk w s f
     unfolding fragmentOk
-    frag-first h = simp (strand-test, le-leb (strandAt w s f) 1 strand-in, first-test, lt-leb (firstCallAt w s f) (s .c) h)
+    frag-first h = simp (strand-test, le-leb (strandAt w s f) 1 strand-in, h)
 
-    pub frag-in : firstCallAt w s f ≤ s .c → goodChain w s (reached w s f) (chainOf w s f) ≡ fragmentOk w s f
+    pub frag-in : within (negsuc 0) (pos (s .used)) (fragmentWord w s f firstField) ≡ true → goodChain w s (reached w s f) (chainOf w s f) ≡ fragmentOk w s f
     unfolding fragmentOk
-    frag-in h = simp (strand-test, le-leb (strandAt w s f) 1 strand-in, first-test, le-leb (firstCallAt w s f) (s .c) h)
+    frag-in h = simp (strand-test, le-leb (strandAt w s f) 1 strand-in, h)
 
--- ---- where a chain starts
-pub first-none : (w : List ℤ) (s : Sizes) (f : ℕ) → s .c < firstCallAt w s f → 0 ≡ firstRecordAt w s f
-unfolding firstRecordAt
-first-none w s f h = simp (le-leb 1 (firstCallAt w s f) (omega arith), lt-leb _ _ h)
+-- ---- where a chain starts, and where it goes on
+pub record-none : (s : Sizes) (t : ℕ) → s .used < t → 0 ≡ recordOf s t
+unfolding recordOf
+record-none s t h = simp (lt-leb _ _ h)
 
-pub first-some : (w : List ℤ) (s : Sizes) (f : ℕ) → firstCallAt w s f ≤ s .c → firstCallAt w s f ≡ firstRecordAt w s f
-unfolding firstRecordAt
-first-some w s f h = elim (decLt 0 (firstCallAt w s f)) [
-  | yes l ↦ simp (le-leb 1 _ l, le-leb _ _ h)
-  | no l ↦ let e : firstCallAt w s f ≡ 0 = omega arith in rw e
-]
+pub record-some : (s : Sizes) (t : ℕ) → t ≤ s .used → t ≡ recordOf s t
+unfolding recordOf
+record-some s t h = simp (le-leb _ _ h)
 
 -- it is 0 or a record
-pub first-top : (w : List ℤ) (s : Sizes) (f : ℕ) → firstRecordAt w s f ≤ s .c
-first-top w s f = elim (decLt (s .c) (firstCallAt w s f)) [
-  | yes l ↦ omega (arith, first-none w s f l)
-  | no l ↦ omega (arith, first-some w s f (omega arith))
+pub record-top : (s : Sizes) (t : ℕ) → recordOf s t ≤ s .used
+record-top s t = elim (decLt (s .used) t) [
+  | yes l ↦ omega (arith, record-none s t l)
+  | no l ↦ omega (arith, record-some s t (omega arith))
 ]
 
 -- the chain is the same from there as from the word
-pub first-chain : (w : List ℤ) (s : Sizes) (k f : ℕ) → chainFrom w s k (firstRecordAt w s f) ≡ chainFrom w s k (firstCallAt w s f)
-unfolding chainFrom firstRecordAt
-first-chain w s zero f = refl
-first-chain w s (suc k) f = go (isRecord s (firstCallAt w s f)) refl
-  where
-    go : (t : Bool) → isRecord s (firstCallAt w s f) ≡ t → chainFrom w s (suc k) (cond t (firstCallAt w s f) 0) ≡ chainFrom w s (suc k) (firstCallAt w s f)
-    go true e = refl
-    go false e = simp e
+pub record-chain : (w : List ℤ) (s : Sizes) (k t : ℕ) → chainFrom w s k (recordOf s t) ≡ chainFrom w s k t
+unfolding chainFrom
+record-chain w s zero t = refl
+record-chain w s (suc k) t = elim (decLt (s .used) t) [
+  | yes l ↦ rw (← record-none s t l, lt-leb t (s .used) l, and-false (leb 1 t))
+  | no l ↦ rw (← record-some s t (omega arith))
+]
 
-pub all-chain : (w : List ℤ) (s : Sizes) (p : ℕ → Bool) → ((r : ℕ) → 1 ≤ r → r ≤ s .c → p r ≡ true) → (k r : ℕ) → allb p (chainFrom w s k r) ≡ true
+pub all-chain : (w : List ℤ) (s : Sizes) (p : ℕ → Bool) → ((r : ℕ) → 1 ≤ r → r ≤ s .used → p r ≡ true) → (k r : ℕ) → allb p (chainFrom w s k r) ≡ true
 unfolding allb chainFrom
 all-chain w s p h zero r = refl
 all-chain w s p h (suc k) r = go (isRecord s r) refl (all-chain w s p h k (nextCallAt w s r))
   where
     go : (t : Bool) → isRecord s r ≡ t → allb p (chainFrom w s k (nextCallAt w s r)) ≡ true → allb p (cond t (r ∷ chainFrom w s k (nextCallAt w s r)) []) ≡ true
     go false e i = refl
-    go true e i = let b = both (leb 1 r) (leb r (s .c)) e in rw (h r (leb-true 1 r (b .0)) (leb-true r (s .c) (b .1))) i
+    go true e i = let b = both (leb 1 r) (leb r (s .used)) e in rw (h r (leb-true 1 r (b .0)) (leb-true r (s .used) (b .1))) i

@@ -18,18 +18,19 @@ use Rattle.variants_and_fragments.specs.Inner.Accepted.{allb, CallIn, Fr
 use Rattle.variants_and_fragments.proofs.Bools.{both}
 use Rattle.variants_and_fragments.proofs.Records.{call-facts}
 use Rattle.variants_and_fragments.proofs.Walks.{chain-on}
-use Rattle.variants_and_fragments.proofs.Chain.{link-top, next-rises}
+use Rattle.variants_and_fragments.specs.Inner.Chain.{firstRecordAt}
+use Rattle.variants_and_fragments.proofs.Chain.{link-top, next-rises, record-top, record-chain}
 use Rattle.variants_and_fragments.proofs.Pigeon.{distinct, Within, none, more, pigeon}
 
 -- rs are the records from r on, each a record of the case with a right link, and zero is met after the last
 pub data Linked (w : List ℤ) (s : Sizes) : ℕ → List ℕ → Type 0 where
   ends : Linked w s 0 []
-  goes : {r : ℕ} {rs : List ℕ} → 1 ≤ r → r ≤ s .c → linkOk w s r ≡ true → Linked w s (nextCallAt w s r) rs → Linked w s r (r ∷ rs)
+  goes : {r : ℕ} {rs : List ℕ} → 1 ≤ r → r ≤ s .used → linkOk w s r ≡ true → Linked w s (nextCallAt w s r) rs → Linked w s r (r ∷ rs)
 
 -- the records passed are distinct ones of the case, at variants below r's
 record Passed (w : List ℤ) (s : Sizes) (r : ℕ) (past : List ℕ) : Type 0 where
   apart : distinct past ≡ true
-  within : Within (s .c) past
+  within : Within (s .used) past
   below : 1 ≤ r → (x : ℕ) → memb x past ≡ true → callVariantAt w s x < callVariantAt w s r
 
 module _ {w : List ℤ} {s : Sizes} {r : ℕ} {past : List ℕ} (lo : 1 ≤ r) (p : Passed w s r past) where
@@ -45,7 +46,7 @@ module _ {w : List ℤ} {s : Sizes} {r : ℕ} {past : List ℕ} (lo : 1 ≤ r) (
   unfolding distinct
   more-apart = rw fresh (p .apart)
 
-  more-passed : r ≤ s .c → linkOk w s r ≡ true → Passed w s (nextCallAt w s r) (r ∷ past)
+  more-passed : r ≤ s .used → linkOk w s r ≡ true → Passed w s (nextCallAt w s r) (r ∷ past)
   unfolding memb
   more-passed hi h = record {
     apart = more-apart;
@@ -57,18 +58,18 @@ module _ {w : List ℤ} {s : Sizes} {r : ℕ} {past : List ℕ} (lo : 1 ≤ r) (
   }
 
 -- a good chain is linked where as many steps are left as the records passed lack to C: there is no place for one more
-linked-from : (w : List ℤ) (s : Sizes) (k r : ℕ) (reached past : List ℕ) → r ≤ s .c → Passed w s r past → length past + k ≡ s .c → goodChain w s reached (chainFrom w s k r) ≡ true → Linked w s r (chainFrom w s k r)
+linked-from : (w : List ℤ) (s : Sizes) → s .used ≤ s .c → (k r : ℕ) (reached past : List ℕ) → r ≤ s .used → Passed w s r past → length past + k ≡ s .c → goodChain w s reached (chainFrom w s k r) ≡ true → Linked w s r (chainFrom w s k r)
 unfolding chainFrom goodChain
-linked-from w s zero zero l past top p n g = ends
-linked-from w s zero (suc r) l past top p n g =
-    absurd (omega (arith, pigeon (s .c) (suc r ∷ past) (more-apart (omega arith) p) (more (omega arith) top (p .within))))
-linked-from w s (suc k) zero l past top p n g = ends
-linked-from w s (suc k) (suc r) l past top p n g =
+linked-from w s ut zero zero l past top p n g = ends
+linked-from w s ut zero (suc r) l past top p n g =
+    absurd (omega (arith, pigeon (s .used) (suc r ∷ past) (more-apart (omega arith) p) (more (omega arith) top (p .within))))
+linked-from w s ut (suc k) zero l past top p n g = ends
+linked-from w s ut (suc k) (suc r) l past top p n g =
     let e = chain-on w s k (suc r) (omega arith) top in
     let t = nextCallAt w s (suc r) in
     let a = both (not (memb (suc r) l)) (linkOk w s (suc r) && goodChain w s (suc r ∷ l) (chainFrom w s k t)) (rw e at g) in
     let b = both (linkOk w s (suc r)) (goodChain w s (suc r ∷ l) (chainFrom w s k t)) (a .1) in
-    rw e (goes {r = suc r} (omega arith) top (b .0) (linked-from w s k t (suc r ∷ l) (suc r ∷ past) (link-top w s (suc r) (b .0)) (more-passed (omega arith) p top (b .0)) (omega arith) (b .1)))
+    rw e (goes {r = suc r} (omega arith) top (b .0) (linked-from w s ut k t (suc r ∷ l) (suc r ∷ past) (link-top w s (suc r) (b .0)) (more-passed (omega arith) p top (b .0)) (omega arith) (b .1)))
 
 -- k steps give k records at most
 chain-short : (w : List ℤ) (s : Sizes) (k r : ℕ) → length (chainFrom w s k r) ≤ k
@@ -107,7 +108,7 @@ module _ {w : List ℤ} {s : Sizes} where
   linked-some (goes lo hi h l) j m = lo
 
   -- each is a record of the case
-  pub linked-in : {r : ℕ} {rs : List ℕ} → Linked w s r rs → (i : ℕ) → i < length rs → (1 ≤ getD rs i 0) × (getD rs i 0 ≤ s .c)
+  pub linked-in : {r : ℕ} {rs : List ℕ} → Linked w s r rs → (i : ℕ) → i < length rs → (1 ≤ getD rs i 0) × (getD rs i 0 ≤ s .used)
   linked-in ends i m = absurd (omega arith)
   linked-in (goes lo hi h l) zero m = (lo, hi)
   linked-in (goes lo hi h l) (suc i) m = linked-in l i (omega arith)
@@ -140,28 +141,33 @@ all-at p (x ∷ xs) h zero m = both (p x) (allb p xs) h .0
 all-at p (x ∷ xs) h (suc k) m = all-at p xs (both (p x) (allb p xs) h .1) k (omega arith)
 
 -- ---- an accepted fragment's chain
-module _ {w : List ℤ} {s : Sizes} {f : ℕ} (i : FragmentIn w s f) where
-  none-passed : Passed w s (firstCallAt w s f) []
+module _ {w : List ℤ} {s : Sizes} {f : ℕ} (used-top : s .used ≤ s .c) (i : FragmentIn w s f) where
+  none-passed : Passed w s (firstRecordAt w s f) []
   unfolding distinct memb
   none-passed = record { apart = refl; within = none; below = λ l x m. let z : _≡_ {A = ℕ} 0 1 = cc in absurd (omega arith) }
 
-  pub chain-linked : Linked w s (firstCallAt w s f) (chainOf w s f)
+  -- the chain from the first record, or from 0 where there is none
+  from-record : chainFrom w s (s .c) (firstRecordAt w s f) ≡ chainOf w s f
   unfolding chainOf
-  chain-linked = linked-from w s (s .c) (firstCallAt w s f) (reached w s f) [] (i .first-in) none-passed (omega arith) (i .right)
+  from-record = record-chain w s (s .c) (firstCallAt w s f)
+
+  pub chain-linked : Linked w s (firstRecordAt w s f) (chainOf w s f)
+  chain-linked =
+      rw (← from-record) (linked-from w s used-top (s .c) (firstRecordAt w s f) (reached w s f) [] (record-top s (firstCallAt w s f)) none-passed (omega arith) (rw from-record (i .right)))
 
   -- its walk meets zero after the last of at most C records, and more steps change nothing
-  pub chain-ends : walkBy w s (length (chainOf w s f)) (firstCallAt w s f) ≡ 0
+  pub chain-ends : walkBy w s (length (chainOf w s f)) (firstRecordAt w s f) ≡ 0
   chain-ends = linked-ends chain-linked
 
   pub chain-length : length (chainOf w s f) ≤ s .c
   unfolding chainOf
   chain-length = chain-short w s (s .c) (firstCallAt w s f)
 
-  pub chain-fuel : (k : ℕ) → s .c ≤ k → chainFrom w s k (firstCallAt w s f) ≡ chainOf w s f
+  pub chain-fuel : (k : ℕ) → s .c ≤ k → chainFrom w s k (firstRecordAt w s f) ≡ chainOf w s f
   chain-fuel k l = linked-fuel chain-linked k (omega (arith, chain-length))
 
   -- its records are the case's, and their ranges hold
-  pub chain-in : (j : ℕ) → j < length (chainOf w s f) → (1 ≤ getD (chainOf w s f) j 0) × (getD (chainOf w s f) j 0 ≤ s .c)
+  pub chain-in : (j : ℕ) → j < length (chainOf w s f) → (1 ≤ getD (chainOf w s f) j 0) × (getD (chainOf w s f) j 0 ≤ s .used)
   chain-in = linked-in chain-linked
 
   pub chain-call : (j : ℕ) → j < length (chainOf w s f) → CallIn w s (getD (chainOf w s f) j 0)

@@ -117,16 +117,16 @@ good-distinct w s (r ∷ rs) l h d =
     let b = both (linkOk w s r) (goodChain w s (r ∷ l) rs) (a .1) in
     distinct-middle r rs l (good-distinct w s rs (r ∷ l) (b .1) (rw (a .0) d))
 
-chain-within : (w : List ℤ) (s : Sizes) (k r : ℕ) (l : List ℕ) → Within (s .c) l → Within (s .c) (chainFrom w s k r ++ l)
+chain-within : (w : List ℤ) (s : Sizes) (k r : ℕ) (l : List ℕ) → Within (s .used) l → Within (s .used) (chainFrom w s k r ++ l)
 unfolding chainFrom
 chain-within w s zero r l h = h
 chain-within w s (suc k) r l h = go (isRecord s r) refl (chain-within w s k (nextCallAt w s r) l h)
   where
-    go : (t : Bool) → isRecord s r ≡ t → Within (s .c) (chainFrom w s k (nextCallAt w s r) ++ l) → Within (s .c) (cond t (r ∷ chainFrom w s k (nextCallAt w s r)) [] ++ l)
+    go : (t : Bool) → isRecord s r ≡ t → Within (s .used) (chainFrom w s k (nextCallAt w s r) ++ l) → Within (s .used) (cond t (r ∷ chainFrom w s k (nextCallAt w s r)) [] ++ l)
     go false e rec = h
-    go true e rec = let b = both (leb 1 r) (leb r (s .c)) e in more (leb-true 1 r (b .0)) (leb-true r (s .c) (b .1)) rec
+    go true e rec = let b = both (leb 1 r) (leb r (s .used)) e in more (leb-true 1 r (b .0)) (leb-true r (s .used) (b .1)) rec
 
-reached-ok : (w : List ℤ) (s : Sizes) → CaseIn w s → (f : ℕ) → f ≤ s .f → (distinct (reached w s f) ≡ true) × Within (s .c) (reached w s f)
+reached-ok : (w : List ℤ) (s : Sizes) → CaseIn w s → (f : ℕ) → f ≤ s .f → (distinct (reached w s f) ≡ true) × Within (s .used) (reached w s f)
 unfolding reached chainOf distinct
 reached-ok w s k zero l = (refl, none)
 reached-ok w s k (suc f) l =
@@ -143,11 +143,11 @@ unfolding reached chainLengths
 reached-length w s zero = refl
 reached-length w s (suc f) = length-append (chainOf w s f) (reached w s f) ∙ ap (λ (n : ℕ). length (chainOf w s f) + n) (reached-length w s f)
 
--- the calls of all chains are at most C
-pub chains-top : (w : List ℤ) (s : Sizes) → CaseIn w s → (f : ℕ) → f ≤ s .f → chainLengths w s f ≤ s .c
+-- the calls of all chains are at most the records used
+pub chains-top : (w : List ℤ) (s : Sizes) → CaseIn w s → (f : ℕ) → f ≤ s .f → chainLengths w s f ≤ s .used
 chains-top w s k f l =
     let r = reached-ok w s k f l in
-    omega (arith, pigeon (s .c) (reached w s f) (r .0) (r .1), reached-length w s f)
+    omega (arith, pigeon (s .used) (reached w s f) (r .0) (r .1), reached-length w s f)
 
 -- ---- a record lies in one chain at most
 memb-left : (r : ℕ) (rs l : List ℕ) → memb r rs ≡ true → memb r (rs ++ l) ≡ true
@@ -201,10 +201,10 @@ count-calls w s (suc j) f =
     let e : f + suc j ≡ suc f + j = omega arith in
     rw e (count-calls w s j (suc f) ∙ rw (length-append (chainOf w s f) (reached w s f), length-append (map (callId f) (chainOf w s f)) (callsFrom w s j (suc f)), length-map) (omega arith))
 
-pub calls-top : (w : List ℤ) (s : Sizes) → CaseIn w s → length (callsFrom w s (s .f) 0) ≤ s .c
+pub calls-top : (w : List ℤ) (s : Sizes) → CaseIn w s → length (callsFrom w s (s .f) 0) ≤ s .used
 unfolding reached
 calls-top w s k =
     let r = reached-ok w s k (s .f) (le-refl _) in
     let e : 0 + s .f ≡ s .f = omega arith in
     let n : length (reached w s (s .f)) ≡ 0 + length (callsFrom w s (s .f) 0) = rw e at (count-calls w s (s .f) 0) in
-    omega (arith, pigeon (s .c) (reached w s (s .f)) (r .0) (r .1))
+    omega (arith, pigeon (s .used) (reached w s (s .f)) (r .0) (r .1))

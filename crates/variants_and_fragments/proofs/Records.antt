@@ -2,8 +2,8 @@
 -- Assumes nothing.
 use mathlib.Core.Path.{_≡_, refl, ap}
 use mathlib.Core.Bool.{Bool, true, false, cond, _&&_}
-use mathlib.Core.List.{List, [], _∷_}
-use Prim.Native.Nat.{ℕ, zero, suc, _+_, _-_, _≤_, _<_}
+use mathlib.Core.List.{List, [], _∷_, _++_}
+use Prim.Native.Nat.{ℕ, zero, suc, _+_, _-_, _*_, _≤_, _<_}
 use native.Mathlib.Omega.{arith}
 use native.Mathlib.Decide.{decLt}
 use borrow.Author.Tests.{lt-ltb, le-ltb, ne-eqb, leb-true, eqb-true}
@@ -12,10 +12,10 @@ use lib.IntN.{ℤ, pos}
 use lib.Dec.{leb, ltb, lit<}
 use lib.Signed.{leZ}
 use Rattle.variants_and_fragments.specs.declared.Sizes.{Sizes}
-use Rattle.variants_and_fragments.specs.Words.{word, within, below, none}
+use Rattle.variants_and_fragments.specs.Words.{word, within, below, none, natOf}
 use Rattle.variants_and_fragments.specs.First.{firstFail}
 use Rattle.variants_and_fragments.specs.Inner.First.{firstFalse}
-use Rattle.variants_and_fragments.specs.Layout.{headWords, maxVariants, maxFragments, maxCalls, maxAlleles, maxAlleleLength, lowestQuality, variantsField, fragmentsField, callsField, pos0Field, depthField, genotypeField, alleleCountField, variantField, alleleField, totalWords, sizesOf, cutoffAt, variantWord, callWord, lengthOk, pos0At, genotypeAt, alleleCountAt, lengthAt, priorPos0At, allOf, variantTests, variantOk, callVariantAt, calledAlleleAt, qualAt, oneMinusQualAt, callOk}
+use Rattle.variants_and_fragments.specs.Layout.{headWords, maxVariants, maxFragments, maxCalls, maxAlleles, maxAlleleLength, lowestQuality, variantsField, fragmentsField, callsField, usedField, pos0Field, depthField, genotypeField, alleleCountField, variantField, alleleField, totalWords, sizesOf, cutoffAt, variantWord, callWord, lengthOk, pos0At, genotypeAt, alleleCountAt, lengthAt, priorPos0At, haplotypeOk, allOf, variantTests, variantOk, callVariantAt, calledAlleleAt, qualAt, oneMinusQualAt, callWordsOk, callOk}
 use Rattle.variants_and_fragments.specs.Inner.Head.{headTests, headFault}
 use Rattle.variants_and_fragments.specs.Inner.Layout.{Sized, VariantIn, lengthTest}
 use Rattle.variants_and_fragments.specs.Inner.Alleles.{VariantsIn}
@@ -32,13 +32,14 @@ pub record HeadIn (w : List ℤ) : Type 0 where
   pub f-in : sizesOf w .f ≤ maxFragments
   pub c-in : sizesOf w .c ≤ maxCalls
   pub cutoff-in : within lowestQuality (pos 0) (cutoffAt w) ≡ true
+  pub used-in : sizesOf w .used ≤ sizesOf w .c
   pub all-in : length w ≡ totalWords (sizesOf w)
 
-cond-in : (b : Bool) (x : ℕ) → 5 ≤ cond b x 0 → (b ≡ true) × (5 ≤ x)
+cond-in : (b : Bool) (x : ℕ) → 6 ≤ cond b x 0 → (b ≡ true) × (6 ≤ x)
 cond-in true x h = (refl, h)
 cond-in false x h = absurd (omega arith)
 
-pub head-in : (w : List ℤ) → 5 ≤ headFault w → HeadIn w
+pub head-in : (w : List ℤ) → 6 ≤ headFault w → HeadIn w
 unfolding headFault
 head-in w h =
     let c = cond-in (leb headWords (length w)) (firstFalse (headTests w)) h in
@@ -49,13 +50,14 @@ head-in w h =
       f-in = within-top 0 maxFragments (word w fragmentsField) (at 1);
       c-in = within-top 0 maxCalls (word w callsField) (at 2);
       cutoff-in = at 3;
-      all-in = eqb-true _ _ (at 4);
+      used-in = within-top 0 (sizesOf w .c) (word w usedField) (at 4);
+      all-in = eqb-true _ _ (at 5);
     }
 
-pub head-sized : (w : List ℤ) → 5 ≤ headFault w → Sized w (sizesOf w)
-head-sized w h = let i = head-in w h in record { size = i .all-in; n-top = i .n-in; f-top = i .f-in; c-top = i .c-in }
+pub head-sized : (w : List ℤ) → 6 ≤ headFault w → Sized w (sizesOf w)
+head-sized w h = let i = head-in w h in record { size = i .all-in; n-top = i .n-in; f-top = i .f-in; c-top = i .c-in; used-top = i .used-in }
 
-pub head-long : (w : List ℤ) → 5 ≤ headFault w → headWords ≤ length w
+pub head-long : (w : List ℤ) → 6 ≤ headFault w → headWords ≤ length w
 head-long w h = head-in w h .len-in
 
 -- ---- a variant
@@ -83,13 +85,13 @@ module _ (w : List ℤ) (v j : ℕ) (h : lengthOk w v j ≡ true) where
   len-top : lengthAt w v j ≤ maxAlleleLength
   len-top = elim (decLt j (alleleCountAt w v)) [ yes l ↦ len-present l .1 | no l ↦ let e = len-absent (omega arith) in omega arith ]
 
-pub variant-facts : (w : List ℤ) (v : ℕ) → variantOk w v ≡ true → VariantIn w v
+pub variant-facts : (w : List ℤ) (h : List ℕ) (v : ℕ) → variantOk w h v ≡ true → VariantIn w v
 unfolding variantOk
-variant-facts w v h =
-    let at : (i : ℕ) → getD (variantTests w v) i true ≡ true = all-nth (variantTests w v) h in
+variant-facts w h v ok =
+    let at : (i : ℕ) → getD (variantTests w h v) i true ≡ true = all-nth (variantTests w h v) ok in
     let k = alleleCountAt w v in
     let top : k ≤ 3 = within-top 1 maxAlleles (variantWord w v alleleCountField) (at 3) in
-    let ok : (j : ℕ) → j < 3 → lengthOk w v j ≡ true = below-three (lengthOk w v) (at 6) (at 7) (at 8) in
+    let long : (j : ℕ) → j < 3 → lengthOk w v j ≡ true = below-three (lengthOk w v) (at 6) (at 7) (at 8) in
     record {
       pos-in = at 0;
       rises = at 1;
@@ -101,8 +103,8 @@ variant-facts w v h =
       len0 = len-top w v 0 (at 6);
       len1 = len-top w v 1 (at 7);
       len2 = len-top w v 2 (at 8);
-      present = λ j l. len-present w v j (ok j (omega arith)) l .0;
-      absent = λ j l m. len-absent w v j (ok j m) l;
+      present = λ j l. len-present w v j (long j (omega arith)) l .0;
+      absent = λ j l m. len-absent w v j (long j m) l;
     }
   where
     below-three : (p : ℕ → Bool) → p 0 ≡ true → p 1 ≡ true → p 2 ≡ true → (j : ℕ) → j < 3 → p j ≡ true
@@ -111,8 +113,8 @@ variant-facts w v h =
     below-three p a b c (suc (suc zero)) l = c
     below-three p a b c (suc (suc (suc j))) l = absurd (omega arith)
 
-pub variants-in : (w : List ℤ) (s : Sizes) → s .n ≤ firstFail (variantOk w) (s .n) → VariantsIn w s
-variants-in w s h = record { each = λ v l. variant-facts w v (first-all (variantOk w) (s .n) h v l) }
+pub variants-in : (w : List ℤ) (h : List ℕ) (s : Sizes) → s .n ≤ firstFail (variantOk w h) (s .n) → VariantsIn w s
+variants-in w h s k = record { each = λ v l. variant-facts w h v (first-all (variantOk w h) (s .n) k v l) }
 
 -- positions do not fall
 pub pos0-up : {w : List ℤ} {s : Sizes} → VariantsIn w s → (v : ℕ) → suc v < s .n → pos0At w v ≤ pos0At w (suc v)
@@ -121,8 +123,12 @@ pos0-up {w} k v h =
     let q : leZ (variantWord w v pos0Field) (variantWord w (suc v) pos0Field) ≡ true = rw (ne-eqb (suc v) 0 (λ z. omega arith), e) at (k .each (suc v) h .rises) in
     nat-le (variantWord w v pos0Field) (variantWord w (suc v) pos0Field) (k .each v (omega arith) .pos-in) q
 
--- where the code's tests of a variant, on numbers, are the definition's
-pub variant-tests : (w : List ℤ) (v : ℕ) → variantOk w v ≡ (
+-- where there are no haplotypes, nothing is asked of them
+none-left : (w : List ℤ) (v i : ℕ) → haplotypeOk w [] v i ≡ true
+none-left w v i = rw (le-ltb (2 * v + i) 0 (omega arith)) refl
+
+-- where the code's tests of a variant's record, on numbers, are the definition's
+pub variant-tests : (w : List ℤ) (v : ℕ) → variantOk w [] v ≡ (
     leZ (pos 0) (variantWord w v pos0Field)
     && (leZ (priorPos0At w v) (variantWord w v pos0Field)
     && (leZ (pos 0) (variantWord w v depthField)
@@ -133,11 +139,37 @@ pub variant-tests : (w : List ℤ) (v : ℕ) → variantOk w v ≡ (
 unfolding variantOk
 variant-tests w v =
     let k = within-nat 1 maxAlleles (variantWord w v alleleCountField) (lit< tt) in
-    rw (length-nat w v 0, length-nat w v 1, length-nat w v 2, k)
+    rw (none-left w v 0, none-left w v 1, and-true (lengthOk w v 2), length-nat w v 0, length-nat w v 1, length-nat w v 2, k)
     (ap (λ (b : Bool). leZ (pos 0) (variantWord w v pos0Field) && (leZ (priorPos0At w v) (variantWord w v pos0Field) && (leZ (pos 0) (variantWord w v depthField) && b)))
     (and-when (leb 1 (alleleCountAt w v) && leb (alleleCountAt w v) maxAlleles) _ _ (λ h.
     let top : alleleCountAt w v ≤ none = omega (arith, leb-true (alleleCountAt w v) maxAlleles (both (leb 1 (alleleCountAt w v)) (leb (alleleCountAt w v) maxAlleles) h .1)) in
     rw (below-nat (alleleCountAt w v) (variantWord w v (genotypeField + 0)) top, below-nat (alleleCountAt w v) (variantWord w v (genotypeField + 1)) top))))
+  where
+    and-true : (b : Bool) → (b && true) ≡ b
+    and-true true = refl
+    and-true false = refl
+
+-- the record's tests, and those of its haplotypes
+pub variant-and-haplotypes : (w : List ℤ) (h : List ℕ) (v : ℕ) → variantOk w h v ≡ (variantOk w [] v && (haplotypeOk w h v 0 && haplotypeOk w h v 1))
+unfolding variantOk
+variant-and-haplotypes w h v = rw (none-left w v 0, none-left w v 1) (last-two (
+    leZ (pos 0) (variantWord w v pos0Field)
+    ∷ leZ (priorPos0At w v) (variantWord w v pos0Field)
+    ∷ leZ (pos 0) (variantWord w v depthField)
+    ∷ within (pos 1) (pos maxAlleles) (variantWord w v alleleCountField)
+    ∷ below (alleleCountAt w v) (variantWord w v (genotypeField + 0))
+    ∷ below (alleleCountAt w v) (variantWord w v (genotypeField + 1))
+    ∷ lengthOk w v 0
+    ∷ lengthOk w v 1
+    ∷ lengthOk w v 2
+    ∷ []) (haplotypeOk w h v 0) (haplotypeOk w h v 1))
+  where
+    last-two : (bs : List Bool) (x y : Bool) → allOf (bs ++ (x ∷ y ∷ [])) ≡ (allOf (bs ++ (true ∷ true ∷ [])) && (x && y))
+    last-two [] x y = refl
+    last-two (true ∷ []) x y = refl
+    last-two (false ∷ []) x y = refl
+    last-two (true ∷ c ∷ bs) x y = last-two (c ∷ bs) x y
+    last-two (false ∷ c ∷ bs) x y = refl
 
 -- ---- a call
 pub call-facts : (w : List ℤ) (s : Sizes) (r : ℕ) → callOk w s r ≡ true → CallIn w s r
@@ -148,13 +180,12 @@ call-facts w s r h =
     let c = both (within lowestQuality (pos 0) (qualAt w s r)) (within lowestQuality (pos 0) (oneMinusQualAt w s r)) (b .1) in
     record { variant-in = below-less _ _ (a .0); allele-in = below-less _ _ (b .0); qual-in = c .0; other-in = c .1 }
 
--- where its variant is one of the case, the code's tests are the definition's
-pub call-tests : (w : List ℤ) (s : Sizes) (r : ℕ) → Sized w s → VariantsIn w s → callVariantAt w s r < s .n → callOk w s r ≡ (
-    ltb (calledAlleleAt w s r) (alleleCountAt w (callVariantAt w s r)) && (within lowestQuality (pos 0) (qualAt w s r) && within lowestQuality (pos 0) (oneMinusQualAt w s r)))
-unfolding callOk
-call-tests w s r z k h =
-    rw (below-nat (s .n) (callWord w s r variantField) (omega (arith, z .n-top)), lt-ltb (callVariantAt w s r) (s .n) h, below-nat (alleleCountAt w (callVariantAt w s r)) (callWord w s r alleleField) (omega (arith, k .each (callVariantAt w s r) h .k-high)))
+-- where its variant is one of the case, the code's tests of a call's four words are the definition's
+module _ (w : List ℤ) (s : Sizes) (variant allele qual one-minus-qual : ℤ) (z : Sized w s) where
+  pub call-tests : VariantsIn w s → natOf variant < s .n → callWordsOk w s variant allele qual one-minus-qual ≡ (
+      ltb (natOf allele) (alleleCountAt w (natOf variant)) && (within lowestQuality (pos 0) qual && within lowestQuality (pos 0) one-minus-qual))
+  call-tests k h =
+      rw (below-nat (s .n) variant (omega (arith, z .n-top)), lt-ltb (natOf variant) (s .n) h, below-nat (alleleCountAt w (natOf variant)) allele (omega (arith, k .each (natOf variant) h .k-high)))
 
-pub call-off : (w : List ℤ) (s : Sizes) (r : ℕ) → Sized w s → s .n ≤ callVariantAt w s r → false ≡ callOk w s r
-unfolding callOk
-call-off w s r z h = rw (below-nat (s .n) (callWord w s r variantField) (omega (arith, z .n-top)), le-ltb (callVariantAt w s r) (s .n) h)
+  pub call-off : s .n ≤ natOf variant → false ≡ callWordsOk w s variant allele qual one-minus-qual
+  call-off h = rw (below-nat (s .n) variant (omega (arith, z .n-top)), le-ltb (natOf variant) (s .n) h)

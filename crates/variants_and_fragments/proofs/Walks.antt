@@ -13,11 +13,9 @@ use lib.Seq.{getD-set-same, getD-set-other}
 use lib.IntN.{ℤ}
 use lib.Dec.{eqb}
 use Rattle.variants_and_fragments.specs.declared.Sizes.{Sizes}
-use Rattle.variants_and_fragments.specs.Chain.{nextCallAt, linkOk, chainFrom, chainOf, memb, reached, goodChain, isReached}
-use Rattle.variants_and_fragments.specs.Inner.Chain.{firstRecordAt, Walked, flag, Marked, markedAt}
-use Rattle.variants_and_fragments.proofs.Chain.{link-top, first-top, first-chain}
-use Rattle.variants_and_fragments.specs.First.{firstFail}
-use Rattle.variants_and_fragments.proofs.First.{first-cong}
+use Rattle.variants_and_fragments.specs.Chain.{firstCallAt, nextCallAt, linkOk, chainFrom, chainOf, memb, reached, goodChain}
+use Rattle.variants_and_fragments.specs.Inner.Chain.{recordOf, firstRecordAt, Walked, flag, Marked}
+use Rattle.variants_and_fragments.proofs.Chain.{link-top, record-top, record-chain}
 
 -- ---- chainFrom
 pub chain-end : (w : List ℤ) (s : Sizes) (j r : ℕ) → r ≡ 0 → chainFrom w s j r ≡ []
@@ -30,11 +28,11 @@ unfolding chainFrom
 chain-none w s zero r e = refl
 chain-none w s (suc j) r e = absurd (omega arith)
 
-pub chain-on : (w : List ℤ) (s : Sizes) (j r : ℕ) → 1 ≤ r → r ≤ s .c → chainFrom w s (suc j) r ≡ r ∷ chainFrom w s j (nextCallAt w s r)
+pub chain-on : (w : List ℤ) (s : Sizes) (j r : ℕ) → 1 ≤ r → r ≤ s .used → chainFrom w s (suc j) r ≡ r ∷ chainFrom w s j (nextCallAt w s r)
 unfolding chainFrom
-chain-on w s j r lo hi = simp (le-leb 1 r lo, le-leb r (s .c) hi)
+chain-on w s j r lo hi = simp (le-leb 1 r lo, le-leb r (s .used) hi)
 
-pub chain-step : (w : List ℤ) (s : Sizes) (k r : ℕ) → k < s .c → 1 ≤ r → r ≤ s .c
+pub chain-step : (w : List ℤ) (s : Sizes) (k r : ℕ) → k < s .c → 1 ≤ r → r ≤ s .used
     → chainFrom w s (s .c - k) r ≡ r ∷ chainFrom w s (s .c - (k + 1)) (nextCallAt w s r)
 chain-step w s k r h lo hi = let e : s .c - k ≡ suc (s .c - (k + 1)) = omega arith in rw e (chain-on w s (s .c - (k + 1)) r lo hi)
 
@@ -84,7 +82,7 @@ mark-more {seen} {l} r h m = record {
 -- ---- the loop's invariant
 pub record Walking (w : List ℤ) (s : Sizes) (f : ℕ) (seen : List ℕ) (r k : ℕ) : Type 0 where
   pub acc : List ℕ
-  pub r-top : r ≤ s .c
+  pub r-top : r ≤ s .used
   pub k-top : k ≤ s .c
   pub now-marked : Marked seen acc
   pub good : goodChain w s (reached w s f) (chainOf w s f) ≡ goodChain w s acc (chainFrom w s (s .c - k) r)
@@ -94,14 +92,14 @@ pub walk-start : (w : List ℤ) (s : Sizes) (f : ℕ) (seen : List ℕ) (r : ℕ
 unfolding chainOf reached
 walk-start w s f seen r e m = record {
   acc = reached w s f;
-  r-top = omega (arith, first-top w s f);
+  r-top = omega (arith, record-top s (firstCallAt w s f));
   k-top = omega arith;
   now-marked = m;
-  good = rw (e, sub-zero, first-chain);
-  has = λ x. rw (e, sub-zero, first-chain);
+  good = rw (e, sub-zero, record-chain);
+  has = λ x. rw (e, sub-zero, record-chain);
 }
 
-module _ {w : List ℤ} {s : Sizes} {f : ℕ} {seen : List ℕ} {r k : ℕ} (c-top : s .c ≤ 16384) (i : Walking w s f seen r k) where
+module _ {w : List ℤ} {s : Sizes} {f : ℕ} {seen : List ℕ} {r k : ℕ} (c-top : s .used ≤ 16384) (i : Walking w s f seen r k) where
   -- the chain ends
   pub walk-done : chainFrom w s (s .c - k) r ≡ [] → Walked w s f seen true
   unfolding goodChain
@@ -152,14 +150,6 @@ module _ {w : List ℤ} {s : Sizes} {f : ℕ} {seen : List ℕ} {r k : ℕ} (c-t
 -- ---- after the walks
 pub reached-at : (w : List ℤ) (s : Sizes) (seen : List ℕ) (f g : ℕ) → f ≡ g → Marked seen (reached w s f) → Marked seen (reached w s g)
 reached-at w s seen f g e m = subst (λ (x : ℕ). Marked seen (reached w s x)) e m
-
-flag-eq : (b : Bool) → eqb (flag b) 1 ≡ b
-flag-eq true = refl
-flag-eq false = refl
-
-pub reached-first : (w : List ℤ) (s : Sizes) (seen : List ℕ) → s .c ≤ 16384 → Marked seen (reached w s (s .f)) → firstFail (markedAt seen) (s .c) ≡ firstFail (isReached w s) (s .c)
-unfolding isReached
-reached-first w s seen h m = first-cong _ _ _ (λ j l. rw (m .marks (j + 1) (omega arith)) (flag-eq _))
 
 the-zero : ℕ
 the-zero = 0

@@ -5,7 +5,7 @@ use mathlib.Core.Bool.{Bool, true, cond, _&&_}
 use mathlib.Core.List.{List, [], _∷_}
 use Prim.Native.Nat.{ℕ, _+_, _*_, _-_}
 use lib.IntN.{ℤ, pos, negℤ}
-use lib.ListN.{length, getD}
+use lib.ListN.{length, getD, set}
 use lib.Signed.{leZ}
 use lib.Dec.{ltb, eqb}
 use Rattle.variants_and_fragments.specs.declared.Sizes.{Sizes}
@@ -133,6 +133,16 @@ fragmentWord w s f field = word w (fragmentAt s f + field)
 abbrev pub callWord : List ℤ → Sizes → ℕ → ℕ → ℤ
 callWord w s r field = word w (callAt s r + field)
 
+-- the words with z in a field of the head, of fragment f and of call r
+abbrev pub headSet : List ℤ → ℕ → ℤ → List ℤ
+headSet w field z = set w field z
+
+abbrev pub fragmentSet : List ℤ → Sizes → ℕ → ℕ → ℤ → List ℤ
+fragmentSet w s f field z = set w (fragmentAt s f + field) z
+
+abbrev pub callSet : List ℤ → Sizes → ℕ → ℕ → ℤ → List ℤ
+callSet w s r field z = set w (callAt s r + field) z
+
 -- the numbers of variant v; the genotype's two alleles are i = 0 and 1, the allele lengths j = 0, 1 and 2
 abbrev pub pos0At : List ℤ → ℕ → ℕ
 pos0At w v = natOf (variantWord w v pos0Field)
@@ -215,9 +225,12 @@ unfoldable pub variantOk : List ℤ → List ℕ → ℕ → Bool
 variantOk w h v = allOf (variantTests w h v)
 
 -- ---- 4, a call record
--- its variant is one of the case, its allele below that variant's k, and both qualities are in −262144..0
+-- of the first four words of a record: its variant is one of the case, its allele below that variant's k, and both qualities are in −262144..0
+abbrev pub callWordsOk : List ℤ → Sizes → ℤ → ℤ → ℤ → ℤ → Bool
+callWordsOk w s variant allele qual one-minus-qual =
+    below (s .n) variant
+    && (below (alleleCountAt w (natOf variant)) allele
+    && (within lowestQuality (pos 0) qual && within lowestQuality (pos 0) one-minus-qual))
+
 unfoldable pub callOk : List ℤ → Sizes → ℕ → Bool
-callOk w s r =
-    below (s .n) (callWord w s r variantField)
-    && (below (alleleCountAt w (callVariantAt w s r)) (callWord w s r alleleField)
-    && (within lowestQuality (pos 0) (qualAt w s r) && within lowestQuality (pos 0) (oneMinusQualAt w s r)))
+callOk w s r = callWordsOk w s (callWord w s r variantField) (callWord w s r alleleField) (qualAt w s r) (oneMinusQualAt w s r)

@@ -1,0 +1,118 @@
+-- Request 1: what `arrive` and `depart` answer and write. The order of the tests is document 01's, then the ranges before, the arriving calls, 13,
+-- 14, and the ranges after.
+-- Assumes nothing.
+use mathlib.Core.Bool.{Bool, false, not, _&&_}
+use mathlib.Core.List.{List, [], _∷_}
+use Prim.Native.Nat.{ℕ, _+_, _*_}
+use lib.Dec.{eqb, ltb, leb}
+use lib.IntN.{ℤ, pos}
+use lib.ListN.{length}
+use Rattle.variants_and_fragments.specs.declared.Sizes.{Sizes}
+use Rattle.variants_and_fragments.specs.Case.{Case, fragmentOf}
+use Rattle.variants_and_fragments.specs.Check.{checkCaseAndHaplotypesOutcome}
+use Rattle.variants_and_fragments.specs.Decode.{decode}
+use Rattle.variants_and_fragments.specs.Layout.{sizesOf}
+use Rattle.variants_and_fragments.specs.Refusals.{Outcome, done, refusal, unless, each, andThen, longEnough, Promise}
+use Rattle.variants_and_fragments.specs.Words.{within}
+use Rattle.haplotype_assembly.specs.Phase.{phasedFlags}
+use Rattle.late_reads.specs.declared.Updated.{Updated}
+use Rattle.late_reads.specs.declared.Updated.the-variants.{Unsettled, Refused}
+use Rattle.late_reads.specs.Values.{Values, values, inRange, Fixed, arrived, departed}
+use Rattle.late_reads.specs.Arriving.{arrivingWords, wholeCalls, arrivingRead, arrivingOk, arrivingRises, arrivedWords, departedWords}
+
+-- what both operations read: the case, the phase bytes, the haplotypes, the values, and the fragment's number
+pub record LateInput : Type 0 where
+  pub words : List ℤ
+  pub bases : List ℕ
+  pub phase : List ℕ
+  pub haplotypes : List ℕ
+  pub kept : Values
+  pub fragment : ℕ
+
+abbrev pub lateInput : List ℤ → List ℕ → List ℕ → List ℕ → Values → ℕ → LateInput
+lateInput words bases phase haplotypes kept fragment =
+    record { words = words; bases = bases; phase = phase; haplotypes = haplotypes; kept = kept; fragment = fragment }
+
+abbrev pub caseOf : LateInput → Case
+caseOf input = decode (input .words) (input .bases)
+
+abbrev pub fixedOf : LateInput → Fixed
+fixedOf input = record { cutoff = caseOf input .cutoff; phased = phasedFlags (caseOf input) (input .phase); haps = input .haplotypes }
+
+-- "An accepted arrival or departure answers unsettled", and the new total
+pub record LateAnswer : Type 0 where
+  pub settled : Bool
+  pub total : ℤ
+
+abbrev pub unsettled : Values → LateAnswer
+unsettled after = record { settled = false; total = after .total }
+
+-- the answer as an outcome
+unfoldable pub outcomeOf : Updated → Outcome LateAnswer
+outcomeOf (Unsettled total) = done (record { settled = false; total = total .0 })
+outcomeOf (Refused x) = refusal x
+
+-- 1 to 5, the case, where 2 looks at the haplotypes too; 7, the phase bytes; 10, 2 N haplotypes, 2 F likelihoods and 10 N counts; 10 at place
+-- 0, the values lent
+unfoldable pub keptOutcome : LateInput → Outcome Sizes
+keptOutcome input =
+    andThen (checkCaseAndHaplotypesOutcome (input .words) (input .bases) (input .haplotypes)) (λ s.
+    unless (eqb (length (input .phase)) (s .n)) 7 (s .n)
+    (longEnough ((2 * s .n, length (input .haplotypes)) ∷ (2 * s .f, length (input .kept .likelihoods)) ∷ (10 * s .n, length (input .kept .counts)) ∷ [])
+    (unless (inRange (s .n) (s .f) (input .kept)) 10 0
+    (done s))))
+
+-- ---- the lent slices that are written
+pub record LateSlices : Type 0 where
+  pub words : List ℤ
+  pub likelihoods : List ℤ
+  pub counts : List ℤ
+
+abbrev pub lateSlices : List ℤ → List ℤ → List ℤ → LateSlices
+lateSlices words likelihoods counts = record { words = words; likelihoods = likelihoods; counts = counts }
+
+abbrev pub lentSlices : LateInput → LateSlices
+lentSlices input = lateSlices (input .words) (input .kept .likelihoods) (input .kept .counts)
+
+-- ---- an arrival, with its strand and its calls
+module _ (input : LateInput) (strand : ℤ) (calls : List ℤ) where
+  unfoldable pub arrivedValues : Values
+  arrivedValues = arrived (fixedOf input) (length (caseOf input .variants)) (input .fragment) (arrivingRead strand calls) (input .kept)
+
+  -- then the arriving calls: 4 and 5 at the first wrong one, 5 at their number for a broken length or a strand that the layout lacks; 13, the
+  -- number is below F and its fragment absent; 14, room; 10 at place 0, what would be written
+  unfoldable pub arriveOutcome : Outcome LateAnswer
+  arriveOutcome = andThen (keptOutcome input) (λ s.
+      let m = wholeCalls calls in
+      each 4 (arrivingOk (input .words) s calls) 0 m
+      (each 5 (arrivingRises calls) 0 m
+      (unless (eqb (length calls) (arrivingWords * m) && within (pos 0) (pos 1) strand) 5 m
+      (unless (ltb (input .fragment) (s .f) && not (fragmentOf (caseOf input) (input .fragment) .present)) 13 (input .fragment)
+      (unless (leb (s .used + m) (s .c)) 14 m
+      (unless (inRange (s .n) (s .f) arrivedValues) 10 0
+      (done (unsettled arrivedValues))))))))
+
+  unfoldable pub arriveWritten : LateSlices
+  arriveWritten = lateSlices (arrivedWords (input .words) (sizesOf (input .words)) (input .fragment) strand calls) (arrivedValues .likelihoods) (arrivedValues .counts)
+
+-- the promise, of the slices lent
+abbrev pub Arrive : LateInput → ℤ → List ℤ → Outcome LateAnswer → LateSlices → Type 0
+Arrive input strand calls answer after = Promise (arriveOutcome input strand calls) (arriveWritten input strand calls) (lentSlices input) answer after
+
+-- ---- a departure
+module _ (input : LateInput) where
+  unfoldable pub departedValues : Values
+  departedValues = departed (caseOf input .cutoff) (length (caseOf input .variants)) (input .fragment) (fragmentOf (caseOf input) (input .fragment)) (input .kept)
+
+  -- 13, the fragment is present; 10 at place 0, what would be written
+  unfoldable pub departOutcome : Outcome LateAnswer
+  departOutcome = andThen (keptOutcome input) (λ s.
+      unless (fragmentOf (caseOf input) (input .fragment) .present) 13 (input .fragment)
+      (unless (inRange (s .n) (s .f) departedValues) 10 0
+      (done (unsettled departedValues))))
+
+  unfoldable pub departWritten : LateSlices
+  departWritten = lateSlices (departedWords (input .words) (sizesOf (input .words)) (input .fragment)) (departedValues .likelihoods) (departedValues .counts)
+
+abbrev pub Depart : LateInput → Outcome LateAnswer → LateSlices → Type 0
+Depart input answer after = Promise (departOutcome input) (departWritten input) (lentSlices input) answer after
