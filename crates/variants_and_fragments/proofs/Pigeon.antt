@@ -160,7 +160,7 @@ unfolding memb
 memb-right r [] l h = h
 memb-right r (x ∷ rs) l h = or-right (eqb r x) (memb r (rs ++ l)) (memb-right r rs l h)
 
-reached-has : (w : List ℤ) (s : Sizes) (r f g : ℕ) → f < g → memb r (chainOf w s f) ≡ true → memb r (reached w s g) ≡ true
+pub reached-has : (w : List ℤ) (s : Sizes) (r f g : ℕ) → f < g → memb r (chainOf w s f) ≡ true → memb r (reached w s g) ≡ true
 unfolding reached
 reached-has w s r f zero l h = absurd (omega arith)
 reached-has w s r f (suc g) l h = elim (ℕ-discrete f g) [
