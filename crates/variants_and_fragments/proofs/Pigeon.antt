@@ -150,12 +150,12 @@ chains-top w s k f l =
     omega (arith, pigeon (s .used) (reached w s f) (r .0) (r .1), reached-length w s f)
 
 -- ---- a record lies in one chain at most
-memb-left : (r : ℕ) (rs l : List ℕ) → memb r rs ≡ true → memb r (rs ++ l) ≡ true
+pub memb-left : (r : ℕ) (rs l : List ℕ) → memb r rs ≡ true → memb r (rs ++ l) ≡ true
 unfolding memb
 memb-left r [] l h = true-false h refl
 memb-left r (x ∷ rs) l h = elim (ℕ-discrete r x) [ yes e ↦ rw (eq-eqb r x e) | no e ↦ or-right (eqb r x) (memb r (rs ++ l)) (memb-left r rs l (rw (ne-eqb r x e) at h)) ]
 
-memb-right : (r : ℕ) (rs l : List ℕ) → memb r l ≡ true → memb r (rs ++ l) ≡ true
+pub memb-right : (r : ℕ) (rs l : List ℕ) → memb r l ≡ true → memb r (rs ++ l) ≡ true
 unfolding memb
 memb-right r [] l h = h
 memb-right r (x ∷ rs) l h = or-right (eqb r x) (memb r (rs ++ l)) (memb-right r rs l h)
