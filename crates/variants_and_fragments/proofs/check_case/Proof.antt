@@ -5,6 +5,9 @@ use Rattle.variants_and_fragments.specs.Check.{checkCaseOutcome}
 use Rattle.variants_and_fragments.proofs.check_case.Statement.{statement}
 use Rattle.variants_and_fragments.proofs.check_case.Tie as tie
 
+slice-aggregate-check-case-and-haplotypes : tie.Need-slice-aggregate-check-case-and-haplotypes
+slice-aggregate-check-case-and-haplotypes c = search needs
+
 check-case-and-haplotypes-requires : tie.Need-check-case-and-haplotypes-requires
 check-case-and-haplotypes-requires c κs = search needs
 
@@ -13,4 +16,6 @@ unfolding checkCaseOutcome
 returns c = c .check-case-and-haplotypes .ensures
 
 pub check-case-spec : {M : Type 1} → statement M
-check-case-spec = tie.close (tie.spec check-case-and-haplotypes-requires returns)
+check-case-spec =
+    tie.close
+    (tie.spec slice-aggregate-check-case-and-haplotypes check-case-and-haplotypes-requires returns)

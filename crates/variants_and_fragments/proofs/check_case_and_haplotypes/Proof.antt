@@ -51,7 +51,7 @@ abbrev checked : tie.Start → Outcome Sizes
 checked st = checkCaseAndHaplotypesOutcome (W st) (A st) (H st)
 
 abbrev st1 : tie.Else1 → tie.Start
-st1 c = c .before .before .before
+st1 c = c .before .before .before .before
 
 abbrev st2 : tie.After-read-sizes → tie.Start
 st2 c = st1 (c .before)
@@ -110,7 +110,7 @@ returns : tie.Need-returns
 unfolding checkCaseAndHaplotypesOutcome outcomeOf
 returns c =
     let p = c .before .head-fault .ensures in
-    ap (refused 1) p ∙ unless-at _ 1 _ _ (lt-leb 6 (headFault (W (c .before .before .before))) (rw p at (c .if1 .taken))) ∙ head-lines _ _
+    ap (refused 1) p ∙ unless-at _ 1 _ _ (lt-leb 6 (headFault (W (c .before .before .before .before))) (rw p at (c .if1 .taken))) ∙ head-lines _ _
 
 read-sizes-requires : tie.Need-read-sizes-requires
 read-sizes-requires c κs = head-long (W (st1 c)) (past c)
