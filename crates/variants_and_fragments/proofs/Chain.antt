@@ -84,6 +84,9 @@ module _ (w : List ℤ) (s : Sizes) (f : ℕ) where
     frag-in h = simp (strand-test, le-leb (strandAt w s f) 1 strand-in, h)
 
 -- ---- where a chain starts, and where it goes on
+pub record-bounds : (s : Sizes) (r : ℕ) → isRecord s r ≡ true → (1 ≤ r) × (r ≤ s .used)
+record-bounds s r h = let b = both (leb 1 r) (leb r (s .used)) h in (leb-true 1 r (b .0), leb-true r (s .used) (b .1))
+
 pub record-none : (s : Sizes) (t : ℕ) → s .used < t → 0 ≡ recordOf s t
 unfolding recordOf
 record-none s t h = simp (lt-leb _ _ h)
@@ -115,4 +118,4 @@ all-chain w s p h (suc k) r = go (isRecord s r) refl (all-chain w s p h k (nextC
   where
     go : (t : Bool) → isRecord s r ≡ t → allb p (chainFrom w s k (nextCallAt w s r)) ≡ true → allb p (cond t (r ∷ chainFrom w s k (nextCallAt w s r)) []) ≡ true
     go false e i = refl
-    go true e i = let b = both (leb 1 r) (leb r (s .used)) e in rw (h r (leb-true 1 r (b .0)) (leb-true r (s .used) (b .1))) i
+    go true e i = let b = record-bounds s r e in rw (h r (b .0) (b .1)) i
