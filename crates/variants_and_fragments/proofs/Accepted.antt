@@ -1,40 +1,41 @@
 -- What an accepted case gives: no test of the check stopped, so every test holds of the head, of each variant, byte, call and fragment.
 -- Assumes nothing.
-use mathlib.Core.Path.{_≡_, refl, _∙_}
+use mathlib.Core.Path.{_≡_, refl, sym, _∙_, subst}
 use mathlib.Core.Bool.{true}
-use mathlib.Core.List.{List}
-use Prim.Native.Nat.{ℕ, _+_, _≤_}
+use mathlib.Core.List.{List, []}
+use Prim.Native.Nat.{ℕ, _+_, _*_, _≤_, _<_}
 use native.Mathlib.Omega.{arith}
-use borrow.Author.Tests.{leb-true, eqb-true}
+use borrow.Author.Tests.{le-leb, leb-true, eq-eqb, eqb-true}
 use lib.Dec.{leb}
 use lib.IntN.{ℤ}
-use lib.ListN.{length}
+use lib.ListN.{length, getD}
 use Rattle.variants_and_fragments.specs.declared.Sizes.{Sizes}
 use Rattle.variants_and_fragments.specs.Refusals.{done}
 use Rattle.variants_and_fragments.specs.First.{firstFailFrom, firstFail}
-use Rattle.variants_and_fragments.specs.Layout.{sizesOf, variantOk, callOk}
-use Rattle.variants_and_fragments.specs.Chain.{firstCallAt, chainOf, fragmentOk}
+use Rattle.variants_and_fragments.specs.Layout.{sizesOf, alleleCountAt, variantOk, callOk}
+use Rattle.variants_and_fragments.specs.Chain.{chainOf, isReached, reachedCallOk, fragmentOk}
 use Rattle.variants_and_fragments.specs.Alleles.{allelesStart, allelesOk}
-use Rattle.variants_and_fragments.specs.Check.{checkCaseOutcome}
+use Rattle.variants_and_fragments.specs.Check.{checkCaseAndHaplotypesOutcome, checkCaseOutcome}
 use Rattle.variants_and_fragments.specs.Inner.Head.{headFault}
-use Rattle.variants_and_fragments.specs.Inner.Accepted.{FragmentIn, CaseIn, BasesIn}
-use Rattle.variants_and_fragments.proofs.First.{from-all, first-all}
-use Rattle.variants_and_fragments.proofs.Outcomes.{unless-past, each-past}
+use Rattle.variants_and_fragments.specs.Inner.Accepted.{allb, FragmentIn, CaseIn, BasesIn}
+use Rattle.variants_and_fragments.proofs.First.{from-all, first-all, all-from}
+use Rattle.variants_and_fragments.proofs.Outcomes.{unless-on, unless-past, each-on, each-past}
 use Rattle.variants_and_fragments.proofs.Heads.{head-lines}
-use Rattle.variants_and_fragments.proofs.Records.{head-in, head-sized, variants-in}
+use Rattle.variants_and_fragments.proofs.Records.{head-in, head-sized, variants-in, haplotype-facts, variant-alone}
 use Rattle.variants_and_fragments.proofs.AlleleBytes.{base-at}
-use Rattle.variants_and_fragments.proofs.Chain.{fragment-tests, all-chain}
+use Rattle.variants_and_fragments.proofs.Chain.{fragment-tests, chain-record, all-memb}
+use Rattle.variants_and_fragments.proofs.Pigeon.{reached-has}
 
--- no test stopped
-record Passed (w : List ℤ) (b h : List ℕ) (s : Sizes) : Type 0 where
-  head : 6 ≤ headFault w
-  variants : s .n ≤ firstFail (variantOk w h) (s .n)
-  size : length b ≡ allelesStart w (s .n)
-  bytes : s .n ≤ firstFail (allelesOk w b) (s .n)
-  calls : 1 + s .used ≤ firstFailFrom (reachedCallOk w s) 1 (s .used)
-  frags : s .f ≤ firstFail (fragmentOk w s) (s .f)
+-- no test stops
+pub record Passed (w : List ℤ) (b h : List ℕ) (s : Sizes) : Type 0 where
+  pub head : 6 ≤ headFault w
+  pub variants : s .n ≤ firstFail (variantOk w h) (s .n)
+  pub size : length b ≡ allelesStart w (s .n)
+  pub bytes : s .n ≤ firstFail (allelesOk w b) (s .n)
+  pub calls : 1 + s .used ≤ firstFailFrom (reachedCallOk w s) 1 (s .used)
+  pub frags : s .f ≤ firstFail (fragmentOk w s) (s .f)
 
-passed : (w : List ℤ) (b h : List ℕ) (s : Sizes) → checkCaseAndHaplotypesOutcome w b h ≡ done s → (s ≡ sizesOf w) × Passed w b h (sizesOf w)
+pub passed : (w : List ℤ) (b h : List ℕ) (s : Sizes) → checkCaseAndHaplotypesOutcome w b h ≡ done s → (s ≡ sizesOf w) × Passed w b h (sizesOf w)
 unfolding checkCaseAndHaplotypesOutcome firstFail
 passed w b h s ok =
     let h1 = unless-past (leb 6 (headFault w)) 1 (headFault w) _ s (head-lines w _ ∙ ok) in
@@ -45,6 +46,18 @@ passed w b h s ok =
     let h6 = each-past 5 _ 0 _ _ s (h5 .1) in
     let e : s ≡ sizesOf w = cc in
     (e, record { head = leb-true _ _ (h1 .0); variants = omega (arith, h2 .0); size = eqb-true _ _ (h3 .0); bytes = omega (arith, h4 .0); calls = h5 .0; frags = omega (arith, h6 .0) })
+
+-- and the other way round
+pub accepts : (w : List ℤ) (b h : List ℕ) → Passed w b h (sizesOf w) → done (sizesOf w) ≡ checkCaseAndHaplotypesOutcome w b h
+unfolding checkCaseAndHaplotypesOutcome firstFail
+accepts w b h p =
+    each-on 5 _ 0 _ _ (omega (arith, p .frags))
+    ∙ each-on 4 _ 1 _ _ (p .calls)
+    ∙ each-on 3 _ 0 _ _ (omega (arith, p .bytes))
+    ∙ unless-on _ 3 _ _ (eq-eqb _ _ (p .size))
+    ∙ each-on 2 _ 0 _ _ (omega (arith, p .variants))
+    ∙ unless-on (leb 6 (headFault w)) 1 (headFault w) _ (le-leb _ _ (p .head))
+    ∙ head-lines w _
 
 -- a record that is reached is right
 reached-right : (w : List ℤ) (s : Sizes) (r : ℕ) → reachedCallOk w s r ≡ true → isReached w s r ≡ true → callOk w s r ≡ true
@@ -101,4 +114,10 @@ haplotypes-in w b h s ok v i l m long =
 
 -- a case that is accepted with haplotypes is accepted without
 pub checked-case : (w : List ℤ) (b h : List ℕ) (s : Sizes) → checkCaseAndHaplotypesOutcome w b h ≡ done s → checkCaseOutcome w b ≡ done s
-checked-case w b h s ok = ?
+unfolding checkCaseOutcome firstFail
+checked-case w b h s ok =
+    let p = passed w b h s ok in
+    let q = p .1 in
+    let z = sizesOf w in
+    let right = all-from (variantOk w []) 0 (z .n) (λ v lo l. variant-alone w h v (first-all (variantOk w h) (z .n) (q .variants) v (omega arith))) in
+    rw (p .0) (sym (accepts w b [] (record { head = q .head; variants = omega (arith, right); size = q .size; bytes = q .bytes; calls = q .calls; frags = q .frags })))

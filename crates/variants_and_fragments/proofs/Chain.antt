@@ -4,18 +4,19 @@ use mathlib.Core.Path.{_≡_, refl}
 use mathlib.Core.Bool.{Bool, true, false, cond, _&&_, and-false}
 use Prim.Native.Nat.{ℕ, zero, suc, _+_, _≤_, _<_}
 use native.Mathlib.Omega.{arith}
-use native.Mathlib.Decide.{decLt}
+use native.Mathlib.Decide.{decLt, ℕ-discrete}
 use mathlib.Core.List.{List, [], _∷_}
 use lib.IntN.{ℤ, pos, negsuc}
-use lib.Dec.{leb, ltb, lit<}
+use lib.Dec.{leb, ltb, eqb, lit<}
 use borrow.Author.Tests.{lt-ltb, le-leb, lt-leb, eq-eqb, ne-eqb, leb-true, ltb-true}
 use Rattle.variants_and_fragments.specs.declared.Sizes.{Sizes}
 use Rattle.variants_and_fragments.specs.Words.{within}
 use Rattle.variants_and_fragments.specs.Layout.{maxCalls, firstField, strandField, nextField, fragmentWord, callWord, callVariantAt}
-use Rattle.variants_and_fragments.specs.Chain.{firstCallAt, strandAt, nextCallAt, chainFrom, chainOf, isRecord, reached, linkOk, goodChain, fragmentOk}
+use Rattle.variants_and_fragments.specs.Chain.{firstCallAt, strandAt, nextCallAt, chainFrom, chainOf, isRecord, memb, reached, linkOk, goodChain, fragmentOk}
+use Rattle.variants_and_fragments.specs.Inner.Layout.{Sized}
 use Rattle.variants_and_fragments.specs.Inner.Chain.{recordOf}
 use Rattle.variants_and_fragments.specs.Inner.Accepted.{allb}
-use Rattle.variants_and_fragments.proofs.Bools.{both}
+use Rattle.variants_and_fragments.proofs.Bools.{both, or-right, true-false}
 use Rattle.variants_and_fragments.proofs.Ranges.{upto-nat, within-top}
 
 -- ---- a link
@@ -33,9 +34,12 @@ module _ (w : List ℤ) (s : Sizes) (r : ℕ) where
       let k : (ltb r t && up) ≡ true = rw (ne-eqb t 0 (λ e. omega arith)) at (both (within (pos 0) (pos (s .used)) (callWord w s r nextField)) _ h .1) in
       ltb-true _ _ (both (ltb r t) up k .1)
 
-  module _ (top : s .used ≤ maxCalls) where
+  module _ (z : Sized w s) where
+    top : s .used ≤ maxCalls
+    top = omega (arith, z .used-top, z .c-top)
+
     next-in : within (pos 0) (pos (s .used)) (callWord w s r nextField) ≡ leb (nextCallAt w s r) (s .used)
-    next-in = upto-nat (s .used) (callWord w s r nextField) (omega arith)
+    next-in = upto-nat (s .used) (callWord w s r nextField) (omega (arith, top))
 
     pub link-end : nextCallAt w s r ≡ 0 → true ≡ linkOk w s r
     unfolding linkOk
@@ -111,11 +115,29 @@ record-chain w s (suc k) t = elim (decLt (s .used) t) [
   | no l ↦ rw (← record-some s t (omega arith))
 ]
 
-pub all-chain : (w : List ℤ) (s : Sizes) (p : ℕ → Bool) → ((r : ℕ) → 1 ≤ r → r ≤ s .used → p r ≡ true) → (k r : ℕ) → allb p (chainFrom w s k r) ≡ true
-unfolding allb chainFrom
-all-chain w s p h zero r = refl
-all-chain w s p h (suc k) r = go (isRecord s r) refl (all-chain w s p h k (nextCallAt w s r))
+-- there is no chain from what is past the records used
+pub none-chain : (w : List ℤ) (s : Sizes) (k t : ℕ) → s .used < t → chainFrom w s k t ≡ []
+unfolding chainFrom
+none-chain w s zero t h = refl
+none-chain w s (suc k) t h = rw (lt-leb t (s .used) h, and-false (leb 1 t))
+
+-- each of a chain is a record
+chain-from-record : (w : List ℤ) (s : Sizes) (k r x : ℕ) → memb x (chainFrom w s k r) ≡ true → (1 ≤ x) × (x ≤ s .used)
+unfolding chainFrom memb
+chain-from-record w s zero r x h = true-false h refl
+chain-from-record w s (suc k) r x h = go (isRecord s r) refl h (chain-from-record w s k (nextCallAt w s r) x)
   where
-    go : (t : Bool) → isRecord s r ≡ t → allb p (chainFrom w s k (nextCallAt w s r)) ≡ true → allb p (cond t (r ∷ chainFrom w s k (nextCallAt w s r)) []) ≡ true
-    go false e i = refl
-    go true e i = let b = record-bounds s r e in rw (h r (b .0) (b .1)) i
+    go : (t : Bool) → isRecord s r ≡ t → memb x (cond t (r ∷ chainFrom w s k (nextCallAt w s r)) []) ≡ true
+        → (memb x (chainFrom w s k (nextCallAt w s r)) ≡ true → (1 ≤ x) × (x ≤ s .used)) → (1 ≤ x) × (x ≤ s .used)
+    go false e m rec = true-false m refl
+    go true e m rec = elim (ℕ-discrete x r) [ yes q ↦ rw q (record-bounds s r e) | no q ↦ rec (rw (ne-eqb x r q) at m) ]
+
+pub chain-record : (w : List ℤ) (s : Sizes) (f x : ℕ) → memb x (chainOf w s f) ≡ true → (1 ≤ x) × (x ≤ s .used)
+unfolding chainOf
+chain-record w s f x h = chain-from-record w s (s .c) (firstCallAt w s f) x h
+
+-- what holds of each member holds of all
+pub all-memb : (p : ℕ → Bool) (l : List ℕ) → ((x : ℕ) → memb x l ≡ true → p x ≡ true) → allb p l ≡ true
+unfolding allb memb
+all-memb p [] h = refl
+all-memb p (y ∷ ys) h = rw (h y (rw (eq-eqb y y refl) refl)) (all-memb p ys (λ x m. h x (or-right (eqb x y) (memb x ys) m)))

@@ -1,6 +1,7 @@
 -- Three closed cases, by computation: decoding gives the encoded case back, as it does in general (Encoded.antt), and the check accepts it.
 -- Assumes nothing.
 use mathlib.Core.Path.{_≡_, refl}
+use mathlib.Core.Bool.{true, false}
 use mathlib.Core.List.{[], _∷_, _++_}
 use Prim.Native.Nat.{ℕ}
 use lib.IntN.{ℤ, pos, negℤ}
@@ -11,9 +12,9 @@ use Rattle.variants_and_fragments.specs.First.{firstFailFrom, firstFail,
 use Rattle.variants_and_fragments.specs.Sums.{countOver}
 use Rattle.variants_and_fragments.specs.Case.{Case, Fragment}
 use Rattle.variants_and_fragments.specs.Layout.{variantOk, callOk}
-use Rattle.variants_and_fragments.specs.Chain.{chainFrom, chainOf, memb, reached, linkOk, goodChain, fragmentOk, isReached}
+use Rattle.variants_and_fragments.specs.Chain.{chainFrom, chainOf, memb, reached, linkOk, goodChain, fragmentOk, isReached, reachedCallOk}
 use Rattle.variants_and_fragments.specs.Alleles.{allelesStart, allelesOk}
-use Rattle.variants_and_fragments.specs.Check.{checkCaseOutcome}
+use Rattle.variants_and_fragments.specs.Check.{checkCaseAndHaplotypesOutcome, checkCaseOutcome}
 use Rattle.variants_and_fragments.specs.Decode.{tabulateFrom, alleleStart, alleleAt, variantFrom, callFrom, fragmentFrom, decode}
 use Rattle.variants_and_fragments.specs.Encode.{encodeWords, encodeBases}
 
@@ -29,11 +30,11 @@ pub empty-decoded : decode (encodeWords empty-case) (encodeBases empty-case) ≡
 unfolding decode tabulateFrom encodeWords encodeBases countOver
 empty-decoded = refl
 
-pub empty-accepted : checkCaseOutcome (encodeWords empty-case) (encodeBases empty-case) ≡ done (record { n = 0; f = 0; c = 0; cutoff = neg 2000 })
-unfolding encodeWords encodeBases countOver checkCaseOutcome unless each within firstFailFrom firstFail holdsBelow allelesStart isReached reached
+pub empty-accepted : checkCaseOutcome (encodeWords empty-case) (encodeBases empty-case) ≡ done (record { n = 0; f = 0; c = 0; used = 0; cutoff = neg 2000 })
+unfolding encodeWords encodeBases countOver checkCaseOutcome checkCaseAndHaplotypesOutcome unless each within firstFailFrom firstFail holdsBelow allelesStart isReached reachedCallOk reached
 empty-accepted = refl
 
--- an SNV A/G, then an indel A/AC/G with three alleles; one fragment calls both, one the second only
+-- an SNV A/G, then an indel A/AC/G with three alleles; one fragment calls both, one is absent, one calls the second only
 abbrev pub small-case : Case
 small-case = record {
   variants =
@@ -42,13 +43,15 @@ small-case = record {
       ∷ [];
   fragments =
       record {
+        present = true;
         strand = 1;
         calls =
             record { variant = 0; allele = 1; qual = neg 5796; one-minus-qual = neg 1700 }
             ∷ record { variant = 1; allele = 2; qual = neg 2000; one-minus-qual = pos 0 }
             ∷ [];
       }
-      ∷ record { strand = 0; calls = record { variant = 1; allele = 0; qual = neg 262144; one-minus-qual = neg 1 } ∷ [] }
+      ∷ record { present = false; strand = 1; calls = [] }
+      ∷ record { present = true; strand = 0; calls = record { variant = 1; allele = 0; qual = neg 262144; one-minus-qual = neg 1 } ∷ [] }
       ∷ [];
   cutoff = neg 2000;
 }
@@ -57,13 +60,13 @@ pub small-decoded : decode (encodeWords small-case) (encodeBases small-case) ≡
 unfolding decode tabulateFrom variantFrom alleleAt alleleStart allelesStart fragmentFrom callFrom chainOf chainFrom encodeWords encodeBases countOver
 small-decoded = refl
 
-pub small-accepted : checkCaseOutcome (encodeWords small-case) (encodeBases small-case) ≡ done (record { n = 2; f = 2; c = 3; cutoff = neg 2000 })
-unfolding encodeWords encodeBases countOver checkCaseOutcome unless each within below firstFailFrom firstFail holdsBelow variantOk callOk linkOk chainFrom chainOf memb reached goodChain fragmentOk isReached allelesStart allelesOk
+pub small-accepted : checkCaseOutcome (encodeWords small-case) (encodeBases small-case) ≡ done (record { n = 2; f = 3; c = 3; used = 3; cutoff = neg 2000 })
+unfolding encodeWords encodeBases countOver checkCaseOutcome checkCaseAndHaplotypesOutcome unless each within below firstFailFrom firstFail holdsBelow variantOk callOk linkOk chainFrom chainOf memb reached goodChain fragmentOk isReached reachedCallOk allelesStart allelesOk
 small-accepted = refl
 
 -- as many fragments of one call as 01's sample (j) has: 113 reads each of A and G
 abbrev pub readOf : ℕ → Fragment
-readOf allele = record { strand = 0; calls = record { variant = 0; allele = allele; qual = neg 5796; one-minus-qual = neg 1700 } ∷ [] }
+readOf allele = record { present = true; strand = 0; calls = record { variant = 0; allele = allele; qual = neg 5796; one-minus-qual = neg 1700 } ∷ [] }
 
 abbrev pub reads-case : Case
 reads-case = record {
@@ -76,6 +79,6 @@ pub reads-decoded : decode (encodeWords reads-case) (encodeBases reads-case) ≡
 unfolding decode tabulateFrom variantFrom alleleAt alleleStart allelesStart fragmentFrom callFrom chainOf chainFrom encodeWords encodeBases countOver
 reads-decoded = refl
 
-pub reads-accepted : checkCaseOutcome (encodeWords reads-case) (encodeBases reads-case) ≡ done (record { n = 1; f = 226; c = 226; cutoff = neg 2000 })
-unfolding encodeWords encodeBases countOver checkCaseOutcome unless each within below firstFailFrom firstFail holdsBelow variantOk callOk linkOk chainFrom chainOf memb reached goodChain fragmentOk isReached allelesStart allelesOk
+pub reads-accepted : checkCaseOutcome (encodeWords reads-case) (encodeBases reads-case) ≡ done (record { n = 1; f = 226; c = 226; used = 226; cutoff = neg 2000 })
+unfolding encodeWords encodeBases countOver checkCaseOutcome checkCaseAndHaplotypesOutcome unless each within below firstFailFrom firstFail holdsBelow variantOk callOk linkOk chainFrom chainOf memb reached goodChain fragmentOk isReached reachedCallOk allelesStart allelesOk
 reads-accepted = refl

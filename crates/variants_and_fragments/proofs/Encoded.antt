@@ -1,25 +1,27 @@
--- `decode` gives back every case whose variants have at most three alleles from the words and bases that `encode` makes of it. A reader stands
+-- `decode` gives back every case whose variants have at most three alleles and whose absent fragments have no calls from the words and bases that `encode` makes of it. A reader stands
 -- before the records that are still to be read: what is left of the words from its place on begins with them. Assumes nothing.
 use mathlib.Core.Path.{_≡_, refl, sym, ap, subst, _∙_}
-use mathlib.Core.Bool.{Bool, true, cond}
+use mathlib.Core.Bool.{Bool, true, false, cond}
 use mathlib.Core.List.{List, [], _∷_, _++_, append-assoc, append-nil, map}
 use Prim.Native.Nat.{ℕ, zero, suc, _+_, _*_, _≤_, _<_}
 use native.Mathlib.Omega.{arith}
 use borrow.Author.Tests.{le-leb}
-use lib.IntN.{ℤ, pos}
+use lib.IntN.{ℤ, pos, negsuc}
+use lib.Signed.{leZ}
 use lib.ListN.{length, getD, drop, length-append, List·getD-append, length-set, length-replicate}
 use lib.Seq.{getD-drop, drop-drop, drop-at, take-append-seam}
 use Rattle.variants_and_fragments.specs.declared.Sizes.{Sizes}
 use Rattle.variants_and_fragments.specs.Sums.{countOver}
-use Rattle.variants_and_fragments.specs.Words.{word, natOf}
-use Rattle.variants_and_fragments.specs.Case.{Case, Variant, Fragment, Call, alleleCount, alleleOf, variantOf, noVariant}
+use Rattle.variants_and_fragments.specs.Words.{word, natOf, none}
+use Rattle.variants_and_fragments.specs.Case.{Case, Variant, Fragment, Call, alleleCount, alleleOf, variantOf, noVariant, callCount}
 use Rattle.variants_and_fragments.specs.Inner.Case.{All, end, also}
 use Rattle.variants_and_fragments.specs.Layout.{headWords, variantWords, fragmentWords, callWords, pos0Field, depthField, genotypeField, alleleCountField, lengthField, firstField, strandField, variantField, alleleField, qualField, oneMinusQualField, nextField, sizesOf, variantAt, fragmentAt, callAt, lengthAt, nextCallAt}
-use Rattle.variants_and_fragments.specs.Chain.{isRecord, chainFrom, chainOf}
+use Rattle.variants_and_fragments.specs.Chain.{presentAt, isRecord, chainFrom, chainOf}
 use Rattle.variants_and_fragments.specs.Alleles.{allelesStart}
 use Rattle.variants_and_fragments.specs.Decode.{tabulateFrom, alleleStart, alleleAt, variantFrom, callFrom, fragmentFrom, decode}
-use Rattle.variants_and_fragments.specs.Encode.{laid, joined, headOf, lengthsFrom, variantRecord, firstOf, fragmentRecords, callRecords, chainRecords, encodeWords, encodeBases}
+use Rattle.variants_and_fragments.specs.Encode.{laid, joined, headOf, lengthsFrom, variantRecord, firstOf, firstWord, fragmentRecords, callRecords, chainRecords, encodeWords, encodeBases}
 use Rattle.variants_and_fragments.proofs.Alls.{at-all}
+use Rattle.variants_and_fragments.proofs.Chain.{none-chain}
 
 -- ---- what stands at a place, and what is left behind it
 module _ {X : Type 0} (w : List X) (n : ℕ) (xs rest : List X) (left : drop n w ≡ xs ++ rest) where
@@ -190,13 +192,13 @@ module _ (w : List ℤ) (s : Sizes) where
         let z : callAt s r + callWords ≡ callAt s (suc r) = omega arith in
         subst (λ (n : ℕ). drop n w ≡ rest) z (behind w (callAt s r) (callRecord r call calls) rest left callWords (laid-long callWords (callFields r call calls)))
 
-  chain-back : (k r : ℕ) (calls : List Call) (rest : List ℤ) → 1 ≤ r → r + length calls ≤ suc (s .c) → length calls ≤ k → drop (callAt s r) w ≡ callRecords r calls ++ rest → map (callFrom w s) (chainFrom w s k (firstOf r calls)) ≡ calls
+  chain-back : (k r : ℕ) (calls : List Call) (rest : List ℤ) → 1 ≤ r → r + length calls ≤ suc (s .used) → length calls ≤ k → drop (callAt s r) w ≡ callRecords r calls ++ rest → map (callFrom w s) (chainFrom w s k (firstOf r calls)) ≡ calls
   unfolding chainFrom callRecords firstOf laid
   chain-back zero r [] rest some top fuel left = refl
   chain-back (suc k) r [] rest some top fuel left = refl
   chain-back zero r (call ∷ calls) rest some top fuel left = absurd (omega arith)
   chain-back (suc k) r (call ∷ calls) rest some top fuel left =
-      let t : isRecord s r ≡ true = rw (le-leb 1 r some, le-leb r (s .c) (omega arith)) in
+      let t : isRecord s r ≡ true = rw (le-leb 1 r some, le-leb r (s .used) (omega arith)) in
       let words = callRecords (suc r) calls ++ rest in
       ap (λ (x : Bool). map (callFrom w s) (cond x (r ∷ chainFrom w s k (nextCallAt w s r)) [])) t
       ∙ same-cons (call-back r call calls words some left)
@@ -209,26 +211,43 @@ calls-long r [] = refl
 calls-long r (call ∷ calls) = omega (arith, calls-long (suc r) calls)
 
 -- ---- the fragments
-same-fragment : {x y : ℕ} {cs ds : List Call} → x ≡ y → cs ≡ ds → _≡_ {A = Fragment} (record { strand = x; calls = cs }) (record { strand = y; calls = ds })
-same-fragment e f = rw (e, f)
+same-fragment : {p q : Bool} {x y : ℕ} {cs ds : List Call} → p ≡ q → x ≡ y → cs ≡ ds → _≡_ {A = Fragment} (record { present = p; strand = x; calls = cs }) (record { present = q; strand = y; calls = ds })
+same-fragment d e f = rw (d, e, f)
 
 abbrev fragmentFields : ℕ → Fragment → List (ℕ × ℤ)
-fragmentFields r x = (firstField, pos (firstOf r (x .calls))) ∷ (strandField, pos (x .strand)) ∷ []
+fragmentFields r x = (firstField, firstWord r x) ∷ (strandField, pos (x .strand)) ∷ []
 
 abbrev fragmentRecord : ℕ → Fragment → List ℤ
 fragmentRecord r x = laid fragmentWords (fragmentFields r x)
 
 module _ (w : List ℤ) (s : Sizes) where
-  module _ (i r : ℕ) (x : Fragment) (rest others : List ℤ) (some : 1 ≤ r) (top : r + length (x .calls) ≤ suc (s .c)) (left : drop (fragmentAt s i) w ≡ fragmentRecord r x ++ rest) (unread : drop (callAt s r) w ≡ callRecords r (x .calls) ++ others) where
+  module _ (i r : ℕ) (x : Fragment) (rest others : List ℤ) (some : 1 ≤ r) (top : r + length (x .calls) ≤ suc (s .used)) (all-used : s .used ≤ s .c) (below : s .used < none) (empty : x .present ≡ false → x .calls ≡ []) (left : drop (fragmentAt s i) w ≡ fragmentRecord r x ++ rest) (unread : drop (callAt s r) w ≡ callRecords r (x .calls) ++ others) where
     fragment-cell : (p : ℕ) → p < fragmentWords → word w (fragmentAt s i + p) ≡ getD (fragmentRecord r x) p (pos 0)
     fragment-cell p h = here w (fragmentAt s i) (fragmentRecord r x) rest left (pos 0) p (omega (arith, laid-long fragmentWords (fragmentFields r x)))
 
+    first-back : word w (fragmentAt s i + firstField) ≡ firstWord r x
+    unfolding laid
+    first-back = fragment-cell firstField (omega arith)
+
+    present-back : presentAt w s i ≡ x .present
+    unfolding firstWord
+    present-back = ap (leZ (pos 0)) first-back ∙ go (x .present)
+      where
+        go : (p : Bool) → leZ (pos 0) (cond p (pos (firstOf r (x .calls))) (negsuc 0)) ≡ p
+        go true = le-leb 0 (firstOf r (x .calls)) (omega arith)
+        go false = refl
+
+    calls-back : map (callFrom w s) (chainOf w s i) ≡ x .calls
+    unfolding chainOf firstWord
+    calls-back = ap (λ (q : ℤ). map (callFrom w s) (chainFrom w s (s .c) (natOf q))) first-back ∙ go (x .present) empty
+      where
+        go : (p : Bool) → (p ≡ false → x .calls ≡ []) → map (callFrom w s) (chainFrom w s (s .c) (natOf (cond p (pos (firstOf r (x .calls))) (negsuc 0)))) ≡ x .calls
+        go true h = chain-back w s (s .c) r (x .calls) others some top (omega arith) unread
+        go false h = ap (map (callFrom w s)) (none-chain w s (s .c) none below) ∙ sym (h refl)
+
     fragment-back : fragmentFrom w s i ≡ x
-    unfolding fragmentFrom chainOf laid
-    fragment-back =
-        same-fragment (ap natOf (fragment-cell strandField (omega arith)))
-        (ap (λ (q : ℕ). map (callFrom w s) (chainFrom w s (s .c) q)) (ap natOf (fragment-cell firstField (omega arith)))
-        ∙ chain-back w s (s .c) r (x .calls) others some top (omega arith) unread)
+    unfolding fragmentFrom laid
+    fragment-back = same-fragment present-back (ap natOf (fragment-cell strandField (omega arith))) calls-back
 
     fragment-behind : drop (fragmentAt s (suc i)) w ≡ rest
     fragment-behind =
@@ -240,16 +259,17 @@ module _ (w : List ℤ) (s : Sizes) where
         let z : callAt s r + callWords * length (x .calls) ≡ callAt s (r + length (x .calls)) = omega arith in
         subst (λ (n : ℕ). drop n w ≡ others) z (behind w (callAt s r) (callRecords r (x .calls)) others unread (callWords * length (x .calls)) (calls-long r (x .calls)))
 
-  fragments-back : (i r : ℕ) (xs : List Fragment) (rest : List ℤ) → 1 ≤ r → r + countOver xs (λ x. length (x .calls)) ≤ suc (s .c) → drop (fragmentAt s i) w ≡ fragmentRecords r xs ++ rest → drop (callAt s r) w ≡ chainRecords r xs → tabulateFrom (fragmentFrom w s) i (length xs) ≡ xs
+  fragments-back : s .used ≤ s .c → s .used < none → (i r : ℕ) (xs : List Fragment) (rest : List ℤ) → All (λ x. x .present ≡ false → x .calls ≡ []) xs
+      → 1 ≤ r → r + countOver xs (λ x. length (x .calls)) ≤ suc (s .used) → drop (fragmentAt s i) w ≡ fragmentRecords r xs ++ rest → drop (callAt s r) w ≡ chainRecords r xs → tabulateFrom (fragmentFrom w s) i (length xs) ≡ xs
   unfolding tabulateFrom fragmentRecords chainRecords countOver laid
-  fragments-back i r [] rest some top left unread = refl
-  fragments-back i r (x ∷ xs) rest some top left unread =
+  fragments-back u b i r [] rest end some top left unread = refl
+  fragments-back u b i r (x ∷ xs) rest (also empty empties) some top left unread =
       let n = length (x .calls) in
       let words = fragmentRecords (r + n) xs ++ rest in
       let others = chainRecords (r + n) xs in
-      let t : r + n ≤ suc (s .c) = omega arith in
-      same-cons (fragment-back i r x words others some t left unread)
-      (fragments-back (suc i) (r + n) xs rest (omega arith) (omega arith) (fragment-behind i r x words others some t left unread) (calls-behind i r x words others some t left unread))
+      let t : r + n ≤ suc (s .used) = omega arith in
+      same-cons (fragment-back i r x words others some t u b empty left unread)
+      (fragments-back u b (suc i) (r + n) xs rest empties (omega arith) (omega arith) (fragment-behind i r x words others some t u b empty left unread) (calls-behind i r x words others some t u b empty left unread))
 
 -- ---- the case
 variants-long : (vs : List Variant) → length (joined (map variantRecord vs)) ≡ variantWords * length vs
@@ -266,7 +286,8 @@ fragments-long r (x ∷ xs) = omega (arith, fragments-long (r + length (x .calls
 same-case : {vs us : List Variant} {fs gs : List Fragment} (c : ℤ) → vs ≡ us → fs ≡ gs → _≡_ {A = Case} (record { variants = vs; fragments = fs; cutoff = c }) (record { variants = us; fragments = gs; cutoff = c })
 same-case c e f = rw (e, f)
 
-module _ (case : Case) (few : (v : ℕ) → v < length (case .variants) → alleleCount (variantOf case v) ≤ 3) where
+module _ (case : Case) (few : (v : ℕ) → v < length (case .variants) → alleleCount (variantOf case v) ≤ 3)
+    (empty : All (λ x. x .present ≡ false → x .calls ≡ []) (case .fragments)) (small : callCount case < none) where
   abbrev w : List ℤ
   w = encodeWords case
 
@@ -308,4 +329,4 @@ module _ (case : Case) (few : (v : ℕ) → v < length (case .variants) → alle
   decode-encode =
       same-case (case .cutoff)
       (variants-back w (encodeBases case) 0 (case .variants) (fs ++ cs) [] few-all variants-left (sym (append-nil (encodeBases case))))
-      (fragments-back w sizes 0 1 (case .fragments) cs (omega arith) (omega arith) fragments-left calls-left)
+      (fragments-back w sizes (omega arith) small 0 1 (case .fragments) cs empty (omega arith) (omega arith) fragments-left calls-left)

@@ -16,9 +16,9 @@ use Rattle.variants_and_fragments.specs.Sums.{countOver}
 use Rattle.variants_and_fragments.specs.Case.{Case, Call, alleleOf, variantOf, fragmentOf, noFragment}
 use Rattle.variants_and_fragments.specs.Inner.Case.{noCall, risingFrom, All, end, also, GoodAllele, GoodVariant, GoodCall, GoodFragment, GoodCase, SmallNumbers}
 use Rattle.variants_and_fragments.specs.Refusals.{done}
-use Rattle.variants_and_fragments.specs.Layout.{pos0Field, depthField, variantAt, alleleCountAt, lengthAt, cutoffAt, callVariantAt, callOk}
+use Rattle.variants_and_fragments.specs.Layout.{firstField, fragmentWord, pos0Field, depthField, variantAt, alleleCountAt, lengthAt, cutoffAt, callVariantAt, callOk}
 use Rattle.variants_and_fragments.specs.Inner.Layout.{VariantIn}
-use Rattle.variants_and_fragments.specs.Chain.{firstCallAt, nextCallAt, isRecord, linkOk, chainFrom, chainOf, memb, goodChain}
+use Rattle.variants_and_fragments.specs.Chain.{firstCallAt, presentAt, nextCallAt, isRecord, linkOk, chainFrom, chainOf, memb, goodChain}
 use Rattle.variants_and_fragments.specs.Inner.Accepted.{allb, CallIn, CaseIn, BasesIn}
 use Rattle.variants_and_fragments.proofs.Bools.{both}
 use Rattle.variants_and_fragments.proofs.Records.{pos0-up, call-facts}
@@ -27,8 +27,8 @@ use Rattle.variants_and_fragments.specs.Check.{checkCaseOutcome}
 use Rattle.variants_and_fragments.specs.Inner.ChainCalls.{callId, callsFrom}
 use Rattle.variants_and_fragments.specs.Decode.{tabulateFrom, tabulate, alleleStart, callFrom, fragmentFrom, decode}
 use Rattle.variants_and_fragments.proofs.Pigeon.{calls-top}
-use Rattle.variants_and_fragments.proofs.Readings.{nat-top, quality-down}
-use Rattle.variants_and_fragments.proofs.Chain.{next-rises}
+use Rattle.variants_and_fragments.proofs.Readings.{nat-top, quality-down, absent-none}
+use Rattle.variants_and_fragments.proofs.Chain.{next-rises, none-chain}
 use Rattle.variants_and_fragments.proofs.Alls.{all-at, all-tabulate}
 use Rattle.variants_and_fragments.proofs.Decoded.{cutoff-is, sizes-are, variants-are, fragments-are, pos0-is, dp-is, genotype0-is, genotype1-is, allele-count-is, allele-end, allele-length, allele-byte}
 
@@ -48,7 +48,7 @@ rise-from w s (suc k) r b past g h = go (isRecord s r) refl g (rise-from w s k (
     go true e a rec =
         let x = both (not (memb r past)) (linkOk w s r && goodChain w s (r ∷ past) rest) a in
         let y = both (linkOk w s r) (goodChain w s (r ∷ past) rest) (x .1) in
-        let low : b ≤ callVariantAt w s r = h (leb-true 1 r (both (leb 1 r) (leb r (s .c)) e .0)) in
+        let low : b ≤ callVariantAt w s r = h (leb-true 1 r (both (leb 1 r) (leb r (s .used)) e .0)) in
         rw (le-leb b (callVariantAt w s r) low) (rec (suc (callVariantAt w s r)) (r ∷ past) (y .1) (next-rises w s r (y .0)))
 
 chain-calls : (w : List ℤ) (s : Sizes) (P : Call → Type 0) → ((r : ℕ) → CallIn w s r → P (callFrom w s r)) → (rs : List ℕ) → allb (callOk w s) rs ≡ true → All P (map (callFrom w s) rs)
@@ -107,11 +107,17 @@ module _ {w : List ℤ} {b : List ℕ} {s : Sizes} (k : CaseIn w s) (i : BasesIn
     one-minus-qual-in = quality-down _ (c .other-in);
   }
 
+  -- an absent fragment's first call is no record
+  absent-empty : (f : ℕ) → presentAt w s f ≡ false → map (callFrom w s) (chainOf w s f) ≡ []
+  unfolding chainOf
+  absent-empty f h = rw (none-chain w s (s .c) (firstCallAt w s f) (omega (arith, absent-none (fragmentWord w s f firstField) h, k .sized .used-top, k .sized .c-top)))
+
   fragment-good : (f : ℕ) → f < s .f → GoodFragment (decode w b .variants) (fragmentFrom w s f)
   unfolding fragmentFrom chainOf
   fragment-good f h =
       let c = k .frags f h in
       record {
+        absent = absent-empty f;
         strand-in = c .strand-in;
         calls-in = chain-calls w s (GoodCall (decode w b .variants)) call-good (chainOf w s f) (c .calls);
         rises = rise-from w s (s .c) (firstCallAt w s f) 0 _ (c .right) (λ l. omega arith);
@@ -125,7 +131,7 @@ module _ {w : List ℤ} {b : List ℕ} {s : Sizes} (k : CaseIn w s) (i : BasesIn
   case-good = record {
     variants-top = omega (arith, variants-are k b, k .sized .n-top);
     fragments-top = omega (arith, fragments-are k b, k .sized .f-top);
-    calls-top = rw fragments-list (omega (arith, count-chains w s (s .f) 0, calls-top w s k, k .sized .c-top));
+    calls-top = rw fragments-list (omega (arith, count-chains w s (s .f) 0, calls-top w s k, k .sized .used-top, k .sized .c-top));
     cutoff-in = rw (cutoff-is w b) (quality-down (cutoffAt w) (k .cutoff-in));
     variants-in = λ v h. variant-good v (omega (arith, variants-are k b));
     pos0-rises = λ v h. pos0-on v (omega (arith, variants-are k b));

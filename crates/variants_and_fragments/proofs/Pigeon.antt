@@ -162,7 +162,7 @@ memb-left r rs l h = rw (memb-append r rs l, h)
 memb-right : (r : ℕ) (rs l : List ℕ) → memb r l ≡ true → memb r (rs ++ l) ≡ true
 memb-right r rs l h = memb-append r rs l ∙ or-right (memb r rs) (memb r l) h
 
-reached-has : (w : List ℤ) (s : Sizes) (r f g : ℕ) → f < g → memb r (chainOf w s f) ≡ true → memb r (reached w s g) ≡ true
+pub reached-has : (w : List ℤ) (s : Sizes) (r f g : ℕ) → f < g → memb r (chainOf w s f) ≡ true → memb r (reached w s g) ≡ true
 unfolding reached
 reached-has w s r f zero l h = absurd (omega arith)
 reached-has w s r f (suc g) l h = elim (ℕ-discrete f g) [

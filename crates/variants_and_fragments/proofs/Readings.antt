@@ -4,7 +4,7 @@ use mathlib.Core.Path.{_≡_, refl, _∙_}
 use mathlib.Core.Bool.{true, false}
 use Prim.Native.Nat.{ℕ, zero, suc, _≤_, _<_, _^_}
 use native.Mathlib.Omega.{arith}
-use borrow.Author.Tests.{ltb-true, leb-true}
+use borrow.Author.Tests.{le-leb, ltb-true, leb-true}
 use lib.IntN.{ℤ, pos, negsuc, negℤ, natAbs, _-ℤ_, +ℤ-idl}
 use lib.Dec.{T, lit<}
 use lib.Signed.{mag, ltZ, leZ, nonNeg}
@@ -14,7 +14,7 @@ use mir.Facts.{toZ-ofZ, toZ-pos}
 use Rattle.variants_and_fragments.specs.Words.{within, none, natOf}
 use Rattle.variants_and_fragments.specs.Layout.{lowestQuality}
 use Rattle.variants_and_fragments.specs.Inner.Sums.{DownTo}
-use Rattle.variants_and_fragments.proofs.Bools.{both}
+use Rattle.variants_and_fragments.proofs.Bools.{both, true-false}
 
 pub up-neg : (x : ℤ) → ltZ x (pos 0) ≡ true → none ≡ natOf x
 up-neg (pos n) h = let l : n < 0 = ltb-true n 0 h in absurd (omega arith)
@@ -58,3 +58,8 @@ module _ (x : ℕ) (h : x ≤ 4294967296) where
 
   pub minus-back : toZ w64 (ofZ w64 (pos 0 -ℤ toZ w64 x)) ≡ negℤ (pos x)
   minus-back = toZ-ofZ minus-fits ∙ minus-is
+
+-- a negative word is no number of a record
+pub absent-none : (z : ℤ) → leZ (pos 0) z ≡ false → natOf z ≡ none
+absent-none (pos n) h = true-false (le-leb 0 n (omega arith)) h
+absent-none (negsuc n) h = refl

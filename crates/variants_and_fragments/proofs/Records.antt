@@ -6,7 +6,7 @@ use mathlib.Core.List.{List, [], _∷_, _++_}
 use Prim.Native.Nat.{ℕ, zero, suc, _+_, _-_, _*_, _≤_, _<_}
 use native.Mathlib.Omega.{arith}
 use native.Mathlib.Decide.{decLt}
-use borrow.Author.Tests.{lt-ltb, le-ltb, ne-eqb, leb-true, eqb-true}
+use borrow.Author.Tests.{lt-ltb, le-ltb, ne-eqb, leb-true, ltb-true, eqb-true}
 use lib.ListN.{length, getD}
 use lib.IntN.{ℤ, pos}
 use lib.Dec.{leb, ltb, lit<}
@@ -113,6 +113,9 @@ variant-facts w h v ok =
     below-three p a b c (suc (suc zero)) l = c
     below-three p a b c (suc (suc (suc j))) l = absurd (omega arith)
 
+there : (w : List ℤ) (h : List ℕ) (v i : ℕ) → haplotypeOk w h v i ≡ true → 2 * v + i < length h → getD h (2 * v + i) 0 < alleleCountAt w v
+there w h v i ok long = ltb-true _ _ (rw (lt-ltb (2 * v + i) (length h) long) at ok)
+
 pub variants-in : (w : List ℤ) (h : List ℕ) (s : Sizes) → s .n ≤ firstFail (variantOk w h) (s .n) → VariantsIn w s
 variants-in w h s k = record { each = λ v l. variant-facts w h v (first-all (variantOk w h) (s .n) k v l) }
 
@@ -149,6 +152,13 @@ variant-tests w v =
     and-true true = refl
     and-true false = refl
 
+-- a haplotype that is there is below k
+pub haplotype-facts : (w : List ℤ) (h : List ℕ) (v : ℕ) → variantOk w h v ≡ true → (i : ℕ) → i < 2 → 2 * v + i < length h → getD h (2 * v + i) 0 < alleleCountAt w v
+unfolding variantOk
+haplotype-facts w h v ok zero l long = there w h v 0 (all-nth (variantTests w h v) ok 9) long
+haplotype-facts w h v ok (suc zero) l long = there w h v 1 (all-nth (variantTests w h v) ok 10) long
+haplotype-facts w h v ok (suc (suc i)) l long = absurd (omega arith)
+
 -- the record's tests, and those of its haplotypes
 pub variant-and-haplotypes : (w : List ℤ) (h : List ℕ) (v : ℕ) → variantOk w h v ≡ (variantOk w [] v && (haplotypeOk w h v 0 && haplotypeOk w h v 1))
 unfolding variantOk
@@ -170,6 +180,10 @@ variant-and-haplotypes w h v = rw (none-left w v 0, none-left w v 1) (last-two (
     last-two (false ∷ []) x y = refl
     last-two (true ∷ c ∷ bs) x y = last-two (c ∷ bs) x y
     last-two (false ∷ c ∷ bs) x y = refl
+
+-- so a variant that is right with haplotypes is right without
+pub variant-alone : (w : List ℤ) (h : List ℕ) (v : ℕ) → variantOk w h v ≡ true → variantOk w [] v ≡ true
+variant-alone w h v ok = both (variantOk w [] v) (haplotypeOk w h v 0 && haplotypeOk w h v 1) (rw (variant-and-haplotypes w h v) at ok) .0
 
 -- ---- a call
 pub call-facts : (w : List ℤ) (s : Sizes) (r : ℕ) → callOk w s r ≡ true → CallIn w s r

@@ -14,7 +14,8 @@ use lib.IntN.{ℤ}
 use lib.Dec.{eqb}
 use Rattle.variants_and_fragments.specs.declared.Sizes.{Sizes}
 use Rattle.variants_and_fragments.specs.Chain.{firstCallAt, nextCallAt, linkOk, chainFrom, chainOf, memb, reached, goodChain}
-use Rattle.variants_and_fragments.specs.Inner.Chain.{recordOf, firstRecordAt, Walked, flag, Marked}
+use Rattle.variants_and_fragments.specs.Inner.Layout.{Sized}
+use Rattle.variants_and_fragments.specs.Inner.Chain.{ firstRecordAt, Walked, flag, Marked}
 use Rattle.variants_and_fragments.proofs.Chain.{link-top, record-top, record-chain}
 
 -- ---- chainFrom
@@ -99,7 +100,7 @@ walk-start w s f seen r e m = record {
   has = λ x. rw (e, sub-zero, record-chain);
 }
 
-module _ {w : List ℤ} {s : Sizes} {f : ℕ} {seen : List ℕ} {r k : ℕ} (c-top : s .used ≤ 16384) (i : Walking w s f seen r k) where
+module _ {w : List ℤ} {s : Sizes} {f : ℕ} {seen : List ℕ} {r k : ℕ} (z : Sized w s) (i : Walking w s f seen r k) where
   -- the chain ends
   pub walk-done : chainFrom w s (s .c - k) r ≡ [] → Walked w s f seen true
   unfolding goodChain
@@ -122,7 +123,7 @@ module _ {w : List ℤ} {s : Sizes} {f : ℕ} {seen : List ℕ} {r k : ℕ} (c-t
     step = chain-step w s k r more lo (i .r-top)
 
     flagged : getD seen r 0 ≡ flag (memb r (i .acc))
-    flagged = i .now-marked .marks r (omega (arith, i .r-top))
+    flagged = i .now-marked .marks r (omega (arith, i .r-top, z .used-top, z .c-top))
 
     fails : goodChain w s (i .acc) (chainFrom w s (s .c - k) r) ≡ false → (seen2 : List ℕ) → Walked w s f seen2 false
     fails e seen2 = record { ok = sym (i .good ∙ e); marked = λ z. let z2 : _≡_ {A = ℕ} 0 1 = cc in absurd (omega arith) }
@@ -142,7 +143,7 @@ module _ {w : List ℤ} {s : Sizes} {f : ℕ} {seen : List ℕ} {r k : ℕ} (c-t
         acc = r ∷ i .acc;
         r-top = rw e (link-top w s r h);
         k-top = omega arith;
-        now-marked = mark-more r (omega (arith, i .r-top)) (i .now-marked);
+        now-marked = mark-more r (omega (arith, i .r-top, z .used-top, z .c-top)) (i .now-marked);
         good = i .good ∙ rw (step, e) (good-on w s (i .acc) r _ fresh h);
         has = λ x. i .has x ∙ rw (step, e) (memb-middle x r (chainFrom w s (s .c - (k + 1)) (nextCallAt w s r)) (i .acc));
       }

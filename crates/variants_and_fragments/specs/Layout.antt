@@ -9,6 +9,7 @@ use lib.ListN.{length, getD, set}
 use lib.Signed.{leZ}
 use lib.Dec.{ltb, eqb}
 use Rattle.variants_and_fragments.specs.declared.Sizes.{Sizes}
+use Rattle.variants_and_fragments.specs.declared.CallWords.{CallWords}
 use Rattle.variants_and_fragments.specs.Words.{word, within, below, natOf, natAt}
 
 -- ---- the numbers of section 2
@@ -142,6 +143,15 @@ fragmentSet w s f field z = set w (fragmentAt s f + field) z
 
 abbrev pub callSet : List ℤ → Sizes → ℕ → ℕ → ℤ → List ℤ
 callSet w s r field z = set w (callAt s r + field) z
+
+-- the words with a call's four words and its next in record r
+unfoldable pub callPut : List ℤ → Sizes → ℕ → CallWords → ℕ → List ℤ
+callPut w s r call next =
+    let w1 = callSet w s r variantField (call .variant) in
+    let w2 = callSet w1 s r alleleField (call .allele) in
+    let w3 = callSet w2 s r qualField (call .qual) in
+    let w4 = callSet w3 s r oneMinusQualField (call .«one_minus_qual») in
+    callSet w4 s r nextField (pos next)
 
 -- the numbers of variant v; the genotype's two alleles are i = 0 and 1, the allele lengths j = 0, 1 and 2
 abbrev pub pos0At : List ℤ → ℕ → ℕ

@@ -2,35 +2,45 @@
 ghost use mathlib.Core.Path.{_≡_};
 ghost use Prim.Native.Nat.{_≤_};
 ghost use Rattle.variants_and_fragments.specs.First.{firstFailFrom};
-ghost use Rattle.variants_and_fragments.specs.Layout.{callOk};
+ghost use Rattle.variants_and_fragments.specs.Layout.{callOk, callWordsOk};
 ghost use Rattle.variants_and_fragments.specs.Chain.{reached, reachedCallOk};
 ghost use Rattle.variants_and_fragments.specs.Inner.Chain.{Marked};
 ghost use Rattle.variants_and_fragments.specs.Inner.Layout.{Sized};
 ghost use Rattle.variants_and_fragments.specs.Inner.Alleles.{VariantsIn};
+use crate::CallWords;
 use crate::Sizes;
 use crate::layout::allele_count;
-use crate::layout::call_variant;
-use crate::layout::called_allele;
-use crate::layout::one_minus_qual_ok;
-use crate::layout::qual_ok;
+use crate::layout::call_words;
+use crate::layout::is_quality;
+use crate::layout::nat_of;
 
-// Call r's record is right: its variant, its allele and both qualities are in range.
+// A call's words are right: its variant, its allele and both qualities are in range.
+pub fn call_words_ok(words: &[i32], s: Sizes, call: CallWords) -> bool
+    requires { ⌜ Sized (now words) s ⌝ }
+    requires { ⌜ VariantsIn (now words) s ⌝ }
+    ensures { λ ok. ⌜ ok ≡ callWordsOk (now (words .entry)) s (call .variant) (call .allele) (call .qual) (call .«one_minus_qual») ⌝ }
+{
+    let n = s.n;
+    let v = nat_of(call.variant);
+    if n <= v {
+        return false;
+    }
+    let k = allele_count(words, s, v);
+    let a = nat_of(call.allele);
+    let qual = is_quality(call.qual);
+    let one_minus_qual = is_quality(call.one_minus_qual);
+    (a < k) & (qual & one_minus_qual)
+}
+
+// Call r's record is right.
 pub fn call_ok(words: &[i32], s: Sizes, r: usize) -> bool
     requires { ⌜ Sized (now words) s ⌝ }
     requires { ⌜ VariantsIn (now words) s ⌝ }
     requires { ⌜ (1 ≤ r) × (r ≤ s .c) ⌝ }
     ensures { λ ok. ⌜ ok ≡ callOk (now (words .entry)) s r ⌝ }
 {
-    let n = s.n;
-    let v = call_variant(words, s, r);
-    if n <= v {
-        return false;
-    }
-    let k = allele_count(words, s, v);
-    let a = called_allele(words, s, r);
-    let qual = qual_ok(words, s, r);
-    let one_minus_qual = one_minus_qual_ok(words, s, r);
-    (a < k) & (qual & one_minus_qual)
+    let call = call_words(words, s, r);
+    call_words_ok(words, s, call)
 }
 
 // The first record that is marked as reached and wrong, counted from 1, or used + 1. At the loop's head those before r are right.

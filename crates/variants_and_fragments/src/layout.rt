@@ -1,15 +1,16 @@
 // The layout of a case, the one file that knows where a word stands: the numbers of section 2, the readings of a word, a reader for each field.
 ghost use mathlib.Core.Path.{_≡_};
 ghost use Prim.Native.Nat.{_+_, _<_, _≤_};
-ghost use lib.ListN.{length};
+ghost use lib.ListN.{length, set};
 ghost use lib.IntN.{pos, negsuc};
 ghost use lib.Signed.{leZ};
 ghost use Rattle.variants_and_fragments.specs.Words.{natOf, word, within, natAt};
-ghost use Rattle.variants_and_fragments.specs.Layout.{sizesOf, lowestQuality, headWords, variantWords, fragmentWords, callWords, totalWords, maxVariants, maxFragments, maxCalls, variantAt, fragmentAt, callAt, firstField, fragmentWord, cutoffAt, qualAt, oneMinusQualAt, pos0Field, depthField, variantWord, callWord, pos0At, depthAt, genotypeAt, alleleCountAt, lengthAt, callVariantAt, calledAlleleAt, firstCallAt, presentAt, strandAt, nextCallAt};
-ghost use Rattle.variants_and_fragments.specs.Inner.Layout.{Sized};
+ghost use Rattle.variants_and_fragments.specs.Layout.{sizesOf, lowestQuality, headWords, variantWords, fragmentWords, callWords, totalWords, maxVariants, maxFragments, maxCalls, variantAt, fragmentAt, callAt, firstField, fragmentWord, cutoffAt, qualAt, oneMinusQualAt, pos0Field, depthField, variantWord, callWord, pos0At, depthAt, genotypeAt, alleleCountAt, lengthAt, callVariantAt, calledAlleleAt, firstCallAt, presentAt, strandAt, nextCallAt, usedField, strandField, headSet, fragmentSet, callPut};
+ghost use Rattle.variants_and_fragments.specs.Inner.Layout.{Sized, callWordsAt};
 ghost use Rattle.variants_and_fragments.specs.Inner.Chain.{recordOf, firstRecordAt};
 ghost use Rattle.variants_and_fragments.specs.Inner.Alleles.{VariantsIn};
 ghost use mathlib.Core.Bool.{true};
+use crate::CallWords;
 use crate::Sizes;
 
 // What a word that passes no range reads as.
@@ -75,6 +76,9 @@ pub const MAX_ALLELE_LENGTH: usize = 64;
 
 pub const LOWEST_QUALITY: i32 = -262144;
 
+// The first call of a fragment that is absent.
+pub const ABSENT: i32 = -1;
+
 // A word's number, where a negative word is NONE.
 pub fn nat_of(x: i32) -> usize
     ensures { λ r. ⌜ r ≡ natOf x ⌝ }
@@ -93,12 +97,10 @@ pub fn nat_at(words: &[i32], i: usize) -> usize
     nat_of(words[i])
 }
 
-// Word i is in −262144..0, as the cutoff and both qualities are.
-pub fn quality_ok(words: &[i32], i: usize) -> bool
-    requires { ⌜ i < length (now words) ⌝ }
-    ensures { λ r. ⌜ r ≡ within lowestQuality (pos 0) (word (now (words .entry)) i) ⌝ }
+// A word in −262144..0, as the cutoff and both qualities are.
+pub fn is_quality(z: i32) -> bool
+    ensures { λ r. ⌜ r ≡ within lowestQuality (pos 0) z ⌝ }
 {
-    let z = words[i];
     (LOWEST_QUALITY <= z) & (z <= 0)
 }
 
@@ -140,7 +142,7 @@ pub fn cutoff_ok(words: &[i32]) -> bool
     requires { ⌜ headWords ≤ length (now words) ⌝ }
     ensures { λ r. ⌜ r ≡ within lowestQuality (pos 0) (cutoffAt (now (words .entry))) ⌝ }
 {
-    quality_ok(words, CUTOFF)
+    is_quality(word_at(words, CUTOFF))
 }
 
 // The cutoff.
@@ -288,7 +290,7 @@ pub fn first_ok(words: &[i32], s: Sizes, f: usize) -> bool
     ensures { λ r. ⌜ r ≡ within (negsuc 0) (pos (s .used)) (fragmentWord (now (words .entry)) s f firstField) ⌝ }
 {
     let z = first_value(words, s, f);
-    (-1 <= z) & (z <= s.used as i32)
+    (ABSENT <= z) & (z <= s.used as i32)
 }
 
 // What a word names as a record, and 0 where that is none of those used.
@@ -347,14 +349,6 @@ fn call_field(words: &[i32], s: Sizes, r: usize, k: usize) -> usize
     nat_at(words, call_at(s, r) + k)
 }
 
-// Field k of call r is in a quality's range.
-fn call_field_ok(words: &[i32], s: Sizes, r: usize, k: usize) -> bool
-    requires { ⌜ Sized (now words) s × (1 ≤ r) × (r ≤ s .c) × (k < callWords) ⌝ }
-    ensures { λ t. ⌜ t ≡ within lowestQuality (pos 0) (word (now (words .entry)) (callAt s r + k)) ⌝ }
-{
-    quality_ok(words, call_at(s, r) + k)
-}
-
 // The variant of call r.
 pub fn call_variant(words: &[i32], s: Sizes, r: usize) -> usize
     requires { ⌜ Sized (now words) s ⌝ }
@@ -373,28 +367,26 @@ pub fn called_allele(words: &[i32], s: Sizes, r: usize) -> usize
     call_field(words, s, r, ALLELE)
 }
 
-// The quality of record r is in its range.
-pub fn qual_ok(words: &[i32], s: Sizes, r: usize) -> bool
-    requires { ⌜ Sized (now words) s × (1 ≤ r) × (r ≤ s .c) ⌝ }
-    ensures { λ t. ⌜ t ≡ within lowestQuality (pos 0) (qualAt (now (words .entry)) s r) ⌝ }
-{
-    call_field_ok(words, s, r, QUAL)
-}
-
-// The other quality of record r, one_minus_qual, is in its range.
-pub fn one_minus_qual_ok(words: &[i32], s: Sizes, r: usize) -> bool
-    requires { ⌜ Sized (now words) s × (1 ≤ r) × (r ≤ s .c) ⌝ }
-    ensures { λ t. ⌜ t ≡ within lowestQuality (pos 0) (oneMinusQualAt (now (words .entry)) s r) ⌝ }
-{
-    call_field_ok(words, s, r, ONE_MINUS_QUAL)
-}
-
 // Field k of call r, as its word has it.
 fn call_word(words: &[i32], s: Sizes, r: usize, k: usize) -> i32
     requires { ⌜ Sized (now words) s × (1 ≤ r) × (r ≤ s .c) × (k < callWords) ⌝ }
     ensures { λ t. ⌜ t ≡ callWord (now (words .entry)) s r k ⌝ }
 {
     word_at(words, call_at(s, r) + k)
+}
+
+// The first four words of record r.
+pub fn call_words(words: &[i32], s: Sizes, r: usize) -> CallWords
+    requires { ⌜ Sized (now words) s ⌝ }
+    requires { ⌜ (1 ≤ r) × (r ≤ s .c) ⌝ }
+    ensures { λ c. ⌜ c ≡ callWordsAt (now (words .entry)) s r ⌝ }
+{
+    CallWords {
+        variant: call_word(words, s, r, VARIANT),
+        allele: call_word(words, s, r, ALLELE),
+        qual: call_word(words, s, r, QUAL),
+        one_minus_qual: call_word(words, s, r, ONE_MINUS_QUAL),
+    }
 }
 
 // The quality of record r.
@@ -431,4 +423,54 @@ pub fn next_record(words: &[i32], s: Sizes, r: usize) -> usize
     ensures { λ t. ⌜ t ≡ recordOf s (nextCallAt (now (words .entry)) s r) ⌝ }
 {
     record_of(s, next_call(words, s, r))
+}
+
+// ---- words that arrivals and departures write
+
+// Sets word i.
+fn put_word(words: &mut [i32], i: usize, z: i32)
+    requires { ⌜ i < length (now words) ⌝ }
+    ensures { λ _. ⌜ now (words .exit) ≡ set (now (words .entry)) i z ⌝ }
+{
+    words[i] = z;
+}
+
+// Sets how many records are used.
+pub fn put_used(words: &mut [i32], used: usize)
+    requires { ⌜ (headWords ≤ length (now words)) × (used ≤ maxCalls) ⌝ }
+    ensures { λ _. ⌜ now (words .exit) ≡ headSet (now (words .entry)) usedField (pos used) ⌝ }
+{
+    put_word(words, USED, used as i32);
+}
+
+// Sets fragment f's first call: a record, 0 for none, or −1 where the fragment is absent.
+pub fn put_first(words: &mut [i32], s: Sizes, f: usize, first: i32)
+    requires { ⌜ Sized (now words) s ⌝ }
+    requires { ⌜ f < s .f ⌝ }
+    ensures { λ _. ⌜ now (words .exit) ≡ fragmentSet (now (words .entry)) s f firstField first ⌝ }
+{
+    put_word(words, fragment_at(s, f) + FIRST, first);
+}
+
+// Sets fragment f's strand.
+pub fn put_strand(words: &mut [i32], s: Sizes, f: usize, strand: i32)
+    requires { ⌜ Sized (now words) s ⌝ }
+    requires { ⌜ f < s .f ⌝ }
+    ensures { λ _. ⌜ now (words .exit) ≡ fragmentSet (now (words .entry)) s f strandField strand ⌝ }
+{
+    put_word(words, fragment_at(s, f) + STRAND, strand);
+}
+
+// Sets record r: a call's four words, and the record after it in its chain, or 0.
+pub fn put_call(words: &mut [i32], s: Sizes, r: usize, call: CallWords, next: usize)
+    requires { ⌜ Sized (now words) s ⌝ }
+    requires { ⌜ (1 ≤ r) × (r ≤ s .c) × (next ≤ maxCalls) ⌝ }
+    ensures { λ _. ⌜ now (words .exit) ≡ callPut (now (words .entry)) s r call next ⌝ }
+{
+    let at = call_at(s, r);
+    put_word(words, at + VARIANT, call.variant);
+    put_word(words, at + ALLELE, call.allele);
+    put_word(words, at + QUAL, call.qual);
+    put_word(words, at + ONE_MINUS_QUAL, call.one_minus_qual);
+    put_word(words, at + NEXT, next as i32);
 }

@@ -13,7 +13,7 @@ pub use refusals::place;
 pub use refusals::short_of;
 
 pub mod alleles;
-mod calls;
+pub mod calls;
 mod chains;
 mod head;
 pub mod layout;
@@ -27,6 +27,14 @@ pub struct Sizes {
     pub c: usize,
     pub used: usize,
     pub cutoff: i32,
+}
+
+// The first four words of a call's record.
+pub struct CallWords {
+    pub variant: i32,
+    pub allele: i32,
+    pub qual: i32,
+    pub one_minus_qual: i32,
 }
 
 // Why an operation turned its input down, with the place of the fault: document 01's table and the requests', number by number.

@@ -8,7 +8,8 @@ use lib.ListN.{length}
 use lib.IntN.{ℤ, pos}
 use lib.Signed.{leZ}
 use Rattle.variants_and_fragments.specs.declared.Sizes.{Sizes}
-use Rattle.variants_and_fragments.specs.Layout.{maxVariants, maxFragments, maxCalls, maxAlleles, maxAlleleLength, totalWords, pos0Field, depthField, variantWord, genotypeAt, alleleCountAt, lengthAt, priorPos0At}
+use Rattle.variants_and_fragments.specs.declared.CallWords.{CallWords}
+use Rattle.variants_and_fragments.specs.Layout.{maxVariants, maxFragments, maxCalls, maxAlleles, maxAlleleLength, totalWords, pos0Field, depthField, variantField, alleleField, callWord, qualAt, oneMinusQualAt, variantWord, genotypeAt, alleleCountAt, lengthAt, priorPos0At}
 
 -- the words of w are laid out by s
 pub record Sized (w : List ℤ) (s : Sizes) : Type 0 where
@@ -17,6 +18,10 @@ pub record Sized (w : List ℤ) (s : Sizes) : Type 0 where
   pub f-top : s .f ≤ maxFragments
   pub c-top : s .c ≤ maxCalls
   pub used-top : s .used ≤ s .c
+
+-- the first four words of record r
+abbrev pub callWordsAt : List ℤ → Sizes → ℕ → CallWords
+callWordsAt w s r = record { variant = callWord w s r variantField; allele = callWord w s r alleleField; qual = qualAt w s r; «one_minus_qual» = oneMinusQualAt w s r }
 
 -- the length x of allele j of k: 1..64 where present, 0 where absent
 abbrev pub lengthTest : ℕ → ℕ → ℕ → Bool

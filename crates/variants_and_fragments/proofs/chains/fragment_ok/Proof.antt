@@ -1,7 +1,8 @@
 -- `chains::fragment_ok` meets its contract: strand, then first call, then the walk of the chain.
 -- Assumes nothing.
-use mathlib.Core.Path.{refl, _∙_}
+use mathlib.Core.Path.{refl, sym, _∙_}
 use Prim.Native.Nat.{_≤_}
+use borrow.Author.Tests.{not-true, not-false}
 use Rattle.variants_and_fragments.specs.Layout.{strandAt}
 use Rattle.variants_and_fragments.proofs.Bools.{true-false}
 use Rattle.variants_and_fragments.proofs.Chain.{frag-strand, frag-first, frag-in}
@@ -19,11 +20,11 @@ strand-of-requires c κs = search needs
 returns : tie.Need-returns
 returns c = record { ok = frag-strand _ _ _ (rw (c .before .strand-of .ensures) at (c .if1 .taken)); marked = λ z. true-false z refl }
 
-first-word-requires : tie.Need-first-word-requires
-first-word-requires c κs = search needs
+first-ok-requires : tie.Need-first-ok-requires
+first-ok-requires c κs = search needs
 
 returns-2 : tie.Need-returns-2
-returns-2 c = record { ok = frag-first _ _ _ (c .before .before .before .before .before .pre .0 .c-top) (strand-in (c .before .before)) (rw (c .before .first-word .ensures) at (c .if2 .taken)); marked = λ z. true-false z refl }
+returns-2 c = record { ok = frag-first _ _ _ (strand-in (c .before .before)) (sym (c .before .first-ok .ensures) ∙ not-true _ (c .if2 .taken)); marked = λ z. true-false z refl }
 
 walk-chain-requires : tie.Need-walk-chain-requires
 walk-chain-requires c κs = search needs
@@ -35,8 +36,7 @@ returns-3 : tie.Need-returns-3
 returns-3 c =
     let walked = c .before .before in
     let kept = walked .before .before in
-    let read = kept .before in
-    record { ok = walked .walk-chain .ensures .ok ∙ frag-in _ _ _ (read .before .before .before .before .pre .0 .c-top) (strand-in (read .before)) (rw (read .first-word .ensures) at (kept .if2 .left)); marked = walked .walk-chain .ensures .marked }
+    record { ok = walked .walk-chain .ensures .ok ∙ frag-in _ _ _ (strand-in (kept .before .before)) (sym (kept .before .first-ok .ensures) ∙ not-false _ (kept .if2 .left)); marked = walked .walk-chain .ensures .marked }
 
 pub fragment-ok-spec : {M : Type 1} → statement M
 fragment-ok-spec =
@@ -44,7 +44,7 @@ fragment-ok-spec =
     (tie.spec
     strand-of-requires
     returns
-    first-word-requires
+    first-ok-requires
     returns-2
     walk-chain-requires
     same-length

@@ -29,12 +29,12 @@ st c = c .before .before .before
 -- its link fails
 fails : (c : tie.Else2 Inv-loop μ-loop) → linkOk (st (lp c) .args .words .now) (st (lp c) .args .s) (lp c .loop .r) ≡ false
     → Walked (st (lp c) .args .words .now) (st (lp c) .args .s) (st (lp c) .args .f) (lp c .loop .seen) false
-fails c h = walk-link (st (lp c) .pre .0 .c-top) (lp c .loop .inv .0) (c .before .before .before .loop-test .taken) (c .before .before .if1 .left) (c .if2 .left) h
+fails c h = walk-link (st (lp c) .pre .0) (lp c .loop .inv .0) (c .before .before .before .loop-test .taken) (c .before .before .if1 .left) (c .if2 .left) h
 
 -- its link holds, and the walk goes on at its next
 goes : (c : tie.Else2 Inv-loop μ-loop) → linkOk (st (lp c) .args .words .now) (st (lp c) .args .s) (lp c .loop .r) ≡ true → (t : ℕ) → t ≡ nextCallAt (st (lp c) .args .words .now) (st (lp c) .args .s) (lp c .loop .r)
     → Walking (st (lp c) .args .words .now) (st (lp c) .args .s) (st (lp c) .args .f) (set (lp c .loop .seen) (lp c .loop .r) 1) t (lp c .loop .k + 1)
-goes c h t e = walk-on (st (lp c) .pre .0 .c-top) (lp c .loop .inv .0) (c .before .before .before .loop-test .taken) (c .before .before .if1 .left) (c .if2 .left) h t e
+goes c h t e = walk-on (st (lp c) .pre .0) (lp c .loop .inv .0) (c .before .before .before .loop-test .taken) (c .before .before .if1 .left) (c .if2 .left) h t e
 
 first-call-requires : tie.Need-first-call-requires Inv-loop μ-loop
 first-call-requires c κs = search needs
@@ -49,7 +49,7 @@ same-length : tie.Need-same-length Inv-loop μ-loop
 same-length c = search needs
 
 returns : tie.Need-returns Inv-loop μ-loop
-returns c = let l = c .before .before in walk-end (st l .pre .0 .c-top) (l .loop .inv .0) (c .if1 .taken)
+returns c = let l = c .before .before in walk-end (st l .pre .0) (l .loop .inv .0) (c .if1 .taken)
 
 slice-read-if2 : tie.Need-slice-read-if2 Inv-loop μ-loop
 slice-read-if2 c = search needs
@@ -60,7 +60,7 @@ same-length-2 c = search needs
 returns-2 : tie.Need-returns-2 Inv-loop μ-loop
 returns-2 c =
     let l = c .before .before .before .before in
-    walk-hit (st l .pre .0 .c-top) (l .loop .inv .0) (c .before .before .before .loop-test .taken) (c .before .before .if1 .left) (c .if2 .taken)
+    walk-hit (st l .pre .0) (l .loop .inv .0) (c .before .before .before .loop-test .taken) (c .before .before .if1 .left) (c .if2 .taken)
 
 add-after : tie.Need-add-after Inv-loop μ-loop
 add-after c = search needs
@@ -112,7 +112,7 @@ same-length-5 : tie.Need-same-length-5 Inv-loop μ-loop
 same-length-5 c = search needs
 
 returns-5 : tie.Need-returns-5 Inv-loop μ-loop
-returns-5 c = walk-out (st (c .before) .pre .0 .c-top) (c .before .loop .inv .0) (c .loop-test .left)
+returns-5 c = walk-out (st (c .before) .pre .0) (c .before .loop .inv .0) (c .loop-test .left)
 
 pub walk-chain-spec : {M : Type 1} → statement M
 walk-chain-spec =

@@ -3,7 +3,7 @@
 use mathlib.Core.Path.{sym, _∙_}
 use borrow.Author.Needs.{needs}
 use borrow.Author.Tests.{not-true, not-false}
-use Rattle.variants_and_fragments.proofs.Heads.{head-short, head-variants, head-fragments, head-calls, head-cutoff, head-right, head-length}
+use Rattle.variants_and_fragments.proofs.Heads.{head-short, head-variants, head-fragments, head-calls, head-cutoff, head-used, head-right, head-length}
 use Rattle.variants_and_fragments.proofs.head.head_fault.Statement.{statement}
 use Rattle.variants_and_fragments.proofs.head.head_fault.Tie as tie
 
@@ -47,24 +47,34 @@ returns-5 c =
     let b = e2 d in
     head-cutoff _ _ (read b .read-sizes .ensures) (read b .before .if1 .left) (b .if2 .left) (d .if3 .left) (e .if4 .left) (sym (c .before .cutoff-ok .ensures) ∙ not-true _ (c .if5 .taken))
 
-total-words-requires : tie.Need-total-words-requires
-total-words-requires c κs = search needs
-
 returns-6 : tie.Need-returns-6
 returns-6 c =
     let g = c .before .before in
     let e = g .before .before in
     let d = e3 e in
     let b = e2 d in
-    head-right _ _ (read b .read-sizes .ensures) (read b .before .if1 .left) (b .if2 .left) (d .if3 .left) (e .if4 .left) (sym (g .before .cutoff-ok .ensures) ∙ not-false _ (g .if5 .left)) (c .if6 .taken ∙ c .before .total-words .ensures)
+    head-used _ _ (read b .read-sizes .ensures) (read b .before .if1 .left) (b .if2 .left) (d .if3 .left) (e .if4 .left) (sym (g .before .cutoff-ok .ensures) ∙ not-false _ (g .if5 .left)) (c .if6 .taken)
+
+total-words-requires : tie.Need-total-words-requires
+total-words-requires c κs = search needs
 
 returns-7 : tie.Need-returns-7
 returns-7 c =
-    let g = c .before .before in
+    let u = c .before .before in
+    let g = u .before .before in
     let e = g .before .before in
     let d = e3 e in
     let b = e2 d in
-    head-length _ _ (read b .read-sizes .ensures) (read b .before .if1 .left) (b .if2 .left) (d .if3 .left) (e .if4 .left) (sym (g .before .cutoff-ok .ensures) ∙ not-false _ (g .if5 .left)) (λ q. c .if6 .left (q ∙ sym (c .before .total-words .ensures)))
+    head-right _ _ (read b .read-sizes .ensures) (read b .before .if1 .left) (b .if2 .left) (d .if3 .left) (e .if4 .left) (sym (g .before .cutoff-ok .ensures) ∙ not-false _ (g .if5 .left)) (u .if6 .left) (c .if7 .taken ∙ c .before .total-words .ensures)
+
+returns-8 : tie.Need-returns-8
+returns-8 c =
+    let u = c .before .before in
+    let g = u .before .before in
+    let e = g .before .before in
+    let d = e3 e in
+    let b = e2 d in
+    head-length _ _ (read b .read-sizes .ensures) (read b .before .if1 .left) (b .if2 .left) (d .if3 .left) (e .if4 .left) (sym (g .before .cutoff-ok .ensures) ∙ not-false _ (g .if5 .left)) (u .if6 .left) (λ q. c .if7 .left (q ∙ sym (c .before .total-words .ensures)))
 
 pub head-fault-spec : {M : Type 1} → statement M
 head-fault-spec =
@@ -77,6 +87,7 @@ head-fault-spec =
     returns-4
     cutoff-ok-requires
     returns-5
-    total-words-requires
     returns-6
-    returns-7)
+    total-words-requires
+    returns-7
+    returns-8)

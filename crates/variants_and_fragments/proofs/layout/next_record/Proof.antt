@@ -1,8 +1,6 @@
--- `layout::next_record` meets its contract: the record that the next word names.
+-- `layout::next_record` meets its contract: the record that its word names.
 -- Assumes nothing.
-use mathlib.Core.Path.{ap, _∙_}
 use borrow.Author.Needs.{needs}
-use Rattle.variants_and_fragments.specs.Inner.Chain.{recordOf}
 use Rattle.variants_and_fragments.proofs.layout.next_record.Statement.{statement}
 use Rattle.variants_and_fragments.proofs.layout.next_record.Tie as tie
 
@@ -13,7 +11,7 @@ record-of-requires : tie.Need-record-of-requires
 record-of-requires c κs = search needs
 
 returns : tie.Need-returns
-returns c = c .record-of .ensures ∙ ap (recordOf _) (c .before .next-call .ensures)
+returns c = rw (c .before .next-call .ensures) at (c .record-of .ensures)
 
 pub next-record-spec : {M : Type 1} → statement M
 next-record-spec = tie.close (tie.spec next-call-requires record-of-requires returns)

@@ -1,4 +1,4 @@
--- `layout::read_sizes` meets its contract: four words are there.
+-- `layout::read_sizes` meets its contract: five words are there.
 -- Assumes nothing.
 use borrow.Author.Needs.{needs}
 use mir.Syntax.{w32}
@@ -16,6 +16,9 @@ nat-at-requires-2 c κs = search needs
 nat-at-requires-3 : tie.Need-nat-at-requires-3
 nat-at-requires-3 c κs = search needs
 
+nat-at-requires-4 : tie.Need-nat-at-requires-4
+nat-at-requires-4 c κs = search needs
+
 word-at-requires : tie.Need-word-at-requires
 word-at-requires c κs = search needs
 
@@ -23,8 +26,8 @@ returns : tie.Need-returns
 returns c =
     let f : SFits w32 (c .word-at .result) = search needs in
     let n = c .before .before .before in
-    rw (n .nat-at .ensures, c .before .before .nat-at2 .ensures, c .before .nat-at3 .ensures, toZ-ofZ f, c .word-at .ensures)
+    rw (n .before .nat-at .ensures, n .nat-at2 .ensures, c .before .before .nat-at3 .ensures, c .before .nat-at4 .ensures, toZ-ofZ f, c .word-at .ensures)
 
 pub read-sizes-spec : {M : Type 1} → statement M
 read-sizes-spec =
-    tie.close (tie.spec nat-at-requires nat-at-requires-2 nat-at-requires-3 word-at-requires returns)
+    tie.close (tie.spec nat-at-requires nat-at-requires-2 nat-at-requires-3 nat-at-requires-4 word-at-requires returns)

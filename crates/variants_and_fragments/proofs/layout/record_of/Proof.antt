@@ -1,4 +1,4 @@
--- `layout::record_of` meets its contract: the definition's two cases.
+-- `layout::record_of` meets its contract: what is past the records used is none.
 -- Assumes nothing.
 use Rattle.variants_and_fragments.proofs.Chain.{record-none, record-some}
 use Rattle.variants_and_fragments.proofs.layout.record_of.Statement.{statement}

@@ -1,4 +1,4 @@
--- `variants::first_bad_variant` meets its contract. The loop's invariant: the records passed are right.
+-- `variants::first_bad_variant` meets its contract. The loop's invariant: the variants passed are right.
 -- Assumes nothing.
 use borrow.Author.Needs.{needs}
 use borrow.Author.Count.{below-none, below-more}
@@ -13,10 +13,10 @@ use Rattle.variants_and_fragments.proofs.variants.first_bad_variant.Sta
 use Rattle.variants_and_fragments.proofs.variants.first_bad_variant.Tie as tie
 
 abbrev Inv-loop : tie.InvT-loop
-Inv-loop words s n v₀ v = (v ≤ n) × ((j : ℕ) → j < v → variantOk words j ≡ true)
+Inv-loop words s haplotypes n v₀ v = (v ≤ n) × ((j : ℕ) → j < v → variantOk words haplotypes j ≡ true)
 
 abbrev μ-loop : tie.MeasureT-loop
-μ-loop words s n v₀ v = n - v
+μ-loop words s haplotypes n v₀ v = n - v
 
 loop-holds : tie.Need-loop-holds Inv-loop μ-loop
 loop-holds c = (omega arith, below-none _)
