@@ -88,6 +88,9 @@ module _ (w : List ℤ) (s : Sizes) (f : ℕ) where
     frag-in h = simp (strand-test, le-leb (strandAt w s f) 1 strand-in, h)
 
 -- ---- where a chain starts, and where it goes on
+pub record-bounds : (s : Sizes) (r : ℕ) → isRecord s r ≡ true → (1 ≤ r) × (r ≤ s .used)
+record-bounds s r h = let b = both (leb 1 r) (leb r (s .used)) h in (leb-true 1 r (b .0), leb-true r (s .used) (b .1))
+
 pub record-none : (s : Sizes) (t : ℕ) → s .used < t → 0 ≡ recordOf s t
 unfolding recordOf
 record-none s t h = simp (lt-leb _ _ h)
@@ -127,10 +130,7 @@ chain-from-record w s (suc k) r x h = go (isRecord s r) refl h (chain-from-recor
     go : (t : Bool) → isRecord s r ≡ t → memb x (cond t (r ∷ chainFrom w s k (nextCallAt w s r)) []) ≡ true
         → (memb x (chainFrom w s k (nextCallAt w s r)) ≡ true → (1 ≤ x) × (x ≤ s .used)) → (1 ≤ x) × (x ≤ s .used)
     go false e m rec = true-false m refl
-    go true e m rec = let b = both (leb 1 r) (leb r (s .used)) e in elim (ℕ-discrete x r) [
-      | yes q ↦ rw q (leb-true 1 r (b .0), leb-true r (s .used) (b .1))
-      | no q ↦ rec (rw (ne-eqb x r q) at m)
-    ]
+    go true e m rec = elim (ℕ-discrete x r) [ yes q ↦ rw q (record-bounds s r e) | no q ↦ rec (rw (ne-eqb x r q) at m) ]
 
 pub chain-record : (w : List ℤ) (s : Sizes) (f x : ℕ) → memb x (chainOf w s f) ≡ true → (1 ≤ x) × (x ≤ s .used)
 unfolding chainOf

@@ -1,20 +1,21 @@
 -- The chains of an accepted case share no record, so that they have at most C records together: these are distinct numbers of 1..C.
 -- Assumes nothing.
 use mathlib.Core.Path.{_≡_, refl, sym, _∙_, ap}
-use mathlib.Core.Bool.{Bool, true, false, not, cond, _&&_}
+use mathlib.Core.Bool.{Bool, true, false, not, cond, _&&_, _||_}
 use mathlib.Core.List.{List, [], _∷_, _++_, map}
 use Prim.Native.Nat.{ℕ, zero, suc, _+_, _≤_, _<_}
 use native.Mathlib.Nat.{le-refl}
 use native.Mathlib.Omega.{arith}
 use native.Mathlib.Decide.{decLt, ℕ-discrete}
-use borrow.Author.Tests.{leb-true, eq-eqb, ne-eqb}
+use borrow.Author.Tests.{eq-eqb, ne-eqb}
 use lib.ListN.{length, length-append, length-map}
 use lib.IntN.{ℤ}
-use lib.Dec.{eqb, leb}
+use lib.Dec.{eqb}
 use Rattle.variants_and_fragments.specs.declared.Sizes.{Sizes}
 use Rattle.variants_and_fragments.specs.Chain.{nextCallAt, firstCallAt, isRecord, linkOk, chainFrom, chainOf, memb, reached, goodChain}
 use Rattle.variants_and_fragments.specs.Inner.Accepted.{CaseIn}
 use Rattle.variants_and_fragments.proofs.Bools.{both, or-off, or-right, not-on, true-false}
+use Rattle.variants_and_fragments.proofs.Chain.{record-bounds}
 use Rattle.variants_and_fragments.proofs.Walks.{memb-middle}
 use Rattle.variants_and_fragments.specs.Inner.ChainCalls.{callId, callsFrom}
 
@@ -124,7 +125,7 @@ chain-within w s (suc k) r l h = go (isRecord s r) refl (chain-within w s k (nex
   where
     go : (t : Bool) → isRecord s r ≡ t → Within (s .used) (chainFrom w s k (nextCallAt w s r) ++ l) → Within (s .used) (cond t (r ∷ chainFrom w s k (nextCallAt w s r)) [] ++ l)
     go false e rec = h
-    go true e rec = let b = both (leb 1 r) (leb r (s .used)) e in more (leb-true 1 r (b .0)) (leb-true r (s .used) (b .1)) rec
+    go true e rec = let b = record-bounds s r e in more (b .0) (b .1) rec
 
 reached-ok : (w : List ℤ) (s : Sizes) → CaseIn w s → (f : ℕ) → f ≤ s .f → (distinct (reached w s f) ≡ true) × Within (s .used) (reached w s f)
 unfolding reached chainOf distinct
@@ -150,15 +151,16 @@ chains-top w s k f l =
     omega (arith, pigeon (s .used) (reached w s f) (r .0) (r .1), reached-length w s f)
 
 -- ---- a record lies in one chain at most
-pub memb-left : (r : ℕ) (rs l : List ℕ) → memb r rs ≡ true → memb r (rs ++ l) ≡ true
+pub memb-append : (x : ℕ) (rs l : List ℕ) → memb x (rs ++ l) ≡ (memb x rs || memb x l)
 unfolding memb
-memb-left r [] l h = true-false h refl
-memb-left r (x ∷ rs) l h = elim (ℕ-discrete r x) [ yes e ↦ rw (eq-eqb r x e) | no e ↦ or-right (eqb r x) (memb r (rs ++ l)) (memb-left r rs l (rw (ne-eqb r x e) at h)) ]
+memb-append x [] l = refl
+memb-append x (y ∷ rs) l = elim (ℕ-discrete x y) [ yes e ↦ rw (eq-eqb x y e) | no n ↦ rw (ne-eqb x y n) (memb-append x rs l) ]
 
-pub memb-right : (r : ℕ) (rs l : List ℕ) → memb r l ≡ true → memb r (rs ++ l) ≡ true
-unfolding memb
-memb-right r [] l h = h
-memb-right r (x ∷ rs) l h = or-right (eqb r x) (memb r (rs ++ l)) (memb-right r rs l h)
+pub memb-left : (r : ℕ) (rs l : List ℕ) → memb r rs ≡ true → memb r (rs ++ l) ≡ true
+memb-left r rs l h = rw (memb-append r rs l, h)
+
+memb-right : (r : ℕ) (rs l : List ℕ) → memb r l ≡ true → memb r (rs ++ l) ≡ true
+memb-right r rs l h = memb-append r rs l ∙ or-right (memb r rs) (memb r l) h
 
 pub reached-has : (w : List ℤ) (s : Sizes) (r f g : ℕ) → f < g → memb r (chainOf w s f) ≡ true → memb r (reached w s g) ≡ true
 unfolding reached

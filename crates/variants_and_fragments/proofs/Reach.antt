@@ -3,32 +3,27 @@
 -- has nowhere else to go: one record more would be C + 1 distinct numbers of 1..C.
 -- Assumes nothing.
 use mathlib.Core.Path.{_≡_, refl, sym, ap, _∙_}
-use mathlib.Core.Bool.{Bool, true, false, not, cond, _&&_, _||_}
+use mathlib.Core.Bool.{Bool, true, false, cond, _||_}
 use mathlib.Core.List.{List, [], _∷_, _++_}
 use Prim.Native.Nat.{ℕ, zero, suc, _+_, _-_, _≤_, _<_}
 use native.Mathlib.Omega.{arith}
 use native.Mathlib.Decide.{ℕ-discrete}
 use native.Mathlib.Nat.{sub-zero}
-use borrow.Author.Tests.{leb-true, le-leb, eq-eqb, ne-eqb}
+use borrow.Author.Tests.{eq-eqb, ne-eqb}
 use lib.ListN.{length, getD, set}
 use lib.IntN.{ℤ}
-use lib.Dec.{eqb, leb}
+use lib.Dec.{eqb}
 use Rattle.variants_and_fragments.specs.declared.Sizes.{Sizes}
 use Rattle.variants_and_fragments.specs.Layout.{callOk}
 use Rattle.variants_and_fragments.specs.Chain.{firstCallAt, nextCallAt, isRecord, chainFrom, chainOf, memb, reached, isReached, reachedCallOk}
 use Rattle.variants_and_fragments.specs.Inner.Layout.{Sized}
 use Rattle.variants_and_fragments.specs.Inner.Chain.{recordOf, firstRecordAt, flag, Marked, Closed, ReachMarked}
-use Rattle.variants_and_fragments.proofs.Bools.{both, or-off, or-right, true-false}
-use Rattle.variants_and_fragments.proofs.Chain.{record-some, record-top, record-chain}
+use Rattle.variants_and_fragments.proofs.Bools.{or-off, or-right, true-false}
+use Rattle.variants_and_fragments.proofs.Chain.{record-bounds, record-some, record-top, record-chain}
 use Rattle.variants_and_fragments.proofs.Walks.{chain-step, memb-middle, flag-off, flag-on, mark-more}
-use Rattle.variants_and_fragments.proofs.Pigeon.{distinct, Within, none, more, pigeon, memb-left}
+use Rattle.variants_and_fragments.proofs.Pigeon.{distinct, Within, none, more, pigeon, memb-append, memb-left}
 
 -- ---- lists of records
-memb-append : (x : ℕ) (rs l : List ℕ) → memb x (rs ++ l) ≡ (memb x rs || memb x l)
-unfolding memb
-memb-append x [] l = refl
-memb-append x (y ∷ rs) l = elim (ℕ-discrete x y) [ yes e ↦ rw (eq-eqb x y e) | no n ↦ rw (ne-eqb x y n) (memb-append x rs l) ]
-
 memb-head : (x y : ℕ) (l : List ℕ) → x ≡ y → memb x (y ∷ l) ≡ true
 unfolding memb
 memb-head x y l e = rw (eq-eqb x y e)
@@ -41,16 +36,13 @@ memb-more : (x y : ℕ) (l : List ℕ) → memb x l ≡ true → memb x (y ∷ l
 unfolding memb
 memb-more x y l h = or-right (eqb x y) (memb x l) h
 
--- a list that is part of another one with m, and that covers it with m, is that one with m
+-- a test that gives another one, which gives it or a third, is the same beside the third
 or-same : (a b c : Bool) → (a ≡ true → b ≡ true) → (b ≡ true → (a || c) ≡ true) → (a || c) ≡ (b || c)
 or-same true b c h k = rw (h refl)
 or-same false true c h k = k refl
 or-same false false c h k = refl
 
 module _ (w : List ℤ) (s : Sizes) where
-  record-bounds : (r : ℕ) → isRecord s r ≡ true → (1 ≤ r) × (r ≤ s .used)
-  record-bounds r h = let b = both (leb 1 r) (leb r (s .used)) h in (leb-true 1 r (b .0), leb-true r (s .used) (b .1))
-
   -- a list that holds the record after each of its own holds a chain that starts in it
   stays : (l : List ℕ) → Closed w s l → (k t : ℕ) → (isRecord s t ≡ true → memb t l ≡ true) → (x : ℕ) → memb x (chainFrom w s k t) ≡ true → memb x l ≡ true
   unfolding chainFrom memb
@@ -74,7 +66,6 @@ pub record Reaching (w : List ℤ) (s : Sizes) (f : ℕ) (seen : List ℕ) (r k 
   -- those that it marked
   pub passed : List ℕ
   pub r-top : r ≤ s .used
-  pub k-top : k ≤ s .c
   pub now-marked : Marked seen (passed ++ reached w s f)
   pub apart : distinct passed ≡ true
   pub used : Within (s .used) passed
@@ -90,13 +81,12 @@ unfolding chainOf distinct
 reach-start w s f seen r e m = record {
   passed = [];
   r-top = omega (arith, record-top s (firstCallAt w s f));
-  k-top = omega arith;
   now-marked = m .marked;
   apart = refl;
   used = none;
   count = refl;
   has = λ x. rw (e, sub-zero, record-chain);
-  starts = λ h. memb-head _ _ _ (record-some s (firstCallAt w s f) (record-bounds w s _ h .1) ∙ sym e);
+  starts = λ h. memb-head _ _ _ (record-some s (firstCallAt w s f) (record-bounds s _ h .1) ∙ sym e);
   goes = λ x h k. memb-more _ r _ (m .whole .closed x h k);
 }
 
@@ -124,8 +114,8 @@ module _ {w : List ℤ} {s : Sizes} {f : ℕ} {seen : List ℕ} {r k : ℕ} (siz
     same x =
         memb-append x (i .passed) (reached w s f)
         ∙ or-same (memb x (i .passed)) (memb x (chainOf w s f)) (memb x (reached w s f))
-          (λ h. i .has x ∙ memb-left x (i .passed) _ h)
-          (λ h. sym (memb-append x (i .passed) (reached w s f)) ∙ stays w s marked whole (s .c) (firstCallAt w s f) (λ z. past _ (i .starts z) z) x h)
+        (λ h. i .has x ∙ memb-left x (i .passed) _ h)
+        (λ h. sym (memb-append x (i .passed) (reached w s f)) ∙ stays w s marked whole (s .c) (firstCallAt w s f) (λ z. past _ (i .starts z) z) x h)
         ∙ sym (memb-append x (chainOf w s f) (reached w s f))
 
     reach-done : ReachMarked w s (suc f) seen
@@ -133,7 +123,7 @@ module _ {w : List ℤ} {s : Sizes} {f : ℕ} {seen : List ℕ} {r k : ℕ} (siz
 
   -- at the end of the chain
   pub reach-end : r ≡ 0 → ReachMarked w s (suc f) seen
-  reach-end e = reach-done (λ h. absurd (omega (arith, record-bounds w s r h .0)))
+  reach-end e = reach-done (λ h. absurd (omega (arith, record-bounds s r h .0)))
 
   -- at a record marked before
   pub reach-hit : (getD seen r 0 ≡ 0 → ⊥) → ReachMarked w s (suc f) seen
@@ -150,14 +140,13 @@ module _ {w : List ℤ} {s : Sizes} {f : ℕ} {seen : List ℕ} {r k : ℕ} (siz
     where
       go : isRecord s r ≡ true → (b : Bool) → memb r marked ≡ b → b ≡ true
       go h true e = refl
-      go h false e = absurd (omega (arith, pigeon (s .used) (r ∷ i .passed) (fresh e) (more (record-bounds w s r h .0) (i .r-top) (i .used)), i .count, sized .used-top))
+      go h false e = absurd (omega (arith, pigeon (s .used) (r ∷ i .passed) (fresh e) (more (record-bounds s r h .0) (i .r-top) (i .used)), i .count, sized .used-top))
 
   -- before that the walk marks it and goes on at its next
   pub reach-on : k < s .c → (r ≡ 0 → ⊥) → getD seen r 0 ≡ 0 → (t : ℕ) → t ≡ recordOf s (nextCallAt w s r) → Reaching w s f (set seen r 1) t (k + 1)
   reach-on h n free t e = record {
     passed = r ∷ i .passed;
     r-top = rw e (record-top s (nextCallAt w s r));
-    k-top = omega arith;
     now-marked = mark-more r r-in (i .now-marked);
     apart = fresh (flag-off _ (sym flagged ∙ free));
     used = more {x = r} (omega arith) (i .r-top) (i .used);
@@ -165,7 +154,7 @@ module _ {w : List ℤ} {s : Sizes} {f : ℕ} {seen : List ℕ} {r k : ℕ} (siz
     has = λ x. i .has x ∙ rw (chain-step w s k r h (omega arith) (i .r-top), e, record-chain) (sym (memb-middle x r (i .passed) _));
     starts = λ z. memb-more _ t _ (i .starts z);
     goes = λ x m z. elim (ℕ-discrete x r) [
-      | yes q ↦ memb-head _ _ _ (record-some s (nextCallAt w s x) (record-bounds w s _ z .1) ∙ rw q (sym e))
+      | yes q ↦ memb-head _ _ _ (record-some s (nextCallAt w s x) (record-bounds s _ z .1) ∙ rw q (sym e))
       | no o ↦ memb-more _ t _ (i .goes x (sym (memb-tail x r marked o) ∙ m) z)
     ];
   }
