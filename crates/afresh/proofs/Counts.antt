@@ -2,16 +2,16 @@
 -- it has the number of its fragment, so that the strand which section 4 looks up by that number is the strand of the fragment at hand.
 -- Assumes nothing.
 use mathlib.Core.Path.{_≡_, refl, sym, ap, _∙_}
-use mathlib.Core.Bool.{Bool, true, false, not, cond, _&&_, and-true, and-comm}
-use mathlib.Core.List.{List, [], _∷_, _++_, map}
+use mathlib.Core.Bool.{Bool, true, false, _&&_, and-true, and-comm}
+use mathlib.Core.List.{List, [], _∷_, map}
 use Prim.Native.Nat.{ℕ, zero, suc, _+_, _*_, _/_, _%_, _<_}
 use native.Mathlib.Decide.{ℕ-discrete}
 use native.Mathlib.Omega.{arith}
 use borrow.Author.Tests.{eq-eqb, ne-eqb, lt-ltb, le-ltb}
 use lib.Dec.{eqb}
 use lib.IntN.{ℤ, pos}
-use Rattle.steps.proofs.Signed.{by-test}
 use lib.ListN.{length, getD, length-map}
+use Rattle.steps.proofs.Signed.{by-test}
 use Rattle.variants_and_fragments.specs.Case.{Case, Fragment, Call, usable, fragmentOf, noFragment}
 use Rattle.variants_and_fragments.specs.Pileup.{Row, rowOf, only, usableCalls, rowsFrom, rowsOf, atVariant, pileOf, ambiguousIn, ambiguousFrom, ambiguousCount}
 use Rattle.variants_and_fragments.specs.Sums.{countOver}
@@ -68,7 +68,8 @@ module _ (cutoff : ℤ) (p : Row → Bool) (q : Fragment → Call → Bool) wher
       rw (only-map (rowOf f) p (usableCalls cutoff x), length-map (only (λ call. p (rowOf f call)) (usableCalls cutoff x)) (rowOf f))
       (ap length (only-twice (λ call. p (rowOf f call)) (usable cutoff x) (x .calls) ∙ only-cong _ _ (x .calls) (λ call. ap (λ t. usable cutoff x call && t) (e call))))
 
-  from-rows : (f : ℕ) (xs : List Fragment) → ((i : ℕ) → i < length xs → (call : Call) → p (rowOf (f + i) call) ≡ q (getD xs i noFragment) call) → length (only p (rowsFrom cutoff f xs)) ≡ countOver xs own
+  from-rows : (f : ℕ) (xs : List Fragment) → ((i : ℕ) → i < length xs → (call : Call) → p (rowOf (f + i) call) ≡ q (getD xs i noFragment) call)
+      → length (only p (rowsFrom cutoff f xs)) ≡ countOver xs own
   unfolding rowsFrom countOver
   from-rows f [] e = rw (only-none p)
   from-rows f (x ∷ xs) e =
@@ -122,7 +123,10 @@ module _ (case : Case) (v : ℕ) where
       let m : j % 3 ≡ a = omega arith in
       let d : j / 3 ≡ 1 + s = omega arith in
       pile-count (λ (row : Row). eqb (rowStrand case row) s && eqb (row .call .allele) a) (λ x call. eqb (x .strand) s && eqb (call .allele) a) (λ f l call. refl)
-      ∙ counted-by j (λ x call. usable cutoff x call && (eqb (x .strand) s && eqb (call .allele) a)) (λ x call. rw (ne-eqb j 9 (omega arith), m, d, le-ltb j 3 (omega arith), strand-test s (x .strand)) (ap (λ t. usable cutoff x call && t) (and-comm (eqb (call .allele) a) (eqb (x .strand) s))))
+      ∙ counted-by j (λ x call. usable cutoff x call && (eqb (x .strand) s && eqb (call .allele) a))
+      (λ x call.
+      rw (ne-eqb j 9 (omega arith), m, d, le-ltb j 3 (omega arith), strand-test s (x .strand))
+      (ap (λ t. usable cutoff x call && t) (and-comm (eqb (call .allele) a) (eqb (x .strand) s))))
 
   ambiguous-are : ambiguousCount case v ≡ countOver fragments (adds 9)
   unfolding ambiguousCount ambiguousIn counted

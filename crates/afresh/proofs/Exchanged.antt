@@ -1,7 +1,7 @@
 -- One fragment in another's place: a sum over the fragments loses the old one's term and gains the new one's, and all that goes by the variants
 -- and the cutoff stays. A fragment without calls has no likelihood, no count and no share.
 -- Assumes nothing.
-use mathlib.Core.Path.{_≡_, refl, ap, _∙_}
+use mathlib.Core.Path.{_≡_, refl}
 use mathlib.Core.List.{List, [], _∷_}
 use Prim.Native.Nat.{ℕ, zero, suc, _+_, _<_}
 use native.Mathlib.Omega.{arith}
@@ -13,7 +13,6 @@ use Rattle.steps.proofs.Signed.{zlin, parts-add}
 use Rattle.variants_and_fragments.specs.Case.{Case, Fragment}
 use Rattle.variants_and_fragments.specs.Pileup.{only, usableCalls}
 use Rattle.variants_and_fragments.specs.Sums.{sumOver, countOver}
-use Rattle.variants_and_fragments.proofs.Only.{only-none}
 use Rattle.genotype_probs.specs.declared.Rates.{Rates}
 use Rattle.haplotype_assembly.specs.Phase.{phasedFlags}
 use Rattle.sweeps.specs.Sweeps.{likelihood}

@@ -20,8 +20,8 @@ use Rattle.sweeps.specs.Sweeps.{allele0, allele1, likelihood, readShare, totalO
 use Rattle.sweeps.proofs.Basics.{lik-cong}
 use Rattle.likelihoods.specs.SweepCaseOf.{sweepCaseOf}
 use Rattle.likelihoods.proofs.SweepCases.{frag-is}
-use Rattle.late_reads.specs.Values.{Values, Fixed, likelihoodOn, readCount}
-use Rattle.afresh.specs.Fresh.{sweepsOf, countWordAt, Fresh, fixedOf}
+use Rattle.late_reads.specs.Values.{Values, values, Fixed, likelihoodOn, readCount}
+use Rattle.afresh.specs.Fresh.{sweepsOf, Fresh, fixedOf}
 use Rattle.afresh.proofs.Counts.{counts-are}
 
 -- a read's share of the total: its two likelihoods mixed
@@ -42,7 +42,8 @@ module _ (rates : Rates) (case : Case) (phase haps : List ℕ) where
   unfoldable pub priorsTotal : ℤ
   priorsTotal = sumTo (length (case .variants)) (λ w. cond (phasedFlags case phase w) (getPrior rates (variantOf case w) (allele0 haps w) (allele1 haps w)) (pos 0))
 
-  likelihood-is : (e : ℕ) → likelihood (phasedFlags case phase) (λ v. getD haps (2 * v + e % 2) 0) (getD (sweepsOf rates case phase .frags) (e / 2) []) ≡ likelihoodOn fixed (fragmentOf case (e / 2)) (e % 2)
+  likelihood-is : (e : ℕ)
+      → likelihood (phasedFlags case phase) (λ v. getD haps (2 * v + e % 2) 0) (getD (sweepsOf rates case phase .frags) (e / 2) []) ≡ likelihoodOn fixed (fragmentOf case (e / 2)) (e % 2)
   unfolding likelihoodOn
   likelihood-is e = rw (frag-is rates (phasedFlags case phase) case (e / 2))
 
@@ -67,9 +68,17 @@ module _ (rates : Rates) (case : Case) (phase haps : List ℕ) where
     total = fresh .total ∙ total-is;
   }
 
+  -- and the other way round
   pub of-parts : {x : Values} → Parts fixed priorsTotal (length (case .variants)) (case .fragments) x → Fresh rates case phase haps x
   of-parts parts = record {
     likelihoods = λ e h. parts .likelihoods e h ∙ sym (likelihood-is e);
     counts = λ e h. parts .counts e h ∙ sym (counts-are rates case e);
     total = parts .total ∙ sym total-is;
   }
+
+-- only the total goes by the rates
+pub fresh-any : (rates other : Rates) (case : Case) (phase haps : List ℕ) {x : Values} → Fresh rates case phase haps x
+    → Fresh other case phase haps (values (x .likelihoods) (x .counts) (phasedTotal (sweepsOf other case phase) haps))
+fresh-any rates other case phase haps fresh =
+    let parts = in-parts rates case phase haps fresh in
+    of-parts other case phase haps (record { likelihoods = parts .likelihoods; counts = parts .counts; total = total-is other case phase haps })

@@ -14,7 +14,7 @@ use lib.ListN.{length, getD}
 use Rattle.steps.specs.Logs.{mixOf}
 use Rattle.steps.proofs.AddExp.{add-least, add-below}
 use Rattle.steps.proofs.Signed.{by-test, zlin, up-pos, dn-pos, neg-up, neg-dn, natAbs-parts, parts-add, parts-minus}
-use Rattle.variants_and_fragments.specs.Case.{Case, Fragment, Call, Variant, variantOf, alleleOf, callCount}
+use Rattle.variants_and_fragments.specs.Case.{Case, Fragment, Call, Variant, variantOf, alleleOf}
 use Rattle.variants_and_fragments.specs.First.{holdsBelow}
 use Rattle.variants_and_fragments.specs.Inner.Case.{risingFrom, All, end, also, GoodFragment, GoodCase}
 use Rattle.variants_and_fragments.specs.Inner.Sums.{DownTo}
@@ -164,10 +164,16 @@ module _ (rates : Rates) (case : Case) (phase haps : List ℕ) (good : GoodCase 
 
   -- element e of the counts
   count-in : (e : ℕ) → countOver (case .fragments) (λ y. readCount (case .cutoff) y e) ≤ maxCount
-  count-in e = omega (arith, count-once (λ y. readCount (case .cutoff) y e) (case .fragments) (all-imp (λ y g. read-once (case .cutoff) y g e) (good .fragments-in)), good .fragments-top)
+  count-in e =
+      omega (
+        arith,
+        good .fragments-top,
+        count-once (λ y. readCount (case .cutoff) y e) (case .fragments) (all-imp (λ y g. read-once (case .cutoff) y g e) (good .fragments-in)),
+      )
 
   -- element e of the likelihoods
-  likelihood-of : (e : ℕ) → e < 2 * length (case .fragments) → DownTo (2 ^ 40) (likelihood (phasedFlags case phase) (λ v. getD haps (2 * v + e % 2) 0) (getD (sweepsOf rates case phase .frags) (e / 2) []))
+  likelihood-of : (e : ℕ) → e < 2 * length (case .fragments)
+      → DownTo (2 ^ 40) (likelihood (phasedFlags case phase) (λ v. getD haps (2 * v + e % 2) 0) (getD (sweepsOf rates case phase .frags) (e / 2) []))
   likelihood-of e h =
       down-more (2 ^ 32) (2 ^ 40) _ (omega arith)
       (likelihood-in rates (phasedFlags case phase) case good (phasedFlags case phase) (λ v. getD haps (2 * v + e % 2) 0) (e / 2) (omega (arith, frags-length rates (phasedFlags case phase) case)))
@@ -179,6 +185,8 @@ module _ (rates : Rates) (case : Case) (phase haps : List ℕ) (good : GoodCase 
       let parts = in-parts rates case phase haps fresh in
       rw (
         down-within (x .total) (rw (parts .total) total-in),
-        holds-below (λ e. within lowestTotal (pos 0) (getD (x .likelihoods) e (pos 0))) (2 * length (case .fragments)) (λ e h. down-within _ (rw (fresh .likelihoods e h) (likelihood-of e h))),
-        holds-below (λ e. within (pos 0) (pos maxCount) (getD (x .counts) e (pos 0))) (10 * length (case .variants)) (λ e h. rw (parts .counts e h) (count-within _ (count-in e))),
+        holds-below (λ e. within lowestTotal (pos 0) (getD (x .likelihoods) e (pos 0))) (2 * length (case .fragments))
+            (λ e h. down-within _ (rw (fresh .likelihoods e h) (likelihood-of e h))),
+        holds-below (λ e. within (pos 0) (pos maxCount) (getD (x .counts) e (pos 0))) (10 * length (case .variants))
+            (λ e h. rw (parts .counts e h) (count-within _ (count-in e))),
       )

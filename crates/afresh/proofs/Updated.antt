@@ -15,8 +15,7 @@ use Rattle.steps.specs.Logs.{mixOf}
 use Rattle.steps.proofs.Signed.{zlin, up-pos, dn-pos, parts-add, parts-minus}
 use Rattle.variants_and_fragments.specs.Case.{Case, Fragment, noFragment, fragmentOf}
 use Rattle.variants_and_fragments.specs.Sums.{sumOver, countOver}
-use Rattle.variants_and_fragments.specs.Written.{written}
-use Rattle.variants_and_fragments.proofs.Written.{written-at}
+use Rattle.variants_and_fragments.proofs.Written.{written-length, written-at}
 use Rattle.genotype_probs.specs.declared.Rates.{Rates}
 use Rattle.late_reads.specs.Values.{Values, Fixed, likelihoodOn, readCount, putLikelihoods, arrived, departed, exchanged}
 use Rattle.afresh.specs.Fresh.{Fresh, fixedOf}
@@ -39,7 +38,7 @@ put-other : (l : List ℤ) (f : ℕ) (x y : ℤ) (e : ℕ) → e / 2 ≢ f → g
 put-other l f x y e q = getD-set-other (set l (2 * f) x) (2 * f + 1) e y (pos 0) (λ z. q (omega arith)) ∙ getD-set-other l (2 * f) e x (pos 0) (λ z. q (omega arith))
 
 -- ---- numbers
--- n being what the fragment exchanged had or has
+-- a sum s with b for a is s': the total gains b where a is 0, and loses a where b is 0
 gain : (t p s s' a b : ℤ) → t ≡ p +ℤ s → s' +ℤ a ≡ s +ℤ b → a ≡ pos 0 → t +ℤ b ≡ p +ℤ s'
 gain t p s s' a b e q z = omega (zlin, e, q, z, parts-add p s, parts-add p s', parts-add s' a, parts-add s b, parts-add t b, up-pos 0, dn-pos 0)
 
@@ -49,7 +48,18 @@ loss t p s s' a b c e q z w = omega (zlin, e, q, z, w, parts-add p s, parts-add 
 count-loss : (m n k : ℕ) → k + n ≡ m → pos m -ℤ pos n ≡ pos k
 count-loss m n k e = omega (zlin, parts-minus (pos m) (pos n), up-pos m, dn-pos m, up-pos n, dn-pos n, up-pos k, dn-pos k)
 
-module _ (fixed : Fixed) {priors : ℤ} {n : ℕ} {fragments : List Fragment} {x : Values} (f : ℕ) (y : Fragment) (inside : f < length fragments) (room : 2 * length fragments ≤ length (x .likelihoods)) (parts : Parts fixed priors n fragments x) where
+-- ---- the values of fragments, with y as fragment f
+module _
+    (fixed : Fixed)
+    {priors : ℤ}
+    {n : ℕ}
+    {fragments : List Fragment}
+    {x : Values}
+    (f : ℕ)
+    (y : Fragment)
+    (inside : f < length fragments)
+    (room : 2 * length fragments ≤ length (x .likelihoods))
+    (parts : Parts fixed priors n fragments x) where
   abbrev old : Fragment
   old = getD fragments f noFragment
 
@@ -73,6 +83,12 @@ module _ (fixed : Fixed) {priors : ℤ} {n : ℕ} {fragments : List Fragment} {x
       let r : (2 * f + 1) % 2 ≡ 1 = omega arith in
       cc (rw (d, m) at (parts .likelihoods (2 * f) (omega arith)), rw (q, r) at (parts .likelihoods (2 * f + 1) (omega arith)))
 
+  abbrev shares : List Fragment → ℤ
+  shares l = sumOver l (share fixed)
+
+  shares-set : shares (set fragments f y) +ℤ share fixed old ≡ shares fragments +ℤ share fixed y
+  shares-set = sum-set fragments f y noFragment (share fixed) inside
+
   module _ (long : 10 * n ≤ length (x .counts)) where
     arrival : old .calls ≡ [] → Parts fixed priors n (set fragments f y) (arrived fixed n f y x)
     unfolding arrived share
@@ -83,7 +99,7 @@ module _ (fixed : Fixed) {priors : ℤ} {n : ℕ} {fragments : List Fragment} {x
           written-at _ (10 * n) (x .counts) (pos 0) long e h
           ∙ ap (λ z. z +ℤ pos (a y)) (parts .counts e h)
           ∙ ap pos (omega (arith, count-set fragments f y noFragment a inside, no-count fixed old none e));
-      total = gain (x .total) priors (sumOver fragments (share fixed)) (sumOver (set fragments f y) (share fixed)) (share fixed old) (share fixed y) (parts .total) (sum-set fragments f y noFragment (share fixed) inside) (no-share fixed old none);
+      total = gain (x .total) priors (shares fragments) (shares (set fragments f y)) (share fixed old) (share fixed y) (parts .total) shares-set (no-share fixed old none);
     }
 
     departure : y .calls ≡ [] → Parts fixed priors n (set fragments f y) (departed (fixed .cutoff) n f old x)
@@ -95,18 +111,23 @@ module _ (fixed : Fixed) {priors : ℤ} {n : ℕ} {fragments : List Fragment} {x
           written-at _ (10 * n) (x .counts) (pos 0) long e h
           ∙ ap (λ z. z -ℤ pos (a old)) (parts .counts e h)
           ∙ count-loss (countOver fragments a) (a old) (countOver (set fragments f y) a) (omega (arith, count-set fragments f y noFragment a inside, no-count fixed y none e));
-      total = loss (x .total) priors (sumOver fragments (share fixed)) (sumOver (set fragments f y) (share fixed)) (share fixed old) (share fixed y) _ (parts .total) (sum-set fragments f y noFragment (share fixed) inside) (no-share fixed y none) share-lent;
+      total = loss (x .total) priors (shares fragments) (shares (set fragments f y)) (share fixed old) (share fixed y) _ (parts .total) shares-set (no-share fixed y none) share-lent;
     }
 
 -- ---- of a case
 module _ (rates : Rates) (case : Case) (phase haps : List ℕ) (x : Values) (f : ℕ) (y : Fragment) where
   -- with y at f the parts are those of the fragments with y at f
-  of-exchanged : {z : Values} → Parts (fixedOf case phase haps) (priorsTotal rates case phase haps) (length (case .variants)) (set (case .fragments) f y) z → Fresh rates (exchanged case f y) phase haps z
+  of-exchanged : {z : Values} → Parts (fixedOf case phase haps) (priorsTotal rates case phase haps) (length (case .variants)) (set (case .fragments) f y) z
+      → Fresh rates (exchanged case f y) phase haps z
   unfolding exchanged
   of-exchanged parts = of-parts rates (exchanged case f y) phase haps (rw (same-fixed case f y phase haps, same-priors case f y phase haps rates) parts)
 
   -- ---- values that are fresh, with room for all of the case
-  module _ (fresh : Fresh rates case phase haps x) (inside : f < length (case .fragments)) (room : 2 * length (case .fragments) ≤ length (x .likelihoods)) (long : 10 * length (case .variants) ≤ length (x .counts)) where
+  module _
+      (fresh : Fresh rates case phase haps x)
+      (inside : f < length (case .fragments))
+      (room : 2 * length (case .fragments) ≤ length (x .likelihoods))
+      (long : 10 * length (case .variants) ≤ length (x .counts)) where
     -- read y arrives at a number whose fragment has no calls
     pub fresh-arrival : fragmentOf case f .calls ≡ [] → Fresh rates (exchanged case f y) phase haps (arrived (fixedOf case phase haps) (length (case .variants)) f y x)
     fresh-arrival none = of-exchanged (arrival (fixedOf case phase haps) f y inside room (in-parts rates case phase haps fresh) long none)
@@ -114,3 +135,26 @@ module _ (rates : Rates) (case : Case) (phase haps : List ℕ) (x : Values) (f :
     -- the fragment at f departs: y, without calls, is there instead
     pub fresh-departure : y .calls ≡ [] → Fresh rates (exchanged case f y) phase haps (departed (case .cutoff) (length (case .variants)) f (fragmentOf case f) x)
     fresh-departure none = of-exchanged (departure (fixedOf case phase haps) f y inside room (in-parts rates case phase haps fresh) long none)
+
+-- ---- no list gets longer or shorter, so that there is room for the next one
+module _ (fixed : Fixed) (n f : ℕ) (y : Fragment) (x : Values) where
+  pub arrived-likelihoods : length (arrived fixed n f y x .likelihoods) ≡ length (x .likelihoods)
+  unfolding arrived
+  arrived-likelihoods = simp length-set
+
+  pub arrived-counts : length (arrived fixed n f y x .counts) ≡ length (x .counts)
+  unfolding arrived
+  arrived-counts = written-length _ (10 * n) (x .counts)
+
+module _ (cutoff : ℤ) (n f : ℕ) (y : Fragment) (x : Values) where
+  pub departed-likelihoods : length (departed cutoff n f y x .likelihoods) ≡ length (x .likelihoods)
+  unfolding departed
+  departed-likelihoods = simp length-set
+
+  pub departed-counts : length (departed cutoff n f y x .counts) ≡ length (x .counts)
+  unfolding departed
+  departed-counts = written-length _ (10 * n) (x .counts)
+
+pub exchanged-fragments : (case : Case) (f : ℕ) (y : Fragment) → length (exchanged case f y .fragments) ≡ length (case .fragments)
+unfolding exchanged
+exchanged-fragments case f y = length-set (case .fragments) f y

@@ -24,7 +24,8 @@ countWordAt e = 13 * (e / 10) + (2 + e % 10)
 -- x holds what the case has, under a given phase, at these haplotypes and rates
 pub record Fresh (rates : Rates) (case : Case) (phase haps : List ℕ) (x : Values) : Type 0 where
   -- section 6: 2 likelihoods per fragment, as a run writes them
-  pub likelihoods : (e : ℕ) → e < 2 * length (case .fragments) → getD (x .likelihoods) e (pos 0) ≡ likelihood (phasedFlags case phase) (λ v. getD haps (2 * v + e % 2) 0) (getD (sweepsOf rates case phase .frags) (e / 2) [])
+  pub likelihoods : (e : ℕ) → e < 2 * length (case .fragments)
+      → getD (x .likelihoods) e (pos 0) ≡ likelihood (phasedFlags case phase) (λ v. getD haps (2 * v + e % 2) 0) (getD (sweepsOf rates case phase .frags) (e / 2) [])
   -- section 4: 10 counts per variant
   pub counts : (e : ℕ) → e < 10 * length (case .variants) → getD (x .counts) e (pos 0) ≡ answerAt rates case (countWordAt e)
   -- section 6: the phased total
