@@ -1,15 +1,16 @@
 -- Request 1: the calls of an arrival, four words each, and the words of the case afterwards.
 -- Assumes nothing.
-use mathlib.Core.Bool.{Bool, true, false, cond, _||_}
-use mathlib.Core.List.{List, []}
+use mathlib.Core.Bool.{Bool, true, cond, _||_}
+use mathlib.Core.List.{List}
 use Prim.Native.Nat.{ℕ, zero, suc, _+_, _-_, _*_, _/_}
 use lib.Dec.{eqb, ltb}
 use lib.IntN.{ℤ, pos, negsuc}
 use lib.ListN.{length}
 use Rattle.variants_and_fragments.specs.declared.Sizes.{Sizes}
+use Rattle.variants_and_fragments.specs.declared.CallWords.{CallWords}
 use Rattle.variants_and_fragments.specs.Case.{Fragment, Call}
 use Rattle.variants_and_fragments.specs.Decode.{tabulate}
-use Rattle.variants_and_fragments.specs.Layout.{variantField, alleleField, qualField, oneMinusQualField, nextField, firstField, strandField, usedField, callWordsOk, headSet, fragmentSet, callSet}
+use Rattle.variants_and_fragments.specs.Layout.{variantField, alleleField, qualField, oneMinusQualField, firstField, strandField, usedField, callWordsOk, headSet, fragmentSet, callPut}
 use Rattle.variants_and_fragments.specs.Words.{word, natOf}
 
 -- "each call given as its record's first four words"
@@ -22,6 +23,15 @@ arrivingWord calls i field = word calls (arrivingWords * i + field)
 -- the number of whole calls
 abbrev pub wholeCalls : List ℤ → ℕ
 wholeCalls calls = length calls / arrivingWords
+
+-- the words of call i
+abbrev pub arrivingAt : List ℤ → ℕ → CallWords
+arrivingAt calls i = record {
+  variant = arrivingWord calls i variantField;
+  allele = arrivingWord calls i alleleField;
+  qual = arrivingWord calls i qualField;
+  «one_minus_qual» = arrivingWord calls i oneMinusQualField;
+}
 
 unfoldable pub arrivingCall : List ℤ → ℕ → Call
 arrivingCall calls i = record {
@@ -48,14 +58,7 @@ arrivingRises calls i = eqb i 0 || ltb (arrivingCall calls (i - 1) .variant) (ar
 -- ---- the words afterwards
 -- call i of m in its record, the one after those used and those of the calls before it; the last one ends the chain
 unfoldable pub callLaid : List ℤ → Sizes → List ℤ → ℕ → ℕ → List ℤ
-callLaid w s calls m i =
-    let r = s .used + 1 + i in
-    let next = cond (eqb (i + 1) m) 0 (r + 1) in
-    let w1 = callSet w s r variantField (arrivingWord calls i variantField) in
-    let w2 = callSet w1 s r alleleField (arrivingWord calls i alleleField) in
-    let w3 = callSet w2 s r qualField (arrivingWord calls i qualField) in
-    let w4 = callSet w3 s r oneMinusQualField (arrivingWord calls i oneMinusQualField) in
-    callSet w4 s r nextField (pos next)
+callLaid w s calls m i = let r = s .used + 1 + i in callPut w s r (arrivingAt calls i) (cond (eqb (i + 1) m) 0 (r + 1))
 
 -- the first i calls of m
 unfoldable pub callsLaid : List ℤ → Sizes → List ℤ → ℕ → ℕ → List ℤ

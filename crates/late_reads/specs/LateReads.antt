@@ -20,18 +20,16 @@ use Rattle.late_reads.specs.declared.Updated.the-variants.{Unsettled, Re
 use Rattle.late_reads.specs.Values.{Values, values, inRange, Fixed, arrived, departed}
 use Rattle.late_reads.specs.Arriving.{arrivingWords, wholeCalls, arrivingRead, arrivingOk, arrivingRises, arrivedWords, departedWords}
 
--- what both operations read: the case, the phase bytes, the haplotypes, the values, and the fragment's number
+-- what both operations read: the case, the phase bytes, the haplotypes and the values
 pub record LateInput : Type 0 where
   pub words : List ℤ
   pub bases : List ℕ
   pub phase : List ℕ
   pub haplotypes : List ℕ
   pub kept : Values
-  pub fragment : ℕ
 
-abbrev pub lateInput : List ℤ → List ℕ → List ℕ → List ℕ → Values → ℕ → LateInput
-lateInput words bases phase haplotypes kept fragment =
-    record { words = words; bases = bases; phase = phase; haplotypes = haplotypes; kept = kept; fragment = fragment }
+abbrev pub lateInput : List ℤ → List ℕ → List ℕ → List ℕ → Values → LateInput
+lateInput words bases phase haplotypes kept = record { words = words; bases = bases; phase = phase; haplotypes = haplotypes; kept = kept }
 
 abbrev pub caseOf : LateInput → Case
 caseOf input = decode (input .words) (input .bases)
@@ -74,45 +72,54 @@ lateSlices words likelihoods counts = record { words = words; likelihoods = like
 abbrev pub lentSlices : LateInput → LateSlices
 lentSlices input = lateSlices (input .words) (input .kept .likelihoods) (input .kept .counts)
 
--- ---- an arrival, with its strand and its calls
-module _ (input : LateInput) (strand : ℤ) (calls : List ℤ) where
+-- ---- an arrival as fragment f, with its strand and its calls
+module _ (input : LateInput) (f : ℕ) (strand : ℤ) (calls : List ℤ) where
   unfoldable pub arrivedValues : Values
-  arrivedValues = arrived (fixedOf input) (length (caseOf input .variants)) (input .fragment) (arrivingRead strand calls) (input .kept)
+  arrivedValues = arrived (fixedOf input) (length (caseOf input .variants)) f (arrivingRead strand calls) (input .kept)
 
-  -- then the arriving calls: 4 and 5 at the first wrong one, 5 at their number for a broken length or a strand that the layout lacks; 13, the
-  -- number is below F and its fragment absent; 14, room; 10 at place 0, what would be written
-  unfoldable pub arriveOutcome : Outcome LateAnswer
-  arriveOutcome = andThen (keptOutcome input) (λ s.
+  -- the arriving calls: 4 and 5 at the first wrong one, 5 at their number for a broken length or a strand that the layout lacks; 13, the number
+  -- is below F and its fragment absent; 14, room
+  unfoldable pub arrivingOutcome : Sizes → Outcome Sizes
+  arrivingOutcome s =
       let m = wholeCalls calls in
       each 4 (arrivingOk (input .words) s calls) 0 m
       (each 5 (arrivingRises calls) 0 m
       (unless (eqb (length calls) (arrivingWords * m) && within (pos 0) (pos 1) strand) 5 m
-      (unless (ltb (input .fragment) (s .f) && not (fragmentOf (caseOf input) (input .fragment) .present)) 13 (input .fragment)
+      (unless (ltb f (s .f) && not (fragmentOf (caseOf input) f .present)) 13 f
       (unless (leb (s .used + m) (s .c)) 14 m
-      (unless (inRange (s .n) (s .f) arrivedValues) 10 0
-      (done (unsettled arrivedValues))))))))
+      (done s)))))
+
+  -- then 10 at place 0, what would be written
+  unfoldable pub arriveOutcome : Outcome LateAnswer
+  arriveOutcome =
+      andThen (keptOutcome input) (λ s.
+      andThen (arrivingOutcome s) (λ s.
+      unless (inRange (s .n) (s .f) arrivedValues) 10 0
+      (done (unsettled arrivedValues))))
 
   unfoldable pub arriveWritten : LateSlices
-  arriveWritten = lateSlices (arrivedWords (input .words) (sizesOf (input .words)) (input .fragment) strand calls) (arrivedValues .likelihoods) (arrivedValues .counts)
+  arriveWritten = lateSlices (arrivedWords (input .words) (sizesOf (input .words)) f strand calls) (arrivedValues .likelihoods) (arrivedValues .counts)
 
 -- the promise, of the slices lent
-abbrev pub Arrive : LateInput → ℤ → List ℤ → Outcome LateAnswer → LateSlices → Type 0
-Arrive input strand calls answer after = Promise (arriveOutcome input strand calls) (arriveWritten input strand calls) (lentSlices input) answer after
+abbrev pub Arrives : LateInput → ℕ → ℤ → List ℤ → Outcome LateAnswer → LateSlices → Type 0
+Arrives input f strand calls answer after =
+    Promise (arriveOutcome input f strand calls) (arriveWritten input f strand calls) (lentSlices input) answer after
 
--- ---- a departure
-module _ (input : LateInput) where
+-- ---- the departure of fragment f
+module _ (input : LateInput) (f : ℕ) where
   unfoldable pub departedValues : Values
-  departedValues = departed (caseOf input .cutoff) (length (caseOf input .variants)) (input .fragment) (fragmentOf (caseOf input) (input .fragment)) (input .kept)
+  departedValues = departed (caseOf input .cutoff) (length (caseOf input .variants)) f (fragmentOf (caseOf input) f) (input .kept)
 
   -- 13, the fragment is present; 10 at place 0, what would be written
   unfoldable pub departOutcome : Outcome LateAnswer
-  departOutcome = andThen (keptOutcome input) (λ s.
-      unless (fragmentOf (caseOf input) (input .fragment) .present) 13 (input .fragment)
+  departOutcome =
+      andThen (keptOutcome input) (λ s.
+      unless (fragmentOf (caseOf input) f .present) 13 f
       (unless (inRange (s .n) (s .f) departedValues) 10 0
       (done (unsettled departedValues))))
 
   unfoldable pub departWritten : LateSlices
-  departWritten = lateSlices (departedWords (input .words) (sizesOf (input .words)) (input .fragment)) (departedValues .likelihoods) (departedValues .counts)
+  departWritten = lateSlices (departedWords (input .words) (sizesOf (input .words)) f) (departedValues .likelihoods) (departedValues .counts)
 
-abbrev pub Depart : LateInput → Outcome LateAnswer → LateSlices → Type 0
-Depart input answer after = Promise (departOutcome input) (departWritten input) (lentSlices input) answer after
+abbrev pub Departs : LateInput → ℕ → Outcome LateAnswer → LateSlices → Type 0
+Departs input f answer after = Promise (departOutcome input f) (departWritten input f) (lentSlices input) answer after

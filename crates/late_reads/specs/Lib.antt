@@ -1,3 +1,4 @@
 pub mod Values
 pub mod Arriving
 pub mod LateReads
+pub mod Inner

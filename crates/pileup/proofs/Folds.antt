@@ -15,23 +15,30 @@ use Rattle.variants_and_fragments.proofs.Bools.{both}
 use Rattle.variants_and_fragments.proofs.Records.{call-facts}
 use Rattle.variants_and_fragments.specs.Inner.Fold.{fold}
 use Rattle.variants_and_fragments.proofs.Walks.{chain-end, chain-none, chain-step}
-use Rattle.variants_and_fragments.proofs.Chain.{link-top}
+use Rattle.variants_and_fragments.specs.Inner.Chain.{firstRecordAt}
+use Rattle.variants_and_fragments.proofs.Chain.{link-top, record-top, record-chain}
 
 -- r is where a walk stands after k records
 pub record Onward (w : List ℤ) (s : Sizes) (r k : ℕ) : Type 0 where
   pub past : List ℕ
-  pub r-top : r ≤ s .c
+  pub r-top : r ≤ s .used
   pub k-top : k ≤ s .c
   pub right : goodChain w s past (chainFrom w s (s .c - k) r) ≡ true
   pub calls : allb (callOk w s) (chainFrom w s (s .c - k) r) ≡ true
 
-pub onward-start : (w : List ℤ) (s : Sizes) (f r : ℕ) → r ≡ firstCallAt w s f → FragmentIn w s f → Onward w s r 0
+pub onward-start : (w : List ℤ) (s : Sizes) (f r : ℕ) → r ≡ firstRecordAt w s f → FragmentIn w s f → Onward w s r 0
 unfolding chainOf
-onward-start w s f r e i = record { past = reached w s f; r-top = rw e (i .first-in); k-top = omega arith; right = rw (e, sub-zero) (i .right); calls = rw (e, sub-zero) (i .calls) }
+onward-start w s f r e i = record {
+  past = reached w s f;
+  r-top = rw e (record-top s (firstCallAt w s f));
+  k-top = omega arith;
+  right = rw (e, sub-zero, record-chain) (i .right);
+  calls = rw (e, sub-zero, record-chain) (i .calls);
+}
 
-pub fold-start : {A : Type 0} (step : A → ℕ → A) (a : A) (w : List ℤ) (s : Sizes) (f r : ℕ) → r ≡ firstCallAt w s f → fold step a (chainOf w s f) ≡ fold step a (chainFrom w s (s .c - 0) r)
+pub fold-start : {A : Type 0} (step : A → ℕ → A) (a : A) (w : List ℤ) (s : Sizes) (f r : ℕ) → r ≡ firstRecordAt w s f → fold step a (chainOf w s f) ≡ fold step a (chainFrom w s (s .c - 0) r)
 unfolding chainOf
-fold-start step a w s f r e = rw (e, sub-zero)
+fold-start step a w s f r e = rw (e, sub-zero, record-chain)
 
 module _ {w : List ℤ} {s : Sizes} {r k : ℕ} (i : Onward w s r k) where
   pub fold-end : {A : Type 0} (step : A → ℕ → A) (a : A) → r ≡ 0 → fold step a (chainFrom w s (s .c - k) r) ≡ a

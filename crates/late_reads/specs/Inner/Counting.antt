@@ -1,0 +1,46 @@
+-- The counts as the code updates them, call by call. Assumes nothing.
+use mathlib.Core.Bool.{Bool, cond, _&&_}
+use mathlib.Core.List.{List, [], _∷_}
+use Prim.Native.Nat.{ℕ, _+_, _*_}
+use lib.IntN.{ℤ, pos, _+ℤ_}
+use lib.ListN.{getD, set}
+use Rattle.variants_and_fragments.specs.Case.{Fragment, Call, usable}
+use Rattle.variants_and_fragments.specs.Words.{within}
+use Rattle.late_reads.specs.declared.counts.CountedCall.{CountedCall}
+use Rattle.late_reads.specs.Values.{maxCount}
+
+-- d added at element e
+abbrev pub addAt : ℤ → ℕ → List ℤ → List ℤ
+addAt d e counts = set counts e (getD counts e (pos 0) +ℤ d)
+
+-- the elements at which a call counts: a usable one at its allele, and at its allele on the strand of its read
+abbrev pub allelePlace : CountedCall → ℕ
+allelePlace call = 10 * call .variant + call .allele
+
+abbrev pub strandPlace : ℕ → CountedCall → ℕ
+strandPlace strand call = 10 * call .variant + 3 * (1 + strand) + call .allele
+
+-- an ambiguous one at the last
+abbrev pub ambiguousPlace : CountedCall → ℕ
+ambiguousPlace call = 10 * call .variant + 9
+
+unfoldable pub countCall : ℤ → ℕ → CountedCall → List ℤ → List ℤ
+countCall d strand call counts =
+    cond (call .usable) (addAt d (strandPlace strand call) (addAt d (allelePlace call) counts)) (addAt d (ambiguousPlace call) counts)
+
+-- what they would be is in range
+abbrev pub fitsAt : ℤ → ℕ → List ℤ → Bool
+fitsAt d e counts = within (pos 0) (pos maxCount) (getD counts e (pos 0) +ℤ d)
+
+unfoldable pub callFits : ℤ → ℕ → CountedCall → List ℤ → Bool
+callFits d strand call counts =
+    cond (call .usable) (fitsAt d (allelePlace call) counts && fitsAt d (strandPlace strand call) counts) (fitsAt d (ambiguousPlace call) counts)
+
+-- a call of read x as the counts see it
+abbrev pub countedCall : ℤ → Fragment → Call → CountedCall
+countedCall cutoff x call = record { variant = call .variant; allele = call .allele; usable = usable cutoff x call }
+
+-- the same of the calls of read x, one after the other
+unfoldable pub countCalls : ℤ → ℤ → Fragment → List Call → List ℤ → List ℤ
+countCalls d cutoff x [] counts = counts
+countCalls d cutoff x (call ∷ calls) counts = countCalls d cutoff x calls (countCall d (x .strand) (countedCall cutoff x call) counts)

@@ -1,0 +1,107 @@
+// The calls of an arrival, four words each, and their test.
+ghost use mathlib.Core.Path.{_≡_};
+ghost use Prim.Native.Nat.{_<_};
+ghost use Rattle.variants_and_fragments.specs.Check.{outcomeOf};
+ghost use Rattle.variants_and_fragments.specs.First.{firstFail};
+ghost use Rattle.variants_and_fragments.specs.Inner.Accepted.{CaseIn};
+ghost use Rattle.late_reads.specs.Arriving.{wholeCalls, arrivingAt, arrivingOk, arrivingRises};
+ghost use Rattle.late_reads.specs.Inner.Ready.{arrivingTests};
+use crate::Arrival;
+use variants_and_fragments::CallWords;
+use variants_and_fragments::Checked;
+use variants_and_fragments::Refusal;
+use variants_and_fragments::Sizes;
+use variants_and_fragments::calls::call_words_ok;
+use variants_and_fragments::layout::is_present;
+use variants_and_fragments::layout::nat_of;
+
+// The words of an arriving call.
+pub const ARRIVING_WORDS: usize = 4;
+
+// The words of call i.
+pub fn arriving_at(calls: &[i32], i: usize) -> CallWords
+    requires { ⌜ i < wholeCalls (now calls) ⌝ }
+    ensures { λ c. ⌜ c ≡ arrivingAt (now (calls .entry)) i ⌝ }
+{
+    let at = ARRIVING_WORDS * i;
+    CallWords {
+        variant: calls[at],
+        allele: calls[at + 1],
+        qual: calls[at + 2],
+        one_minus_qual: calls[at + 3],
+    }
+}
+
+// The first whole call that is out of range, or their number. At the loop's head those before i are right.
+fn first_bad_arriving(words: &[i32], s: Sizes, calls: &[i32]) -> usize
+    requires { ⌜ CaseIn (now words) s ⌝ }
+    ensures { λ r. ⌜ r ≡ firstFail (arrivingOk (now (words .entry)) s (now (calls .entry))) (wholeCalls (now (calls .entry))) ⌝ }
+{
+    let m = calls.len() / ARRIVING_WORDS;
+    let mut i = 0;
+    while i < m {
+        if !call_words_ok(words, s, arriving_at(calls, i)) {
+            return i;
+        }
+        i += 1;
+    }
+    i
+}
+
+// Call i's variant rises over that of the call before.
+fn arriving_rises(calls: &[i32], i: usize) -> bool
+    requires { ⌜ i < wholeCalls (now calls) ⌝ }
+    ensures { λ r. ⌜ r ≡ arrivingRises (now (calls .entry)) i ⌝ }
+{
+    if i == 0 {
+        return true;
+    }
+    let before = arriving_at(calls, i - 1);
+    let here = arriving_at(calls, i);
+    nat_of(before.variant) < nat_of(here.variant)
+}
+
+// The first whole call whose variant does not rise, or their number. At the loop's head those before i rise.
+fn first_not_rising(calls: &[i32]) -> usize
+    ensures { λ r. ⌜ r ≡ firstFail (arrivingRises (now (calls .entry))) (wholeCalls (now (calls .entry))) ⌝ }
+{
+    let m = calls.len() / ARRIVING_WORDS;
+    let mut i = 0;
+    while i < m {
+        if !arriving_rises(calls, i) {
+            return i;
+        }
+        i += 1;
+    }
+    i
+}
+
+// The sizes, or what refuses the arrival: 4 and 5 of its calls and strand, 13, 14.
+pub fn arriving_fault(words: &[i32], s: Sizes, arrival: Arrival, calls: &[i32]) -> Checked
+    requires { ⌜ CaseIn (now words) s ⌝ }
+    ensures { λ r. ⌜ outcomeOf r ≡ arrivingTests (now (words .entry)) s (arrival .fragment) (arrival .strand) (now (calls .entry)) ⌝ }
+{
+    let m = calls.len() / ARRIVING_WORDS;
+    let f = arrival.fragment;
+    let bad = first_bad_arriving(words, s, calls);
+    if bad < m {
+        return Checked::Refused(Refusal::Call(bad));
+    }
+    let flat = first_not_rising(calls);
+    if flat < m {
+        return Checked::Refused(Refusal::Chain(flat));
+    }
+    if (calls.len() != ARRIVING_WORDS * m) | (1 < nat_of(arrival.strand)) {
+        return Checked::Refused(Refusal::Chain(m));
+    }
+    if s.f <= f {
+        return Checked::Refused(Refusal::Fragment(f));
+    }
+    if is_present(words, s, f) {
+        return Checked::Refused(Refusal::Fragment(f));
+    }
+    if s.c - s.used < m {
+        return Checked::Refused(Refusal::Room(m));
+    }
+    Checked::Accepted(s)
+}

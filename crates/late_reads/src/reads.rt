@@ -1,0 +1,20 @@
+// The likelihoods of an arriving read, and a read's share of the phased total.
+ghost use mathlib.Core.Path.{_≡_};
+ghost use Prim.Native.Nat.{_+_, _*_, _^_, _<_, _≤_};
+ghost use lib.IntN.{pos, natAbs};
+ghost use lib.ListN.{length};
+ghost use Rattle.steps.specs.Logs.{mixOf};
+ghost use Rattle.steps.specs.Table.{knots};
+ghost use Rattle.variants_and_fragments.specs.Inner.Accepted.{CaseIn};
+ghost use Rattle.late_reads.specs.Values.{putLikelihoods};
+ghost use Rattle.late_reads.specs.Arriving.{wholeCalls, arrivingOk};
+ghost use Rattle.late_reads.specs.Inner.Ready.{ReadsRight, arrivingShare, ArrivingLikelihoods};
+use crate::arriving::ARRIVING_WORDS;
+use crate::arriving::arriving_at;
+use haplotype_assembly::phase::phased_flag;
+use likelihoods::likelihoods::ReadLikelihoods;
+use pileup::row::usable;
+use steps::LogProb;
+use variants_and_fragments::Sizes;
+use variants_and_fragments::layout::cutoff_of;
+use variants_and_fragments::layout::nat_of;
