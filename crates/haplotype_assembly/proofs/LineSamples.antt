@@ -19,7 +19,7 @@ abbrev call : ℕ → ℕ → Call
 call v a = record { variant = v; allele = a; qual = negℤ (pos 13607); one-minus-qual = pos 0 }
 
 abbrev three : ℕ → Fragment
-three strand = record { strand = strand; calls = call 0 1 ∷ call 1 0 ∷ call 3 1 ∷ [] }
+three strand = record { present = true; strand = strand; calls = call 0 1 ∷ call 1 0 ∷ call 3 1 ∷ [] }
 
 -- calls at variants 0, 1, 3 with alleles 1, 0, 1 and qualities −13607, forward, all phased, cutoff −2000
 abbrev sample : List Fragment → Case
@@ -40,7 +40,7 @@ reverse-line = refl
 
 -- a fragment with one such call gives no line where single_reads is false, and ids count written lines only
 abbrev single : Fragment
-single = record { strand = 0; calls = call 2 0 ∷ [] }
+single = record { present = true; strand = 0; calls = call 2 0 ∷ [] }
 
 pub skipped : flistBuffer (sample (single ∷ three 0 ∷ [])) false ≡ line
 unfolding flistBuffer linesFrom lineOf lineCalls only usable phasedRule phasedTest hasLine blocks blockStart alleleBytes callQuality strandByte decimal decimalFrom scale maxVcfQual phredOf countUpTo qualityByte mul div ofBits ofInt lt le

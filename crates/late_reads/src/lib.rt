@@ -62,7 +62,7 @@ fn arrive_kept(
     ensures { λ r. ⌜ ArrivesKept (now (words .entry)) s (now (phase .entry)) (now (haplotypes .entry)) (values (now (likelihoods .entry)) (now (counts .entry)) (total .0)) (arrival .fragment) (arrival .strand) (now (calls .entry)) (outcomeOf r) (lateSlices (now (words .exit)) (now (likelihoods .exit)) (now (counts .exit))) ⌝ }
 {
     let t = table();
-    let read = arriving_likelihoods(words, s, phase, haplotypes, calls);
+    let read = arriving_likelihoods(words, s, phase, haplotypes, arrival, calls);
     let first = read.first;
     let second = read.second;
     let sum = LogProb(total.0 + mixed(&t, first, second).0);

@@ -50,7 +50,7 @@ variant = record { pos0 = 0; dp = 0; genotype0 = 0; genotype1 = 1; alleles = (65
 
 -- a read of A (allele 0) or of G (allele 1): "match −1700, miss −5796"
 abbrev pub readOf : ℕ → Fragment
-readOf allele = record { strand = 0; calls = record { variant = 0; allele = allele; qual = neg 5796; one-minus-qual = neg 1700 } ∷ [] }
+readOf allele = record { present = true; strand = 0; calls = record { variant = 0; allele = allele; qual = neg 5796; one-minus-qual = neg 1700 } ∷ [] }
 
 -- so many reads of A, then so many of G; "cutoff −2000"
 abbrev pub reads : ℕ → ℕ → Case
@@ -62,7 +62,7 @@ noVariants = record { variants = []; fragments = []; cutoff = neg 2000 }
 
 -- the sizes that the head of such a case gives: each fragment has one call
 abbrev pub sizes : Case → Sizes
-sizes sample = record { n = length (sample .variants); f = length (sample .fragments); c = length (sample .fragments); cutoff = neg 2000 }
+sizes sample = record { n = length (sample .variants); f = length (sample .fragments); c = length (sample .fragments); used = length (sample .fragments); cutoff = neg 2000 }
 
 -- a round on the words and bases that `encode` makes of a case: these phase bytes, one order, the highest limit
 abbrev pub roundOn : Case → List ℕ → List ℕ → RoundInput

@@ -11,7 +11,7 @@ use lib.ListN.{length, getD}
 use lib.Seq.{sets}
 use Rattle.variants_and_fragments.specs.declared.Sizes.{Sizes}
 use Rattle.variants_and_fragments.specs.Inner.Accepted.{CaseIn}
-use Rattle.variants_and_fragments.specs.Chain.{strandAt}
+use Rattle.variants_and_fragments.specs.Chain.{presentAt, strandAt}
 use Rattle.variants_and_fragments.specs.Case.{Fragment, Call}
 use Rattle.variants_and_fragments.specs.Decode.{tabulate}
 use Rattle.variants_and_fragments.specs.Pileup.{Row}
@@ -39,7 +39,7 @@ shownAt w rows a e = shownCalls w (rowsAt rows a e)
 
 -- of fragment f, with its strand
 abbrev pub shownFragment : List ℤ → Sizes → List ℕ → List ℕ → ℕ → Fragment
-shownFragment w s rows ends f = record { strand = strandAt w s f; calls = shownAt w rows (groupStart ends f) (getD ends f 0) }
+shownFragment w s rows ends f = record { present = presentAt w s f; strand = strandAt w s f; calls = shownAt w rows (groupStart ends f) (getD ends f 0) }
 
 abbrev pub shownFragments : List ℤ → Sizes → List ℕ → List ℕ → List Fragment
 shownFragments w s rows ends = tabulate (s .f) (shownFragment w s rows ends)

@@ -1,13 +1,17 @@
 -- The counts as the code updates them, call by call. Assumes nothing.
-use mathlib.Core.Bool.{Bool, cond, _&&_}
+use mathlib.Core.Path.{_≡_}
+use mathlib.Core.Bool.{Bool, true, cond, _&&_}
+use mathlib.Core.Logic.{_⊎_}
 use mathlib.Core.List.{List, [], _∷_}
-use Prim.Native.Nat.{ℕ, _+_, _*_}
-use lib.IntN.{ℤ, pos, _+ℤ_}
-use lib.ListN.{getD, set}
+use Prim.Native.Nat.{ℕ, _+_, _*_, _≤_, _<_}
+use lib.IntN.{ℤ, pos, negsuc, _+ℤ_, _-ℤ_}
+use lib.ListN.{length, getD, set}
 use Rattle.variants_and_fragments.specs.Case.{Fragment, Call, usable}
+use Rattle.variants_and_fragments.specs.First.{holdsBelow}
 use Rattle.variants_and_fragments.specs.Words.{within}
+use Rattle.variants_and_fragments.specs.Written.{written}
 use Rattle.late_reads.specs.declared.counts.CountedCall.{CountedCall}
-use Rattle.late_reads.specs.Values.{maxCount}
+use Rattle.late_reads.specs.Values.{maxCount, readCount}
 
 -- d added at element e
 abbrev pub addAt : ℤ → ℕ → List ℤ → List ℤ
@@ -36,6 +40,19 @@ unfoldable pub callFits : ℤ → ℕ → CountedCall → List ℤ → Bool
 callFits d strand call counts =
     cond (call .usable) (fitsAt d (allelePlace call) counts && fitsAt d (strandPlace strand call) counts) (fitsAt d (ambiguousPlace call) counts)
 
+-- element e is there and in range, and d is 1 or −1
+pub record CountsIn (counts : List ℤ) (e : ℕ) (d : ℤ) : Type 0 where
+  pub there : e < length counts
+  pub ranged : within (pos 0) (pos maxCount) (getD counts e (pos 0)) ≡ true
+  pub one : (d ≡ pos 1) ⊎ (d ≡ negsuc 0)
+
+-- the ten counts of a call's variant are there and in range
+pub record Countable (counts : List ℤ) (strand : ℕ) (d : ℤ) (call : CountedCall) : Type 0 where
+  pub variant-in : call .variant < 1024
+  pub allele-in : call .allele < 3
+  pub strand-in : strand ≤ 1
+  pub each-in : (j : ℕ) → j < 10 → CountsIn counts (10 * call .variant + j) d
+
 -- a call of read x as the counts see it
 abbrev pub countedCall : ℤ → Fragment → Call → CountedCall
 countedCall cutoff x call = record { variant = call .variant; allele = call .allele; usable = usable cutoff x call }
@@ -44,3 +61,13 @@ countedCall cutoff x call = record { variant = call .variant; allele = call .all
 unfoldable pub countCalls : ℤ → ℤ → Fragment → List Call → List ℤ → List ℤ
 countCalls d cutoff x [] counts = counts
 countCalls d cutoff x (call ∷ calls) counts = countCalls d cutoff x calls (countCall d (x .strand) (countedCall cutoff x call) counts)
+
+-- ---- the counts afterwards, as `Values` says them, and their range
+abbrev pub countsArrived : ℤ → ℕ → Fragment → List ℤ → List ℤ
+countsArrived cutoff n x counts = written (λ e. getD counts e (pos 0) +ℤ pos (readCount cutoff x e)) (10 * n) counts
+
+abbrev pub countsDeparted : ℤ → ℕ → Fragment → List ℤ → List ℤ
+countsDeparted cutoff n x counts = written (λ e. getD counts e (pos 0) -ℤ pos (readCount cutoff x e)) (10 * n) counts
+
+abbrev pub countsFit : ℕ → List ℤ → Bool
+countsFit n counts = holdsBelow (λ e. within (pos 0) (pos maxCount) (getD counts e (pos 0))) (10 * n)

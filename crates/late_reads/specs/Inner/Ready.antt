@@ -1,29 +1,34 @@
 -- What holds past each test of an arrival and a departure, and the values in terms of the words. Assumes nothing.
 use mathlib.Core.Path.{_≡_}
-use mathlib.Core.Bool.{true, false, not, _&&_}
+use mathlib.Core.Bool.{true, false, not, cond, _&&_}
 use mathlib.Core.List.{List}
 use Prim.Native.Nat.{ℕ, _+_, _*_, _≤_, _<_}
 use lib.Dec.{eqb, ltb, leb}
 use lib.IntN.{ℤ, pos}
 use lib.ListN.{length, getD}
 use Rattle.variants_and_fragments.specs.declared.Sizes.{Sizes}
+use Rattle.variants_and_fragments.specs.Case.{Fragment, Call, usable}
 use Rattle.variants_and_fragments.specs.Chain.{presentAt}
 use Rattle.variants_and_fragments.specs.Decode.{fragmentFrom}
-use Rattle.variants_and_fragments.specs.Layout.{cutoffAt, alleleCountAt}
+use Rattle.variants_and_fragments.specs.Layout.{cutoffAt}
 use Rattle.variants_and_fragments.specs.Refusals.{Outcome, done, unless, each, Promise}
 use Rattle.variants_and_fragments.specs.Words.{within}
 use Rattle.variants_and_fragments.specs.Inner.Accepted.{CaseIn}
 use Rattle.haplotype_assembly.specs.Inner.PhaseRead.{phasedAt}
+use Rattle.sweeps.specs.Sweeps.{callTerm}
 use Rattle.late_reads.specs.Values.{Values, inRange, Fixed, arrived, departed}
 use Rattle.late_reads.specs.Arriving.{arrivingWords, wholeCalls, arrivingRead, arrivingOk, arrivingRises, arrivedWords, departedWords}
 use Rattle.late_reads.specs.LateReads.{LateAnswer, unsettled, LateSlices, lateSlices}
 
--- the case is accepted, the slices are long enough, and the values lent are in range
-pub record Kept (w : List ℤ) (s : Sizes) (phase haps : List ℕ) (kept : Values) : Type 0 where
+-- the case is accepted, with its phase bytes and haplotypes
+pub record ReadyCase (w : List ℤ) (s : Sizes) (phase haps : List ℕ) : Type 0 where
   pub case-in : CaseIn w s
   pub phase-long : length phase ≡ s .n
   pub haps-long : 2 * s .n ≤ length haps
-  pub haps-in : (v i : ℕ) → v < s .n → i < 2 → getD haps (2 * v + i) 0 < alleleCountAt w v
+
+-- so are the values: the slices are long enough, and what is lent is in range
+pub record Kept (w : List ℤ) (s : Sizes) (phase haps : List ℕ) (kept : Values) : Type 0 where
+  pub ready : ReadyCase w s phase haps
   pub likelihoods-long : 2 * s .f ≤ length (kept .likelihoods)
   pub counts-long : 10 * s .n ≤ length (kept .counts)
   pub ranged : inRange (s .n) (s .f) kept ≡ true
@@ -50,6 +55,11 @@ arrivingTests w s f strand calls =
     (done s)))))
 
 -- ---- the values, in terms of the words
+-- what a call of read x adds to its likelihood on haplotype h
+unfoldable pub shareOn : Fixed → Fragment → ℕ → Call → ℤ
+shareOn fixed x h call =
+    cond (usable (fixed .cutoff) x call && fixed .phased (call .variant)) (callTerm call (getD (fixed .haps) (2 * call .variant + h) 0)) (pos 0)
+
 abbrev pub fixedAt : List ℤ → List ℕ → List ℕ → Fixed
 fixedAt w phase haps = record { cutoff = cutoffAt w; phased = phasedAt w phase; haps = haps }
 
