@@ -21,6 +21,7 @@ pub struct CheckAnswer {
     pub n: usize,
     pub f: usize,
     pub c: usize,
+    pub used: usize,
     pub cutoff: i32,
 }
 
