@@ -47,6 +47,15 @@ pub struct RoundAnswer {
     pub source: i64,
 }
 
+// The answer of an arrival or a departure: where done, that the sample is not settled, and the new phased total; else these are 0.
+#[repr(C)]
+pub struct LateAnswer {
+    pub number: usize,
+    pub place: usize,
+    pub settled: bool,
+    pub total: i64,
+}
+
 // Done, with no values.
 pub fn done() -> Answer
     ensures { λ a. ⌜ a ≡ answerOf 0 0 ⌝ }
