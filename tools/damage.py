@@ -185,7 +185,7 @@ def arriving_call(rng, request):
 def more_calls(rng, request):
     """More arriving calls than records are left, or one that does not rise."""
     calls = request.parts[CALLS]
-    calls += calls[-ARRIVING.words:] or [0] * ARRIVING.words
+    calls += calls[-ARRIVING.words:] if len(calls) >= ARRIVING.words else [0] * ARRIVING.words
     if rng.random() < 0.7:
         calls[-ARRIVING.words] += 1
 
