@@ -7,7 +7,7 @@ import random
 
 from layout import CALL, HEAD, LOWEST, MAX_ALLELES, MAX_CALLS, MAX_FRAGMENTS, MAX_LENGTH, MAX_VARIANTS, needs
 from model import Call, Case, Fragment, Variant, check, check_rates, encode, fresh_values, start_haplotypes, Refused
-from protocol import Request, Update
+from protocol import LATE, Request, Update
 
 RATES = [-70000] * 4 + [-4096, -8192]
 MATCH, MISS = -1700, -5796
@@ -155,8 +155,6 @@ def random_rates(rng):
 
 
 # ---- Arrivals and departures.
-
-LATE = ("arrive", "depart")
 
 
 class Standing:

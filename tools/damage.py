@@ -3,7 +3,7 @@ import copy
 
 from layout import (ARRIVING, CALL, FRAGMENT, HEAD, LOWEST, LOWEST_LENT, MAX_ALLELES, MAX_COUNT, MAX_LENGTH,
                     MAX_VARIANTS, VARIANT, Layout)
-from protocol import Request
+from protocol import LatePart, Request
 
 BAD_WORDS = [0, 1, -1, 2, MAX_ALLELES, MAX_ALLELES + 1, MAX_LENGTH + 1, MAX_VARIANTS + 1, LOWEST - 1, 2147483647,
              -2147483648]
@@ -137,44 +137,42 @@ def density_qual(rng, request):
     request.parts[1] = rng.choice([float("nan"), float("inf"), float("-inf")])
 
 
-# ---- Parts of an arrival or a departure, by their places.
-
-PHASE, HAPLOTYPES, LIKELIHOODS, COUNTS, TOTAL, NUMBER, STRAND, CALLS = range(8)
+# ---- Parts of an arrival or a departure.
 
 
 def late_phase(rng, request):
-    length(rng, request.parts[PHASE], 48)
+    length(rng, request.parts[LatePart.PHASE], 48)
 
 
 def late_slice(rng, request):
     """Haplotypes, likelihoods or counts that are too short, by one or more."""
-    values = request.parts[rng.choice([HAPLOTYPES, LIKELIHOODS, COUNTS])]
+    values = request.parts[rng.choice([LatePart.HAPLOTYPES, LatePart.LIKELIHOODS, LatePart.COUNTS])]
     del values[max(0, len(values) - rng.choice([1, 2, 17])):]
 
 
 def late_value(rng, request):
     """A haplotype, likelihood, count or total out of its range or at its end."""
     place, values = rng.choice([
-        (HAPLOTYPES, [0, 1, 2, MAX_ALLELES, 255]), (LIKELIHOODS, [1, 0, LOWEST_LENT, LOWEST_LENT - 1]),
-        (COUNTS, [-1, 0, MAX_COUNT, MAX_COUNT + 1]), (TOTAL, [1, 0, LOWEST_LENT, LOWEST_LENT - 1])])
-    if place == TOTAL:
-        request.parts[TOTAL] = rng.choice(values)
+        (LatePart.HAPLOTYPES, [0, 1, 2, MAX_ALLELES, 255]), (LatePart.LIKELIHOODS, [1, 0, LOWEST_LENT, LOWEST_LENT - 1]),
+        (LatePart.COUNTS, [-1, 0, MAX_COUNT, MAX_COUNT + 1]), (LatePart.TOTAL, [1, 0, LOWEST_LENT, LOWEST_LENT - 1])])
+    if place == LatePart.TOTAL:
+        request.parts[LatePart.TOTAL] = rng.choice(values)
     elif request.parts[place]:
         request.parts[place][rng.randrange(len(request.parts[place]))] = rng.choice(values)
 
 
 def late_number(rng, request):
     """Another fragment: present, absent or none."""
-    request.parts[NUMBER] = rng.choice([rng.randint(0, max(layout(request).f, 0)), 4294967295])
+    request.parts[LatePart.NUMBER] = rng.choice([rng.randint(0, max(layout(request).f, 0)), 4294967295])
 
 
 def late_strand(rng, request):
-    request.parts[STRAND] = rng.choice([-1, 2, 2147483647, -2147483648])
+    request.parts[LatePart.STRAND] = rng.choice([-1, 2, 2147483647, -2147483648])
 
 
 def arriving_call(rng, request):
     """A word of an arriving call, or their length."""
-    calls = request.parts[CALLS]
+    calls = request.parts[LatePart.CALLS]
     if calls and rng.random() < 0.7:
         at = rng.randrange(len(calls))
         calls[at] = rng.choice([calls[at] + 1, calls[at] - 1, 0, -1, 1, MAX_ALLELES, LOWEST, LOWEST - 1])
@@ -184,7 +182,7 @@ def arriving_call(rng, request):
 
 def more_calls(rng, request):
     """More arriving calls than records are left, or one that does not rise."""
-    calls = request.parts[CALLS]
+    calls = request.parts[LatePart.CALLS]
     calls += calls[-ARRIVING.words:] if len(calls) >= ARRIVING.words else [0] * ARRIVING.words
     if rng.random() < 0.7:
         calls[-ARRIVING.words] += 1

@@ -39,6 +39,14 @@ OUTPUTS = {
 # The operations that longshot has, and so the oracle; `afresh` is the oracle's alone.
 OF_THE_SOURCE = ("priors", "nohap", "phase", "run", "flist", "filter", "afresh")
 OF_THE_PROGRAM = tuple(word for word in OUTPUTS if word != "afresh")
+LATE = ("arrive", "depart")
+
+
+class LatePart:
+    """The places of an arrival's parts; a departure has those before the strand."""
+
+    PHASE, HAPLOTYPES, LIKELIHOODS, COUNTS, TOTAL, NUMBER, STRAND, CALLS = range(8)
+
 
 FILL = {"u8": 170, "i32": 77, "u32": 77, "i64": 77, "f64": pattern(77.0)}
 

@@ -12,11 +12,11 @@ import itertools
 import random
 import sys
 
-from cases import LATE, RATES, Standing, Trial, fresh, random_case, random_records, tangled
+from cases import RATES, Standing, Trial, fresh, random_case, random_records, tangled
 from layout import (ABSENT, ARRIVING, CALL, COUNTED, FRAGMENT, HEAD, LOWEST, LOWEST_LENT, MAX_ALLELES, MAX_CALLS,
                     MAX_COUNT, MAX_FRAGMENTS, MAX_LENGTH, MAX_VARIANTS, PAIR, VARIANT, Layout, needs)
 from model import Call, Case, Fragment, Variant, check, encode, start_haplotypes
-from protocol import Request, ask_oracle
+from protocol import LATE, LatePart, Request, ask_oracle
 
 HEADER = """# Written by tools/record.py: %d requests and one that cannot be read. The answers in the file stdout are
 # longshot's own for %d of them (oracle/build compiles its files with the steps of document 01), those of tools/model.py
@@ -293,7 +293,8 @@ def damaged(rec, rng, count):
         for _ in range(i % 3):
             if words and rng.random() < 0.9:
                 at = rng.randrange(len(words))
-                values = [words[at] + 1, words[at] - 1, 0, 1, -1, 2, MAX_ALLELES, MAX_LENGTH + 1, LOWEST - 1]
+                near = [x for x in (words[at] + 1, words[at] - 1) if abs(x) < 2**31]
+                values = near + [0, 1, -1, 2, MAX_ALLELES, MAX_LENGTH + 1, LOWEST - 1]
                 words = with_word(words, at, rng.choice(values))
             elif bases:
                 bases = with_word(bases, rng.randrange(len(bases)), rng.randrange(256))
@@ -566,10 +567,6 @@ def after_run(rec, standing, parts):
     follow(rec, swept, [arrival(0, SHORT), departure(1), arrival(3, SINGLE), departure(0)])
 
 
-# The parts of an arrival by their places; a departure has those before the strand.
-PHASE_PART, HAPLOTYPES, LIKELIHOODS, COUNTS, TOTAL, NUMBER, STRAND, CALLS = range(8)
-
-
 def late_parts(word):
     """The parts of an accepted request: read 1 arrives, or read 3 departs."""
     standing = late_standing()
@@ -597,51 +594,51 @@ def lent_faults(rec):
     words, bases = late_sample()
     at, part = Layout.of(words), late_parts("depart")
     bad = [(HEAD.used, 15), (at.variant(2) + VARIANT.dp, -1), (at.call(7) + CALL.qual, 1), (at.fragment(4) + 1, 2)]
-    short = [(i, None, part[i][:-1]) for i in (HAPLOTYPES, LIKELIHOODS, COUNTS)]
+    short = [(i, None, part[i][:-1]) for i in (LatePart.HAPLOTYPES, LatePart.LIKELIHOODS, LatePart.COUNTS)]
     for word in LATE:
         for i in range(len(bad)):
             refuse(rec, word, words=changed_words(words, bad[i:]))
         refuse(rec, word, bases=with_word(bases, 3, 78))
-        refuse(rec, word, (HAPLOTYPES, 7, 1), words=with_word(words, at.variant(2) + VARIANT.dp, -1))
-        refuse(rec, word, (HAPLOTYPES, 1, 2), words=with_word(words, at.variant(2) + VARIANT.dp, -1))
+        refuse(rec, word, (LatePart.HAPLOTYPES, 7, 1), words=with_word(words, at.variant(2) + VARIANT.dp, -1))
+        refuse(rec, word, (LatePart.HAPLOTYPES, 1, 2), words=with_word(words, at.variant(2) + VARIANT.dp, -1))
         for place, value in [(0, 2), (1, 255), (2, 3), (5, 2), (7, 1)]:
-            refuse(rec, word, (HAPLOTYPES, place, value))
-        refuse(rec, word, (HAPLOTYPES, None, part[HAPLOTYPES][:2] + [3]), *short[1:])
-        refuse(rec, word, (PHASE_PART, None, LATE_PHASE[1:]), (HAPLOTYPES, None, []))
-        refuse(rec, word, (PHASE_PART, None, LATE_PHASE + [48]))
+            refuse(rec, word, (LatePart.HAPLOTYPES, place, value))
+        refuse(rec, word, (LatePart.HAPLOTYPES, None, part[LatePart.HAPLOTYPES][:2] + [3]), *short[1:])
+        refuse(rec, word, (LatePart.PHASE, None, LATE_PHASE[1:]), (LatePart.HAPLOTYPES, None, []))
+        refuse(rec, word, (LatePart.PHASE, None, LATE_PHASE + [48]))
         for count in (1, 2, 3):
             for chosen in itertools.combinations(short, count):
-                refuse(rec, word, *chosen, (TOTAL, None, 1))
+                refuse(rec, word, *chosen, (LatePart.TOTAL, None, 1))
 
 
 def range_faults(rec):
     rec.note("10, place 0: the total, a likelihood or a count as lent; the ends of their ranges are accepted")
     for word in LATE:
         for value in (LOWEST_LENT - 1, 1, -2**63, 2**63 - 1):
-            refuse(rec, word, (TOTAL, None, value))
-            refuse(rec, word, (LIKELIHOODS, 2, value))
+            refuse(rec, word, (LatePart.TOTAL, None, value))
+            refuse(rec, word, (LatePart.LIKELIHOODS, 2, value))
         for place in (0, 9, 39):
             for value in (-1, MAX_COUNT + 1, 2147483647):
-                refuse(rec, word, (COUNTS, place, value))
-        refuse(rec, word, (LIKELIHOODS, 0, LOWEST_LENT), (LIKELIHOODS, 3, LOWEST_LENT), (COUNTS, 2, MAX_COUNT))
+                refuse(rec, word, (LatePart.COUNTS, place, value))
+        refuse(rec, word, (LatePart.LIKELIHOODS, 0, LOWEST_LENT), (LatePart.LIKELIHOODS, 3, LOWEST_LENT), (LatePart.COUNTS, 2, MAX_COUNT))
     rec.note("10, place 0, of what would be written")
-    refuse(rec, "arrive", (COUNTS, 0, MAX_COUNT))
-    refuse(rec, "arrive", (COUNTS, COUNTED.forward, MAX_COUNT))
-    refuse(rec, "arrive", (COUNTS, COUNTED.words + COUNTED.ambiguous, MAX_COUNT))
-    refuse(rec, "arrive", (COUNTS, COUNTED.reverse, MAX_COUNT))
-    refuse(rec, "arrive", (TOTAL, None, LOWEST_LENT))
-    refuse(rec, "arrive", (TOTAL, None, LOWEST_LENT), (CALLS, None, []))
-    refuse(rec, "depart", (COUNTS, 0, 0))
-    refuse(rec, "depart", (COUNTS, COUNTED.reverse, 0))
-    refuse(rec, "depart", (COUNTS, COUNTED.forward, 0))
-    refuse(rec, "depart", (TOTAL, None, 0))
-    refuse(rec, "depart", (TOTAL, None, LOWEST_LENT))
+    refuse(rec, "arrive", (LatePart.COUNTS, 0, MAX_COUNT))
+    refuse(rec, "arrive", (LatePart.COUNTS, COUNTED.forward, MAX_COUNT))
+    refuse(rec, "arrive", (LatePart.COUNTS, COUNTED.words + COUNTED.ambiguous, MAX_COUNT))
+    refuse(rec, "arrive", (LatePart.COUNTS, COUNTED.reverse, MAX_COUNT))
+    refuse(rec, "arrive", (LatePart.TOTAL, None, LOWEST_LENT))
+    refuse(rec, "arrive", (LatePart.TOTAL, None, LOWEST_LENT), (LatePart.CALLS, None, []))
+    refuse(rec, "depart", (LatePart.COUNTS, 0, 0))
+    refuse(rec, "depart", (LatePart.COUNTS, COUNTED.reverse, 0))
+    refuse(rec, "depart", (LatePart.COUNTS, COUNTED.forward, 0))
+    refuse(rec, "depart", (LatePart.TOTAL, None, 0))
+    refuse(rec, "depart", (LatePart.TOTAL, None, LOWEST_LENT))
     rec.note("a departure takes off what is lent, whatever the calls say")
-    lent = [(LIKELIHOODS, PAIR * 3, -100000), (LIKELIHOODS, PAIR * 3 + 1, -99000)]
+    lent = [(LatePart.LIKELIHOODS, PAIR * 3, -100000), (LatePart.LIKELIHOODS, PAIR * 3 + 1, -99000)]
     for total in (-200000, -96000, LOWEST_LENT):
-        refuse(rec, "depart", *lent, (TOTAL, None, total))
+        refuse(rec, "depart", *lent, (LatePart.TOTAL, None, total))
     rec.note("what is lent at an absent number is written over")
-    refuse(rec, "arrive", (LIKELIHOODS, PAIR, -1), (LIKELIHOODS, PAIR + 1, LOWEST_LENT))
+    refuse(rec, "arrive", (LatePart.LIKELIHOODS, PAIR, -1), (LatePart.LIKELIHOODS, PAIR + 1, LOWEST_LENT))
 
 
 def arriving_faults(rec):
@@ -651,33 +648,33 @@ def arriving_faults(rec):
     for place, value in [(0, -1), (2 * words, 4), (allele, 2), (words + allele, 3), (2 * words + allele, -1),
                          (qual, LOWEST - 1), (words + qual, 1), (one_minus_qual, 1),
                          (2 * words + one_minus_qual, LOWEST - 1)]:
-        refuse(rec, "arrive", (CALLS, place, value))
+        refuse(rec, "arrive", (LatePart.CALLS, place, value))
     for place, value in [(words, 0), (2 * words, 1), (2 * words, 0), (0, 1)]:
-        refuse(rec, "arrive", (CALLS, place, value))
-    calls = late_parts("arrive")[CALLS]
+        refuse(rec, "arrive", (LatePart.CALLS, place, value))
+    calls = late_parts("arrive")[LatePart.CALLS]
     for length in (1, 3, 5, 11):
-        refuse(rec, "arrive", (CALLS, None, calls[:length]))
-        refuse(rec, "arrive", (CALLS, None, calls[:length]), (STRAND, None, 2))
-    refuse(rec, "arrive", (CALLS, None, calls + [-1]))
-    refuse(rec, "arrive", (CALLS, None, []), (STRAND, None, -1))
+        refuse(rec, "arrive", (LatePart.CALLS, None, calls[:length]))
+        refuse(rec, "arrive", (LatePart.CALLS, None, calls[:length]), (LatePart.STRAND, None, 2))
+    refuse(rec, "arrive", (LatePart.CALLS, None, calls + [-1]))
+    refuse(rec, "arrive", (LatePart.CALLS, None, []), (LatePart.STRAND, None, -1))
     for strand in (-1, 2, 3, 2147483647):
-        refuse(rec, "arrive", (STRAND, None, strand))
-    refuse(rec, "arrive", (CALLS, None, calls[:9]), (CALLS, words, 0), (STRAND, None, 2))
-    refuse(rec, "arrive", (CALLS, 2 * words + qual, 1), (CALLS, words, 0))
+        refuse(rec, "arrive", (LatePart.STRAND, None, strand))
+    refuse(rec, "arrive", (LatePart.CALLS, None, calls[:9]), (LatePart.CALLS, words, 0), (LatePart.STRAND, None, 2))
+    refuse(rec, "arrive", (LatePart.CALLS, 2 * words + qual, 1), (LatePart.CALLS, words, 0))
 
 
 def number_faults(rec):
     rec.note("13: the arriving fragment present, the departing one absent, no such fragment; 14: too few records")
     calls = [x for v in range(4) for x in (v, 0, -5796, -1700)]
     for f in (0, 2, 3, 5, 4294967295):
-        refuse(rec, "arrive", (NUMBER, None, f))
+        refuse(rec, "arrive", (LatePart.NUMBER, None, f))
     for f in (1, 4, 5, 4294967295):
-        refuse(rec, "depart", (NUMBER, None, f))
+        refuse(rec, "depart", (LatePart.NUMBER, None, f))
     words, bases = late_sample()
     for used in (10, 11, 14):
-        refuse(rec, "arrive", (CALLS, None, calls), words=with_word(words, HEAD.used, used))
+        refuse(rec, "arrive", (LatePart.CALLS, None, calls), words=with_word(words, HEAD.used, used))
     refuse(rec, "arrive", words=with_word(words, HEAD.used, 11))
-    refuse(rec, "arrive", (CALLS, None, []), words=with_word(words, HEAD.used, 14))
+    refuse(rec, "arrive", (LatePart.CALLS, None, []), words=with_word(words, HEAD.used, 14))
     nothing = [[], [], [], [], 0]
     for number in (0, 1):
         rec.add("arrive", *NOTHING, nothing + [number, 0, []])
@@ -686,14 +683,14 @@ def number_faults(rec):
     rec.add("arrive", empty, [], [[], [], [0, -5], [], LOWEST_LENT, 0, 1, []])
     rec.add("depart", empty, [], [[], [], [0, -5], [], LOWEST_LENT, 0])
     rec.note("several faults at once, in their order: ranges before, 4, 5, 13, 14, ranges after")
-    faults = [(TOTAL, None, 1), (CALLS, 2 * ARRIVING.words + ARRIVING.qual, 1), (CALLS, ARRIVING.words, 0),
-              (STRAND, None, 2), (NUMBER, None, 0), (COUNTS, 0, MAX_COUNT)]
+    faults = [(LatePart.TOTAL, None, 1), (LatePart.CALLS, 2 * ARRIVING.words + ARRIVING.qual, 1), (LatePart.CALLS, ARRIVING.words, 0),
+              (LatePart.STRAND, None, 2), (LatePart.NUMBER, None, 0), (LatePart.COUNTS, 0, MAX_COUNT)]
     full = with_word(words, HEAD.used, 12)
     for i in range(len(faults)):
         refuse(rec, "arrive", *faults[i:], words=full)
     refuse(rec, "arrive", words=full)
-    refuse(rec, "depart", (NUMBER, None, 1), (COUNTS, 0, 0), (TOTAL, None, 0))
-    refuse(rec, "depart", (NUMBER, None, 1), (COUNTS, 0, -1))
+    refuse(rec, "depart", (LatePart.NUMBER, None, 1), (LatePart.COUNTS, 0, 0), (LatePart.TOTAL, None, 0))
+    refuse(rec, "depart", (LatePart.NUMBER, None, 1), (LatePart.COUNTS, 0, -1))
 
 
 def late(rec, rng):
