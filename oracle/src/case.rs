@@ -24,10 +24,15 @@ pub mod layout {
     const FRAGMENT: usize = 2;
     const CALL: usize = 5;
 
-    /// Written: 2 haplotype alleles per variant and 2 likelihoods per fragment; a table of all pairs per variant.
+    /// Written: 2 haplotype alleles per variant and 2 likelihoods per fragment; a table of all pairs per variant; the
+    /// values of calling without haplotypes, with the counts among them.
     #[allow(dead_code)] // the benchmark's
     pub const PAIR: usize = 2;
     pub const TABLE: usize = MAX_ALLELES * MAX_ALLELES;
+    #[allow(dead_code)] // the benchmark's
+    pub const CALLED: usize = 13;
+    #[allow(dead_code)] // the benchmark's
+    pub const COUNTED: ::std::ops::Range<usize> = 2..12;
 
     /// The words of a case.
     pub struct Words<'a>(pub &'a [i32]);
@@ -83,6 +88,19 @@ pub mod layout {
             let within = n <= MAX_VARIANTS && f <= MAX_FRAGMENTS && c <= MAX_CALLS && self.used() <= c;
             within && ranged(self.cutoff()) && self.0.len() == HEAD + VARIANT * n + FRAGMENT * f + CALL * c
         }
+    }
+
+    /// Takes the last fragment out, whose records are the last ones and are unused then. Its strand, and its calls as an
+    /// arrival gives them.
+    #[allow(dead_code)] // the benchmark's
+    pub fn take_last(words: &mut [i32]) -> (i32, Vec<i32>) {
+        let (f, c) = (Words(words).f(), Words(words).c());
+        let (first, strand) = (Words(words).fragment(f - 1).first(), Words(words).fragment(f - 1).strand());
+        let calls = (first..c + 1).flat_map(|r| Words(words).call(r).0[..CALL - 1].to_vec()).collect();
+        let at = HEAD + VARIANT * Words(words).n() + FRAGMENT * (f - 1);
+        words[at] = -1;
+        words[4] = first as i32 - 1;
+        (strand, calls)
     }
 
     /// Whether it is a cutoff or a quality.
