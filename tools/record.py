@@ -620,7 +620,8 @@ def range_faults(rec):
         for place in (0, 9, 39):
             for value in (-1, MAX_COUNT + 1, 2147483647):
                 refuse(rec, word, (LatePart.COUNTS, place, value))
-        refuse(rec, word, (LatePart.LIKELIHOODS, 0, LOWEST_LENT), (LatePart.LIKELIHOODS, 3, LOWEST_LENT), (LatePart.COUNTS, 2, MAX_COUNT))
+        refuse(rec, word, (LatePart.LIKELIHOODS, 0, LOWEST_LENT), (LatePart.LIKELIHOODS, 3, LOWEST_LENT),
+               (LatePart.COUNTS, 2, MAX_COUNT))
     rec.note("10, place 0, of what would be written")
     refuse(rec, "arrive", (LatePart.COUNTS, 0, MAX_COUNT))
     refuse(rec, "arrive", (LatePart.COUNTS, COUNTED.forward, MAX_COUNT))
@@ -683,8 +684,9 @@ def number_faults(rec):
     rec.add("arrive", empty, [], [[], [], [0, -5], [], LOWEST_LENT, 0, 1, []])
     rec.add("depart", empty, [], [[], [], [0, -5], [], LOWEST_LENT, 0])
     rec.note("several faults at once, in their order: ranges before, 4, 5, 13, 14, ranges after")
-    faults = [(LatePart.TOTAL, None, 1), (LatePart.CALLS, 2 * ARRIVING.words + ARRIVING.qual, 1), (LatePart.CALLS, ARRIVING.words, 0),
-              (LatePart.STRAND, None, 2), (LatePart.NUMBER, None, 0), (LatePart.COUNTS, 0, MAX_COUNT)]
+    faults = [(LatePart.TOTAL, None, 1), (LatePart.CALLS, 2 * ARRIVING.words + ARRIVING.qual, 1),
+              (LatePart.CALLS, ARRIVING.words, 0), (LatePart.STRAND, None, 2), (LatePart.NUMBER, None, 0),
+              (LatePart.COUNTS, 0, MAX_COUNT)]
     full = with_word(words, HEAD.used, 12)
     for i in range(len(faults)):
         refuse(rec, "arrive", *faults[i:], words=full)

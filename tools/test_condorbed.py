@@ -116,7 +116,8 @@ def late(word, **changed):
 
 
 # The arrival where the one record is used.
-FULL = Request("arrive", HEAD.make(n=1, f=2, c=1, cutoff=-9525, used=1) + LATE_CASE[0][HEAD.words:], LATE_CASE[1], LATE_PARTS)
+FULL = Request("arrive", HEAD.make(n=1, f=2, c=1, cutoff=-9525, used=1) + LATE_CASE[0][HEAD.words:], LATE_CASE[1],
+               LATE_PARTS)
 
 # A request, its refusal, and what the explanation says of the place and of what is expected there.
 REFUSALS = [
