@@ -133,7 +133,14 @@ fn answer_case(
     let w = case.words;
     let b = case.bases;
     let after = case.reader;
-    answer_operation(operation, input, after, output, &mut words[..w], &bases[..b])
+    answer_operation(
+        operation,
+        input,
+        after,
+        output,
+        &mut words[..w],
+        &bases[..b],
+    )
 }
 
 // The same once the case is read.
