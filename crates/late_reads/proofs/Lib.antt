@@ -1,0 +1,4 @@
+pub mod Below
+pub mod ArrivalTests
+pub mod KeptCase
+pub mod ValuesDecoded
