@@ -51,16 +51,18 @@ tests-past w s t f strand calls ok =
     let h5 = unless-past _ 14 _ _ t (h4 .1) in
     let a = both (eqb (length calls) (arrivingWords * wholeCalls calls)) (within (pos 0) (pos 1) strand) (h3 .0) in
     let b = both (ltb f (s .f)) (not (presentAt w s f)) (h4 .0) in
-    let e : s ≡ t = cc in
-    (e, record {
-      each-in = λ i l. from-all _ 0 _ (h1 .0) i (omega arith) (omega arith);
-      each-rises = λ i l. from-all _ 0 _ (h2 .0) i (omega arith) (omega arith);
-      whole = eqb-true _ _ (a .0);
-      strand-in = a .1;
-      below = ltb-true _ _ (b .0);
-      absent = not-on _ (b .1);
-      room = leb-true _ _ (h5 .0);
-    })
+    let e : s ≡ t = cc in (
+      e,
+      record {
+        each-in = λ i l. from-all _ 0 _ (h1 .0) i (omega arith) (omega arith);
+        each-rises = λ i l. from-all _ 0 _ (h2 .0) i (omega arith) (omega arith);
+        whole = eqb-true _ _ (a .0);
+        strand-in = a .1;
+        below = ltb-true _ _ (b .0);
+        absent = not-on _ (b .1);
+        room = leb-true _ _ (h5 .0);
+      },
+    )
 
 -- ---- the tests of the words are those of the case
 module _ {w : List ℤ} {s : Sizes} (k : CaseIn w s) (b : List ℕ) where

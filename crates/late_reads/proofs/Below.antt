@@ -2,9 +2,9 @@
 -- Assumes nothing.
 use mathlib.Core.Path.{_≡_, sym}
 use mathlib.Core.Bool.{Bool, true, false}
-use Prim.Native.Nat.{ℕ, _≤_, _<_}
+use Prim.Native.Nat.{ℕ, _<_}
 use native.Mathlib.Omega.{arith}
-use Rattle.variants_and_fragments.specs.First.{firstFail, holdsBelow}
+use Rattle.variants_and_fragments.specs.First.{holdsBelow}
 use Rattle.variants_and_fragments.proofs.First.{first-at, first-end, below-all, below-not}
 
 pub one-fails : (p : ℕ → Bool) (n i : ℕ) → ((j : ℕ) → j < i → p j ≡ true) → i < n → p i ≡ false → false ≡ holdsBelow p n

@@ -1,11 +1,11 @@
 -- What the tests before an arrival or a departure give where none stops: the case is accepted, and what is lent with it is long enough and in range.
 -- Assumes nothing.
 use mathlib.Core.Path.{_≡_}
-use Prim.Native.Nat.{ℕ}
 use borrow.Author.Tests.{eqb-true}
 use Rattle.variants_and_fragments.specs.declared.Sizes.{Sizes}
 use Rattle.variants_and_fragments.specs.Check.{checkCaseAndHaplotypesOutcome}
 use Rattle.variants_and_fragments.specs.Refusals.{done}
+use Rattle.variants_and_fragments.specs.Inner.Accepted.{CaseIn}
 use Rattle.variants_and_fragments.proofs.Accepted.{checked-in}
 use Rattle.variants_and_fragments.proofs.Outcomes.{then-past, unless-past, enough-past}
 use Rattle.variants_and_fragments.proofs.Short.{short-fits}
@@ -40,3 +40,6 @@ module _ (input : LateInput) (s : Sizes) (ok : keptOutcome input ≡ done s) whe
         counts-long = c .0;
         ranged = h3 .0;
       })
+
+  pub kept-case : CaseIn (input .words) s
+  kept-case = kept-past .ready .case-in

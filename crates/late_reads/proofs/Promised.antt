@@ -2,32 +2,28 @@
 -- terms of the words, which is what the definition says of the decoded case.
 -- Assumes nothing.
 use mathlib.Core.Path.{_≡_, sym, ap, _∙_}
-use mathlib.Core.Bool.{Bool, true, false}
+use mathlib.Core.Bool.{true, false}
 use mathlib.Core.List.{List}
 use Prim.Native.Nat.{ℕ, _≤_, _<_}
-use native.Mathlib.Omega.{arith}
-use native.Mathlib.Decide.{decLt}
 use lib.IntN.{ℤ}
-use lib.ListN.{length, getD}
+use lib.ListN.{List·getD-eq-default}
 use Rattle.variants_and_fragments.specs.declared.Sizes.{Sizes}
 use Rattle.variants_and_fragments.specs.declared.Refusal.{Refusal}
 use Rattle.variants_and_fragments.specs.declared.Checked.the-variants.{Refused as NotAccepted}
 use Rattle.variants_and_fragments.specs.Case.{Fragment, fragmentOf, noFragment}
 use Rattle.variants_and_fragments.specs.Chain.{presentAt}
 use Rattle.variants_and_fragments.specs.Check as check
-use Rattle.variants_and_fragments.specs.Layout.{sizesOf}
-use Rattle.variants_and_fragments.specs.Refusals.{Outcome, done, refusal, refused, unless, afterwards, Promise}
-use Rattle.variants_and_fragments.specs.Inner.Accepted.{CaseIn}
+use Rattle.variants_and_fragments.specs.Refusals.{Outcome, done, refusal, refused, afterwards, Promise}
 use Rattle.variants_and_fragments.proofs.Decoded.{fragments-are}
 use Rattle.variants_and_fragments.proofs.Outcomes.{promise-refused, then-on, unless-on, unless-at}
 use Rattle.late_reads.specs.declared.Updated.the-variants.{Refused}
 use Rattle.late_reads.specs.Values.{Values}
 use Rattle.late_reads.specs.Arriving.{arrivedWords, departedWords}
-use Rattle.late_reads.specs.LateReads.{LateInput, LateAnswer, LateSlices, lateSlices, lentSlices, caseOf, outcomeOf, keptOutcome, arrivingOutcome, arrivedValues, arriveOutcome, arriveWritten, Arrives, departedValues, departOutcome, departWritten, Departs}
+use Rattle.late_reads.specs.LateReads.{LateInput, LateAnswer, LateSlices, lateSlices, caseOf, outcomeOf, keptOutcome, arrivingOutcome, arrivedValues, arriveOutcome, arriveWritten, Arrives, departedValues, departOutcome, departWritten, Departs}
 use Rattle.late_reads.specs.Inner.Ready.{Arriving, arrivingTests, arrivedAt, departedAt, rangedOutcome, ArrivesKept, DepartsKept}
 use Rattle.late_reads.proofs.AfterCheck.{check-stops}
 use Rattle.late_reads.proofs.ArrivalTests.{tests-past, tests-are, present-is}
-use Rattle.late_reads.proofs.KeptCase.{kept-past}
+use Rattle.late_reads.proofs.KeptCase.{kept-case}
 use Rattle.late_reads.proofs.ValuesDecoded.{arrived-is, departed-is}
 
 -- ---- a promise
@@ -48,35 +44,32 @@ module _ (input : LateInput) (f : ℕ) (strand : ℤ) (calls : List ℤ) where
   arrive-stops x e = check-stops (keptOutcome input) _ x e
 
   module _ (s : Sizes) (ok : keptOutcome input ≡ done s) where
-    case-in : CaseIn (input .words) s
-    case-in = kept-past input s ok .ready .case-in
-
-    -- the arriving calls are
+    -- the arrival is refused
     pub arriving-stops : (x : Refusal) → check.outcomeOf (NotAccepted x) ≡ arrivingTests (input .words) s f strand calls → refusal x ≡ arriveOutcome input f strand calls
     unfolding arriveOutcome
-    arriving-stops x e = check-stops (arrivingOutcome input f strand calls s) _ x (e ∙ tests-are input s case-in f strand calls) ∙ then-on (keptOutcome input) _ s ok
+    arriving-stops x e = check-stops (arrivingOutcome input f strand calls s) _ x (e ∙ tests-are input s (kept-case input s ok) f strand calls) ∙ then-on (keptOutcome input) _ s ok
 
     -- past the tests
     module _ (t : Sizes) (right : arrivingTests (input .words) s f strand calls ≡ done t) where
       pub arriving : Arriving (input .words) s f strand calls
       arriving = tests-past _ s t f strand calls right .1
 
-      now-values : arrivedAt (input .words) s (input .phase) (input .haplotypes) (input .kept) f strand calls ≡ arrivedValues input f strand calls
-      now-values = arrived-is input s ok f strand calls arriving
+      arrive-values : arrivedAt (input .words) s (input .phase) (input .haplotypes) (input .kept) f strand calls ≡ arrivedValues input f strand calls
+      arrive-values = arrived-is input s ok f strand calls arriving
 
-      tested : arrivingOutcome input f strand calls s ≡ done s
-      tested = sym (tests-are input s case-in f strand calls) ∙ right ∙ ap done (sym (tests-past _ s t f strand calls right .0))
+      arrive-tested : arrivingOutcome input f strand calls s ≡ done s
+      arrive-tested = sym (tests-are input s (kept-case input s ok) f strand calls) ∙ right ∙ ap done (sym (tests-past _ s t f strand calls right .0))
 
-      answered : rangedOutcome s (arrivedAt (input .words) s (input .phase) (input .haplotypes) (input .kept) f strand calls) ≡ arriveOutcome input f strand calls
+      arrive-answered : rangedOutcome s (arrivedAt (input .words) s (input .phase) (input .haplotypes) (input .kept) f strand calls) ≡ arriveOutcome input f strand calls
       unfolding arriveOutcome
-      answered = ap (rangedOutcome s) now-values ∙ then-on (arrivingOutcome input f strand calls s) _ s tested ∙ then-on (keptOutcome input) _ s ok
+      arrive-answered = ap (rangedOutcome s) arrive-values ∙ then-on (arrivingOutcome input f strand calls s) _ s arrive-tested ∙ then-on (keptOutcome input) _ s ok
 
-      written : (x : Values) → x ≡ arrivedValues input f strand calls → lateSlices (arrivedWords (input .words) s f strand calls) (x .likelihoods) (x .counts) ≡ arriveWritten input f strand calls
+      arrive-written : (x : Values) → x ≡ arrivedValues input f strand calls → lateSlices (arrivedWords (input .words) s f strand calls) (x .likelihoods) (x .counts) ≡ arriveWritten input f strand calls
       unfolding arriveWritten
-      written x e = rw (e, case-in .shape)
+      arrive-written x e = rw (e, kept-case input s ok .shape)
 
       pub arrives : {answer : Outcome LateAnswer} {after : LateSlices} → ArrivesKept (input .words) s (input .phase) (input .haplotypes) (input .kept) f strand calls answer after → Arrives input f strand calls answer after
-      arrives p = promise-same answered (written _ now-values) p
+      arrives p = promise-same arrive-answered (arrive-written _ arrive-values) p
 
 -- ---- a departure
 module _ (input : LateInput) (f : ℕ) where
@@ -85,26 +78,31 @@ module _ (input : LateInput) (f : ℕ) where
   depart-stops x e = check-stops (keptOutcome input) _ x e
 
   module _ (s : Sizes) (ok : keptOutcome input ≡ done s) where
-    case-at : CaseIn (input .words) s
-    case-at = kept-past input s ok .ready .case-in
-
-    -- the fragment is not present
-    pub depart-absent : fragmentOf (caseOf input) f .present ≡ false → refused 13 f ≡ departOutcome input f
+    -- no fragment of this number is present
+    depart-absent : fragmentOf (caseOf input) f .present ≡ false → refused 13 f ≡ departOutcome input f
     unfolding departOutcome
     depart-absent h = unless-at _ 13 f _ h ∙ then-on (keptOutcome input) _ s ok
 
-    -- it is
+    -- its number is too large
+    pub depart-past : s .f ≤ f → refused 13 f ≡ departOutcome input f
+    depart-past l = depart-absent (ap (λ (x : Fragment). x .present) (List·getD-eq-default (caseOf input .fragments) noFragment (rw (fragments-are (kept-case input s ok) (input .bases)) l)))
+
+    -- it is absent
+    pub depart-not-there : f < s .f → presentAt (input .words) s f ≡ false → refused 13 f ≡ departOutcome input f
+    depart-not-there l h = depart-absent (present-is (kept-case input s ok) (input .bases) f l ∙ h)
+
+    -- it is present
     module _ (below : f < s .f) (present : presentAt (input .words) s f ≡ true) where
-      leaves : departedAt (input .words) s (input .kept) f ≡ departedValues input f
-      leaves = departed-is input s ok f below
+      depart-values : departedAt (input .words) s (input .kept) f ≡ departedValues input f
+      depart-values = departed-is input s ok f below
 
-      left-answer : rangedOutcome s (departedAt (input .words) s (input .kept) f) ≡ departOutcome input f
+      depart-answered : rangedOutcome s (departedAt (input .words) s (input .kept) f) ≡ departOutcome input f
       unfolding departOutcome
-      left-answer = ap (rangedOutcome s) leaves ∙ unless-on _ 13 f _ (present-is case-at (input .bases) f below ∙ present) ∙ then-on (keptOutcome input) _ s ok
+      depart-answered = ap (rangedOutcome s) depart-values ∙ unless-on _ 13 f _ (present-is (kept-case input s ok) (input .bases) f below ∙ present) ∙ then-on (keptOutcome input) _ s ok
 
-      left-written : (x : Values) → x ≡ departedValues input f → lateSlices (departedWords (input .words) s f) (x .likelihoods) (x .counts) ≡ departWritten input f
+      depart-written : (x : Values) → x ≡ departedValues input f → lateSlices (departedWords (input .words) s f) (x .likelihoods) (x .counts) ≡ departWritten input f
       unfolding departWritten
-      left-written x e = rw (e, case-at .shape)
+      depart-written x e = rw (e, kept-case input s ok .shape)
 
       pub departs : {answer : Outcome LateAnswer} {after : LateSlices} → DepartsKept (input .words) s (input .kept) f answer after → Departs input f answer after
-      departs p = promise-same left-answer (left-written _ leaves) p
+      departs p = promise-same depart-answered (depart-written _ depart-values) p

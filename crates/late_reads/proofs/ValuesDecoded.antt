@@ -1,21 +1,18 @@
 -- The values in terms of the words are those of the decoded case: the cutoff, the number of variants and the fragment are the same, and the phased
 -- rule is asked only at variants of the case.
 -- Assumes nothing.
-use mathlib.Core.Path.{_≡_, refl, sym, ap, _∙_}
+use mathlib.Core.Path.{_≡_, refl, sym}
 use mathlib.Core.Bool.{Bool, true}
 use mathlib.Core.List.{List, [], _∷_}
 use Prim.Native.Nat.{ℕ, _+_, _*_, _<_}
-use native.Mathlib.Omega.{arith}
 use lib.IntN.{ℤ}
-use lib.ListN.{length, getD}
+use lib.ListN.{getD}
 use Rattle.variants_and_fragments.specs.declared.Sizes.{Sizes}
-use Rattle.variants_and_fragments.specs.Case.{Fragment, Call, fragmentOf, usable}
-use Rattle.variants_and_fragments.specs.Check.{checkCaseOutcome}
-use Rattle.variants_and_fragments.specs.Decode.{decode, fragmentFrom}
+use Rattle.variants_and_fragments.specs.Case.{Fragment, Call, usable}
+use Rattle.variants_and_fragments.specs.Decode.{decode}
 use Rattle.variants_and_fragments.specs.Layout.{cutoffAt}
 use Rattle.variants_and_fragments.specs.Pileup.{usableCalls}
 use Rattle.variants_and_fragments.specs.Refusals.{done}
-use Rattle.variants_and_fragments.specs.Inner.Accepted.{CaseIn}
 use Rattle.variants_and_fragments.specs.Inner.Case.{All, end, also}
 use Rattle.variants_and_fragments.proofs.Accepted.{checked-case}
 use Rattle.variants_and_fragments.proofs.Alls.{all-tabulate}
@@ -27,11 +24,11 @@ use Rattle.haplotype_assembly.specs.Phase.{phasedFlags}
 use Rattle.haplotype_assembly.specs.Inner.PhaseRead.{phasedAt}
 use Rattle.haplotype_assembly.proofs.Decodes.{flag-is}
 use Rattle.sweeps.specs.Sweeps.{likelihood}
-use Rattle.late_reads.specs.Values.{Values, Fixed, likelihoodOn, arrived, departed}
+use Rattle.late_reads.specs.Values.{Values, Fixed, likelihoodOn, arrived}
 use Rattle.late_reads.specs.Arriving.{wholeCalls, arrivingCall, arrivingRead, arrivingOk}
 use Rattle.late_reads.specs.LateReads.{LateInput, caseOf, fixedOf, keptOutcome, arrivedValues, departedValues}
-use Rattle.late_reads.specs.Inner.Ready.{Kept, Arriving, fixedAt, arrivedAt, departedAt}
-use Rattle.late_reads.proofs.KeptCase.{kept-checked, kept-past}
+use Rattle.late_reads.specs.Inner.Ready.{Arriving, fixedAt, arrivedAt, departedAt}
+use Rattle.late_reads.proofs.KeptCase.{kept-checked, kept-case}
 
 -- ---- the likelihood of calls at the first n variants goes by these
 likelihood-same : (m m' : ℕ → Bool) (n : ℕ) (a : ℕ → ℕ) → ((v : ℕ) → v < n → m v ≡ m' v) → (calls : List Call) → All (λ call. call .variant < n) calls → likelihood m a calls ≡ likelihood m' a calls
@@ -59,9 +56,6 @@ unfolding arrived
 arrived-same at of n m f x kept c e a b = rw (a, b, c, e)
 
 module _ (input : LateInput) (s : Sizes) (ok : keptOutcome input ≡ done s) where
-  case-in : CaseIn (input .words) s
-  case-in = kept-past input s ok .ready .case-in
-
   phased-same : (v : ℕ) → v < s .n → phasedAt (input .words) (input .phase) v ≡ phasedFlags (caseOf input) (input .phase) v
   phased-same v l = flag-is _ _ s (checked-case _ _ _ s (kept-checked input s ok)) (input .phase) v l
 
@@ -76,9 +70,9 @@ module _ (input : LateInput) (s : Sizes) (ok : keptOutcome input ≡ done s) whe
 
     pub arrived-is : arrivedAt (input .words) s (input .phase) (input .haplotypes) (input .kept) f strand calls ≡ arrivedValues input f strand calls
     unfolding arrivedValues
-    arrived-is = arrived-same _ _ _ _ f (arrivingRead strand calls) (input .kept) (sym (cutoff-is _ _)) (sym (variants-are case-in (input .bases))) (on-same 0) (on-same 1)
+    arrived-is = arrived-same _ _ _ _ f (arrivingRead strand calls) (input .kept) (sym (cutoff-is _ _)) (sym (variants-are (kept-case input s ok) (input .bases))) (on-same 0) (on-same 1)
 
   -- ---- a departure
   pub departed-is : (f : ℕ) → f < s .f → departedAt (input .words) s (input .kept) f ≡ departedValues input f
   unfolding departedValues
-  departed-is f l = rw (cutoff-is (input .words) (input .bases), variants-are case-in (input .bases), fragment-here case-in (input .bases) f l)
+  departed-is f l = rw (cutoff-is (input .words) (input .bases), variants-are (kept-case input s ok) (input .bases), fragment-here (kept-case input s ok) (input .bases) f l)

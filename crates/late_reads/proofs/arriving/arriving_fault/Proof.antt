@@ -119,7 +119,7 @@ returns : tie.Need-returns
 unfolding outcomeOf arrivingTests firstFail
 returns c =
     let p = c .before .first-bad-arriving .ensures in
-    ap (refused 4) p ∙ each-at 4 _ 0 _ _ (omega (arith, p, c .if1 .taken))
+    ap (refused 4) p ∙ each-at 4 _ 0 _ (risesLine (c .before .before)) (omega (arith, p, c .if1 .taken))
 
 first-not-rising-requires : tie.Need-first-not-rising-requires
 first-not-rising-requires c κs = search needs

@@ -1,14 +1,10 @@
 -- `arriving::arriving_rises` meets its contract: the first call rises, and another one's variant is compared with that of the call before.
 -- Assumes nothing.
-use mathlib.Core.Path.{_≡_, refl, sym, ap, _∙_}
-use Prim.Native.Nat.{ℕ}
 use borrow.Author.Needs.{needs}
 use borrow.Author.Tests.{eq-eqb, ne-eqb}
 use mir.Syntax.{w32}
 use mir.Val.{SFits}
 use mir.Facts.{toZ-ofZ}
-use Rattle.variants_and_fragments.specs.Words.{natOf}
-use Rattle.variants_and_fragments.specs.declared.CallWords.{CallWords}
 use Rattle.late_reads.specs.Arriving.{arrivingCall, arrivingRises}
 use Rattle.late_reads.proofs.arriving.arriving_rises.Statement.{statement}
 use Rattle.late_reads.proofs.arriving.arriving_rises.Tie as tie

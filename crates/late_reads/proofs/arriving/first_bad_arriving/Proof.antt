@@ -1,6 +1,6 @@
 -- `arriving::first_bad_arriving` meets its contract. The loop's invariant: the calls passed are in range.
 -- Assumes nothing.
-use mathlib.Core.Path.{_≡_, sym, ap, _∙_}
+use mathlib.Core.Path.{_≡_, sym, _∙_}
 use mathlib.Core.Bool.{true}
 use Prim.Native.Nat.{ℕ, _≤_, _<_, _-_}
 use native.Mathlib.Omega.{arith}
@@ -9,7 +9,7 @@ use borrow.Author.Count.{below-none, below-more}
 use borrow.Author.Tests.{not-true, not-false}
 use denote.Ref.{now}
 use Rattle.variants_and_fragments.proofs.First.{first-at, first-end}
-use Rattle.late_reads.specs.Arriving.{wholeCalls, arrivingOk}
+use Rattle.late_reads.specs.Arriving.{arrivingOk}
 use Rattle.late_reads.proofs.arriving.first_bad_arriving.Statement.{statement}
 use Rattle.late_reads.proofs.arriving.first_bad_arriving.Tie as tie
 

@@ -1,9 +1,5 @@
 -- `ranges::in_range` meets its contract: the three tests are the definition's.
 -- Assumes nothing.
-use mir.Syntax.{w64}
-use mir.Val.{SFits}
-use mir.Facts.{toZ-ofZ}
-use native.Mathlib.Omega.{arith}
 use borrow.Author.Needs.{needs}
 use Rattle.late_reads.specs.Values.{inRange}
 use Rattle.late_reads.proofs.ranges.in_range.Statement.{statement}
