@@ -1,5 +1,4 @@
 pub mod Below
-pub mod AfterCheck
 pub mod ArrivalTests
 pub mod KeptCase
 pub mod ValuesDecoded

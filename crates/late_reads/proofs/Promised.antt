@@ -21,7 +21,7 @@ use Rattle.late_reads.specs.Values.{Values}
 use Rattle.late_reads.specs.Arriving.{arrivedWords, departedWords}
 use Rattle.late_reads.specs.LateReads.{LateInput, LateAnswer, LateSlices, lateSlices, caseOf, outcomeOf, keptOutcome, arrivingOutcome, arrivedValues, arriveOutcome, arriveWritten, Arrives, departedValues, departOutcome, departWritten, Departs}
 use Rattle.late_reads.specs.Inner.Ready.{Arriving, arrivingTests, arrivedAt, departedAt, rangedOutcome, ArrivesKept, DepartsKept}
-use Rattle.late_reads.proofs.AfterCheck.{check-stops}
+use Rattle.variants_and_fragments.proofs.Outcomes.{check-stops}
 use Rattle.late_reads.proofs.ArrivalTests.{tests-past, tests-are, present-is}
 use Rattle.late_reads.proofs.KeptCase.{kept-case}
 use Rattle.late_reads.proofs.ValuesDecoded.{arrived-is, departed-is}

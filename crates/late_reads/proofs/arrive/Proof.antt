@@ -10,7 +10,7 @@ use Rattle.variants_and_fragments.specs.Refusals.{Outcome, done}
 use Rattle.late_reads.specs.Values.{values}
 use Rattle.late_reads.specs.LateReads.{LateInput, lateInput, keptOutcome}
 use Rattle.late_reads.specs.Inner.Ready.{Kept, arrivingTests}
-use Rattle.late_reads.proofs.AfterCheck.{check-done}
+use Rattle.variants_and_fragments.proofs.Outcomes.{check-done}
 use Rattle.late_reads.proofs.KeptCase.{kept-past}
 use Rattle.late_reads.proofs.Promised.{late-refuses, arrive-stops, arriving-stops, arriving, arrives}
 use Rattle.late_reads.proofs.arrive.Statement.{statement}

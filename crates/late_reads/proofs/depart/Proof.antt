@@ -13,7 +13,7 @@ use Rattle.variants_and_fragments.specs.Refusals.{done}
 use Rattle.late_reads.specs.Values.{values}
 use Rattle.late_reads.specs.LateReads.{LateInput, lateInput, keptOutcome}
 use Rattle.late_reads.specs.Inner.Ready.{Kept}
-use Rattle.late_reads.proofs.AfterCheck.{check-done}
+use Rattle.variants_and_fragments.proofs.Outcomes.{check-done}
 use Rattle.late_reads.proofs.KeptCase.{kept-past}
 use Rattle.late_reads.proofs.Promised.{late-refuses, depart-stops, depart-past, depart-not-there, departs}
 use Rattle.late_reads.proofs.depart.Statement.{statement}

@@ -19,7 +19,7 @@ use Rattle.variants_and_fragments.proofs.Outcomes.{unless-on, unless-at, enough
 use Rattle.variants_and_fragments.proofs.Short.{short-last, short-more, short-fits}
 use Rattle.late_reads.specs.Values.{values, inRange}
 use Rattle.late_reads.specs.LateReads.{LateInput, lateInput, keptOutcome}
-use Rattle.late_reads.proofs.AfterCheck.{check-stops, check-past, check-done}
+use Rattle.variants_and_fragments.proofs.Outcomes.{check-stops, check-past, check-done}
 use Rattle.late_reads.proofs.kept.check_kept.Statement.{statement}
 use Rattle.late_reads.proofs.kept.check_kept.Tie as tie
 
