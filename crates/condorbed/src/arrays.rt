@@ -50,7 +50,7 @@ const LINES: usize = 10 * MAX_FRAGMENTS + 8 * MAX_CALLS + SPARE;
 
 const ORDERS: usize = 65536;
 
-// ---- read by the operations
+// ---- read by the operations; arrivals and departures write words and counts too
 
 pub fn words() -> [i32; WORDS] {
     [0; WORDS]
