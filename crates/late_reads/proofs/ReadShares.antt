@@ -8,6 +8,8 @@ use Prim.Native.Nat.{ℕ, zero, suc, _+_, _*_, _^_, _≤_, _<_}
 use native.Mathlib.Nat.{zero-add}
 use native.Mathlib.Omega.{arith}
 use lib.IntN.{ℤ, pos, natAbs, _+ℤ_, +ℤ-idl}
+use borrow.Author.Tests.{eq-eqb, ne-eqb}
+use lib.Dec.{eqb}
 use lib.ListN.{getD}
 use Rattle.variants_and_fragments.specs.declared.Sizes.{Sizes}
 use Rattle.variants_and_fragments.specs.Case.{Fragment, Call, usable}
@@ -23,6 +25,7 @@ use Rattle.variants_and_fragments.proofs.Bounds.{down-zero, down-more, down-add
 use Rattle.variants_and_fragments.proofs.Ranges.{below-less}
 use Rattle.variants_and_fragments.proofs.Readings.{quality-down}
 use Rattle.variants_and_fragments.proofs.Sums.{sumOver-cong, sumTo-cong}
+use Rattle.haplotype_assembly.specs.Phase.{flagOf}
 use Rattle.sweeps.specs.Sweeps.{callTerm}
 use Rattle.likelihoods.specs.Inner.Likelihoods.{callShare}
 use Rattle.likelihoods.proofs.RunningSums.{table-sum}
@@ -71,10 +74,30 @@ module _ (fixed : Fixed) (x : Fragment) (h : ℕ) where
     unfolding shareOn
     share-phased p = rw (u, p)
 
-  -- at most one of its qualities
+  -- which is in −262144..0
   share-down : (call : Call) → DownTo 262144 (call .qual) → DownTo 262144 (call .one-minus-qual) → DownTo 262144 (shareOn fixed x h call)
   unfolding shareOn callTerm
-  share-down call q o = cond-down 262144 _ _ (pos 0) (cond-down 262144 _ _ _ o q) (down-zero 262144)
+  share-down call q o =
+      cond-down 262144 (usable (fixed .cutoff) x call && fixed .phased (call .variant)) _ (pos 0)
+      (cond-down 262144 (eqb (call .allele) (own (call .variant))) _ _ o q) (down-zero 262144)
+
+-- one of its qualities: which one
+pub term-match : (call : Call) (own : ℕ) → call .allele ≡ own → call .one-minus-qual ≡ callTerm call own
+unfolding callTerm
+term-match call own e = rw (eq-eqb (call .allele) own e)
+
+pub term-other : (call : Call) (own : ℕ) → (call .allele ≡ own → ⊥) → call .qual ≡ callTerm call own
+unfolding callTerm
+term-other call own e = rw (ne-eqb (call .allele) own e)
+
+-- a flag read back
+pub flag-off : (b : Bool) → flagOf b ≡ 0 → b ≡ false
+flag-off true e = absurd (omega arith)
+flag-off false e = refl
+
+pub flag-on : (b : Bool) → (flagOf b ≡ 0 → ⊥) → b ≡ true
+flag-on true e = refl
+flag-on false e = absurd (e refl)
 
 -- ---- the calls of an arriving read
 pub record ArrivingIn (s : Sizes) (call : Call) : Type 0 where
