@@ -100,6 +100,17 @@ flag-on true e = refl
 flag-on false e = absurd (e refl)
 
 -- ---- the calls of an arriving read
+-- what call i adds to a likelihood
+abbrev pub arrivingShare : ℤ → List ℤ → Fixed → ℕ → ℕ → ℤ
+arrivingShare strand calls fixed h i = shareOn fixed (arrivingRead strand calls) h (arrivingCall calls i)
+
+pub arriving-sum : (strand : ℤ) (calls : List ℤ) (fixed : Fixed) (h : ℕ) → likelihoodOn fixed (arrivingRead strand calls) h ≡ sumTo (wholeCalls calls) (arrivingShare strand calls fixed h)
+unfolding arrivingRead
+arriving-sum strand calls fixed h =
+    likelihood-on fixed (arrivingRead strand calls) h
+    ∙ table-sum (arrivingCall calls) (shareOn fixed (arrivingRead strand calls) h) 0 (wholeCalls calls)
+    ∙ sumTo-cong (wholeCalls calls) _ _ (λ i l. ap (arrivingShare strand calls fixed h) (zero-add i))
+
 pub record ArrivingIn (s : Sizes) (call : Call) : Type 0 where
   pub variant-in : call .variant < s .n
   pub qual-in : DownTo 262144 (call .qual)
@@ -118,18 +129,7 @@ module _ {w : List ℤ} {s : Sizes} {f : ℕ} {strand : ℤ} {calls : List ℤ} 
       let c = both (within lowestQuality (pos 0) qual) (within lowestQuality (pos 0) other) (b .1) in
       record { variant-in = below-less (s .n) variant (a .0); qual-in = quality-down qual (c .0); one-minus-qual-in = quality-down other (c .1) }
 
-  -- what call i adds to a likelihood
-  abbrev pub arrivingShare : Fixed → ℕ → ℕ → ℤ
-  arrivingShare fixed h i = shareOn fixed (arrivingRead strand calls) h (arrivingCall calls i)
-
-  pub arriving-sum : (fixed : Fixed) (h : ℕ) → likelihoodOn fixed (arrivingRead strand calls) h ≡ sumTo (wholeCalls calls) (arrivingShare fixed h)
-  unfolding arrivingRead
-  arriving-sum fixed h =
-      likelihood-on fixed (arrivingRead strand calls) h
-      ∙ table-sum (arrivingCall calls) (shareOn fixed (arrivingRead strand calls) h) 0 (wholeCalls calls)
-      ∙ sumTo-cong (wholeCalls calls) _ _ (λ i l. ap (arrivingShare fixed h) (zero-add i))
-
-  some-down : (fixed : Fixed) (h i : ℕ) → i ≤ wholeCalls calls → DownTo (262144 * i) (sumTo i (arrivingShare fixed h))
+  some-down : (fixed : Fixed) (h i : ℕ) → i ≤ wholeCalls calls → DownTo (262144 * i) (sumTo i (arrivingShare strand calls fixed h))
   unfolding sumTo
   some-down fixed h zero l = down-zero 0
   some-down fixed h (suc i) l =
@@ -142,5 +142,5 @@ module _ {w : List ℤ} {s : Sizes} {f : ℕ} {strand : ℤ} {calls : List ℤ} 
 
   pub arriving-down : (fixed : Fixed) (h : ℕ) → Sized w s → DownTo (2 ^ 32) (likelihoodOn fixed (arrivingRead strand calls) h)
   arriving-down fixed h sized =
-      rw (arriving-sum fixed h)
+      rw (arriving-sum strand calls fixed h)
       (down-more (262144 * wholeCalls calls) (2 ^ 32) _ (omega (arith, arriving-few sized)) (some-down fixed h (wholeCalls calls) (omega arith)))
