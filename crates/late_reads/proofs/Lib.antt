@@ -1,1 +1,2 @@
+pub mod Ranged
 pub mod ReadShares
