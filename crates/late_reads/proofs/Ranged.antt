@@ -112,6 +112,16 @@ module _ {s : Sizes} {x : Values} {sum : ℤ} {counts : List ℤ} (u : Updating 
     unfolding outcomeOf
     updates t e l c w = rw (e, u .total-is) (promise-done (unsettled x) (unless-on (inRange (s .n) (s .f) x) 10 0 (done (unsettled x)) (ranged-is true true l c)) w)
 
+-- the slices, part by part
+pub same-slices : {w v l m c d : List ℤ} → w ≡ v → l ≡ m → c ≡ d → lateSlices w l c ≡ lateSlices v m d
+same-slices p q r = cc
+
+pub same-mix : {a b x y : ℤ} → a ≡ x → b ≡ y → mixOf a b ≡ mixOf x y
+same-mix p q = cc
+
+pub same-put : (l : List ℤ) (f : ℕ) {a b x y : ℤ} → a ≡ x → b ≡ y → putLikelihoods l f a b ≡ putLikelihoods l f x y
+same-put l f p q = cc
+
 -- ---- what is written
 module _ {w : List ℤ} {s : Sizes} {phase haps : List ℕ} {lent : Values} (kept : Kept w s phase haps lent) where
   -- by an arrival: the likelihoods of the read
