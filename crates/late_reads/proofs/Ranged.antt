@@ -1,13 +1,13 @@
 -- The last test of an arrival and of a departure. What is lent is in range, and so are the likelihoods afterwards: those of the other fragments
 -- are as they were, and the two written are an arriving read's, in −2^32..0, or 0. So the test is that of the total and of the counts, and each
 -- place at which the operation returns keeps its promise. Assumes nothing.
-use mathlib.Core.Path.{_≡_, refl, sym, ap, _∙_}
+use mathlib.Core.Path.{_≡_, refl}
 use mathlib.Core.Bool.{Bool, true, false, _&&_}
 use mathlib.Core.List.{List}
 use Prim.Native.Nat.{ℕ, _+_, _*_, _^_, _≤_, _<_}
 use native.Mathlib.Decide.{ℕ-discrete}
 use native.Mathlib.Omega.{arith}
-use lib.IntN.{ℤ, pos, negsuc, natAbs, _+ℤ_, _-ℤ_}
+use lib.IntN.{ℤ, pos, natAbs, _+ℤ_, _-ℤ_}
 use lib.ListN.{length, getD, set, length-set}
 use lib.Seq.{getD-set-same, getD-set-other}
 use lib.Signed.{leZ}
@@ -112,7 +112,7 @@ module _ {s : Sizes} {x : Values} {sum : ℤ} {counts : List ℤ} (u : Updating 
     unfolding outcomeOf
     updates t e l c w = rw (e, u .total-is) (promise-done (unsettled x) (unless-on (inRange (s .n) (s .f) x) 10 0 (done (unsettled x)) (ranged-is true true l c)) w)
 
--- the slices, part by part
+-- equal parts, equal slices, shares and likelihoods
 pub same-slices : {w v l m c d : List ℤ} → w ≡ v → l ≡ m → c ≡ d → lateSlices w l c ≡ lateSlices v m d
 same-slices p q r = cc
 

@@ -7,13 +7,12 @@ use mathlib.Core.List.{List, [], _∷_}
 use Prim.Native.Nat.{ℕ, zero, suc, _+_, _*_, _^_, _≤_, _<_}
 use native.Mathlib.Nat.{zero-add}
 use native.Mathlib.Omega.{arith}
-use lib.IntN.{ℤ, pos, natAbs, _+ℤ_, +ℤ-idl}
+use lib.IntN.{ℤ, pos, _+ℤ_, +ℤ-idl}
 use borrow.Author.Tests.{eq-eqb, ne-eqb}
 use lib.Dec.{eqb}
 use lib.ListN.{getD}
 use Rattle.variants_and_fragments.specs.declared.Sizes.{Sizes}
 use Rattle.variants_and_fragments.specs.Case.{Fragment, Call, usable}
-use Rattle.variants_and_fragments.specs.Decode.{tabulate}
 use Rattle.variants_and_fragments.specs.Layout.{lowestQuality, variantField, alleleField, qualField, oneMinusQualField, alleleCountAt}
 use Rattle.variants_and_fragments.specs.Pileup.{only, usableCalls}
 use Rattle.variants_and_fragments.specs.Sums.{sumOver, sumTo}

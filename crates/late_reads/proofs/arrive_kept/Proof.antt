@@ -1,25 +1,22 @@
 -- `late_reads::arrive_kept` meets its contract: the new total does not wrap, its test and that of the counts are the last test of the definition, and
 -- each slice is written as the definition says. Assumes nothing.
-use mathlib.Core.Path.{_≡_, refl, sym, ap, _∙_}
-use mathlib.Core.Bool.{true, false}
-use mathlib.Core.List.{List}
-use Prim.Native.Nat.{ℕ, _+_, _*_, _^_, _≤_, _<_}
+use mathlib.Core.Path.{_≡_, sym, ap, _∙_}
+use mathlib.Core.Bool.{true}
+use Prim.Native.Nat.{ℕ, _+_, _^_, _<_}
 use native.Mathlib.Omega.{arith}
 use borrow.Author.Needs.{needs}
 use borrow.Author.Tests.{not-true, not-false}
 use denote.Ref.{now}
 use lib.IntN.{ℤ, pos, natAbs, _+ℤ_}
 use mir.Syntax.{w64}
-use mir.Val.{SFits, toZ, ofZ}
+use mir.Val.{toZ, ofZ}
 use Rattle.steps.specs.Logs.{mixOf}
-use Rattle.variants_and_fragments.specs.Layout.{cutoffAt}
 use Rattle.variants_and_fragments.specs.Words.{within}
 use Rattle.likelihoods.proofs.RunningSums.{added-fits, added-read}
 use Rattle.late_reads.specs.Arriving.{arrivingRead}
 use Rattle.late_reads.specs.Values.{lowestTotal, likelihoodOn, arrived}
-use Rattle.late_reads.specs.Inner.Counting.{countsArrived, countsFit}
 use Rattle.late_reads.specs.Inner.Ready.{fixedAt}
-use Rattle.late_reads.proofs.Ranged.{total-small, counts-in, Updating, refuses-total, refuses-counts, updates, same-slices, same-mix, same-put, arrival}
+use Rattle.late_reads.proofs.Ranged.{total-small, counts-in, refuses-total, refuses-counts, updates, same-slices, same-mix, same-put, arrival}
 use Rattle.late_reads.proofs.arrive_kept.Statement.{statement}
 use Rattle.late_reads.proofs.arrive_kept.Tie as tie
 

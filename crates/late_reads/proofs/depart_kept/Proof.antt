@@ -1,7 +1,7 @@
 -- `late_reads::depart_kept` meets its contract: the lent likelihoods are in range, so the new total does not wrap; its test and that of the counts are
 -- the last test of the definition, and each slice is written as the definition says. Assumes nothing.
 use mathlib.Core.Path.{_≡_, sym, ap, _∙_}
-use mathlib.Core.Bool.{true, false}
+use mathlib.Core.Bool.{true}
 use Prim.Native.Nat.{ℕ, _+_, _*_, _^_, _≤_, _<_}
 use native.Mathlib.Omega.{arith}
 use borrow.Author.Needs.{needs}

@@ -1,8 +1,7 @@
 -- `late_reads::reads::arriving_likelihoods` meets its contract. The loop's invariant: `first` and `second` are the sums over the first i calls.
 -- Assumes nothing.
 use mathlib.Core.Path.{_≡_, sym, ap, _∙_}
-use mathlib.Core.List.{List}
-use Prim.Native.Nat.{ℕ, _+_, _*_, _-_, _≤_, _<_}
+use Prim.Native.Nat.{ℕ, _*_, _-_, _≤_, _<_}
 use native.Mathlib.Omega.{arith}
 use denote.Ref.{now}
 use lib.IntN.{ℤ, natAbs}

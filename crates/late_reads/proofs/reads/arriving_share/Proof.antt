@@ -1,8 +1,7 @@
 -- `late_reads::reads::arriving_share` meets its contract: each test of the code is one of the definition's, and what is returned is 0 or one of the
 -- call's qualities. Assumes nothing.
 use mathlib.Core.Path.{_≡_, sym, ap, _∙_}
-use mathlib.Core.Bool.{true, false}
-use mathlib.Core.List.{List}
+use mathlib.Core.Bool.{true}
 use Prim.Native.Nat.{ℕ, _+_, _*_, _<_, _≤_}
 use native.Mathlib.Omega.{arith}
 use borrow.Author.Needs.{needs, sfits-of}
@@ -136,11 +135,17 @@ own-there c =
     let s = start u in
     omega (arith, variant-is u, call-in s .variant-in, s .pre .0 .haps-long, s .pre .1 .1 .1)
 
+own-low : (c : tie.Else2) → let u = asked (c .before) in 2 * read-variant u .nat-of .result + start u .args .h < 2048
+own-low c =
+    let u = asked (c .before) in
+    let s = start u in
+    omega (arith, variant-is u, call-in s .variant-in, s .pre .0 .case-in .sized .n-top, s .pre .1 .1 .1)
+
 mul-at : tie.Need-mul-at
-mul-at c = omega (arith, own-there c, start (asked (c .before)) .pre .0 .case-in .sized .n-top, call-in (start (asked (c .before))) .variant-in, variant-is (asked (c .before)))
+mul-at c = omega (arith, own-low c)
 
 add-at : tie.Need-add-at
-add-at c = omega (arith, own-there c, start (asked (c .before)) .pre .0 .case-in .sized .n-top, call-in (start (asked (c .before))) .variant-in, variant-is (asked (c .before)), start (asked (c .before)) .pre .1 .1 .1)
+add-at c = omega (arith, own-low c)
 
 shared-slice-read-own : tie.Need-shared-slice-read-own
 shared-slice-read-own c = own-there (c .before)

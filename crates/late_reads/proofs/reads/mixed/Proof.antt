@@ -1,7 +1,7 @@
 -- `late_reads::reads::mixed` meets its contract: neither likelihood less 4,096 wraps or is the mark.
 -- Assumes nothing.
-use mathlib.Core.Path.{_≡_, _∙_}
-use Prim.Native.Nat.{_+_, _≤_, _<_, _^_}
+use mathlib.Core.Path.{_≡_}
+use Prim.Native.Nat.{_≤_, _^_}
 use native.Mathlib.Omega.{arith}
 use lib.IntN.{ℤ, pos, natAbs, _-ℤ_}
 use mir.Syntax.{w64}
