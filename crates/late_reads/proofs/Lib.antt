@@ -3,3 +3,5 @@ pub mod ArrivalTests
 pub mod KeptCase
 pub mod ValuesDecoded
 pub mod Promised
+pub mod Ranged
+pub mod ReadShares
