@@ -2,7 +2,7 @@
 -- its quotient and remainder by 10; here the two are tied, once. So `countCall` adds d just where the call counts, and `callFits` says that
 -- what stands there would be in range with d more.
 -- Assumes nothing.
-use mathlib.Core.Path.{_≡_, refl, ap, _∙_}
+use mathlib.Core.Path.{_≡_, refl, sym, ap, _∙_}
 use mathlib.Core.Bool.{Bool, true, false, cond, _&&_, _||_}
 use mathlib.Core.Logic.{_⊎_, inl, inr, ⊎-elim}
 use mathlib.Core.List.{List}
@@ -21,6 +21,7 @@ use Rattle.variants_and_fragments.specs.Case.{Fragment, Call, usable}
 use Rattle.variants_and_fragments.specs.Words.{within}
 use Rattle.variants_and_fragments.proofs.Bools.{both}
 use Rattle.variants_and_fragments.proofs.Ranges.{within-top}
+use Rattle.pileup.specs.Inner.Packed.{UsableIs}
 use Rattle.late_reads.specs.declared.counts.CountedCall.{CountedCall}
 use Rattle.late_reads.specs.Values.{maxCount, counted}
 use Rattle.late_reads.specs.Inner.Counting.{addAt, allelePlace, strandPlace, ambiguousPlace, countCall, fitsAt, callFits, CountsIn, Countable, countedCall}
@@ -28,6 +29,11 @@ use Rattle.late_reads.specs.Inner.Counting.{addAt, allelePlace, strandPl
 -- a call of read x counts at element e
 abbrev pub countsAt : ℤ → Fragment → ℕ → Call → Bool
 countsAt cutoff x e call = eqb (call .variant) (e / 10) && counted cutoff x (e % 10) call
+
+-- a call as the code reads it
+pub counted-is : {q z : ℤ} {s v a : ℕ} {r : Bool} (cutoff : ℤ) (x : Fragment) (call : Call) → UsableIs q s z r → q ≡ cutoff → s ≡ x .strand → z ≡ call .qual → v ≡ call .variant → a ≡ call .allele
+    → _≡_ {A = CountedCall} (record { variant = v; allele = a; usable = r }) (countedCall cutoff x call)
+counted-is cutoff x call u q s z v a = rw (v, a, u .is x call (sym s) (sym z), q)
 
 -- ---- one element
 count-small : (z : ℤ) → within (pos 0) (pos maxCount) z ≡ true → natAbs z ≤ maxCount
