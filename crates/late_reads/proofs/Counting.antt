@@ -229,18 +229,21 @@ pub record Adding (d cutoff : ℤ) (x : Fragment) (n : ℕ) (calls : List Call) 
   pub same : countCalls d cutoff x calls counts ≡ after
 
 -- at the start all are left
-module _ (cutoff : ℤ) (x : Fragment) (two : x .strand ≤ 1) {n : ℕ} (r : Rising n 0 (x .calls)) (counts : List ℤ) (long : 10 * n ≤ length counts) (lent : countsFit n counts ≡ true) where
-  pub arriving-fit-start : Fitting (pos 1) cutoff x n counts (x .calls) (countsFit n (countsArrived cutoff n x counts))
-  arriving-fit-start = record { left = left-start counts r long lent; decides = all-fit (pos 1) cutoff x two r counts long lent ∙ ap (countsFit n) (arrived-is cutoff x two n counts) }
+module _ (cutoff : ℤ) (x : Fragment) (two : x .strand ≤ 1) {n : ℕ} (r : Rising n 0 (x .calls)) {left : List Call} (e : x .calls ≡ left) (counts : List ℤ) (lent : countsFit n counts ≡ true) (long : 10 * n ≤ length counts) where
+  abbrev all-left : CallsLeft n left counts
+  all-left = rw e at (left-start counts r long lent)
 
-  pub departing-fit-start : Fitting (negsuc 0) cutoff x n counts (x .calls) (countsFit n (countsDeparted cutoff n x counts))
-  departing-fit-start = record { left = left-start counts r long lent; decides = all-fit (negsuc 0) cutoff x two r counts long lent ∙ ap (countsFit n) (departed-is cutoff x two n counts) }
+  pub arriving-fit-start : Fitting (pos 1) cutoff x n counts left (countsFit n (countsArrived cutoff n x counts))
+  arriving-fit-start = record { left = all-left; decides = rw (← e) (all-fit (pos 1) cutoff x two r counts long lent ∙ ap (countsFit n) (arrived-is cutoff x two n counts)) }
 
-  pub arriving-start : Adding (pos 1) cutoff x n (x .calls) counts (countsArrived cutoff n x counts)
-  arriving-start = record { left = left-start counts r long lent; same = all-counted (pos 1) cutoff x two r counts long ∙ arrived-is cutoff x two n counts }
+  pub departing-fit-start : Fitting (negsuc 0) cutoff x n counts left (countsFit n (countsDeparted cutoff n x counts))
+  departing-fit-start = record { left = all-left; decides = rw (← e) (all-fit (negsuc 0) cutoff x two r counts long lent ∙ ap (countsFit n) (departed-is cutoff x two n counts)) }
 
-  pub departing-start : Adding (negsuc 0) cutoff x n (x .calls) counts (countsDeparted cutoff n x counts)
-  departing-start = record { left = left-start counts r long lent; same = all-counted (negsuc 0) cutoff x two r counts long ∙ departed-is cutoff x two n counts }
+  pub arriving-start : Adding (pos 1) cutoff x n left counts (countsArrived cutoff n x counts)
+  arriving-start = record { left = all-left; same = rw (← e) (all-counted (pos 1) cutoff x two r counts long ∙ arrived-is cutoff x two n counts) }
+
+  pub departing-start : Adding (negsuc 0) cutoff x n left counts (countsDeparted cutoff n x counts)
+  departing-start = record { left = all-left; same = rw (← e) (all-counted (negsuc 0) cutoff x two r counts long ∙ departed-is cutoff x two n counts) }
 
 module _ {d cutoff : ℤ} {x : Fragment} {n : ℕ} {counts : List ℤ} {left : List Call} {answer : Bool} (i : Fitting d cutoff x n counts left answer) where
   pub fit-end : left ≡ [] → true ≡ answer

@@ -64,6 +64,14 @@ pub count-length : (d : ℤ) (strand : ℕ) (call : CountedCall) (counts : List 
 unfolding countCall
 count-length d strand call counts = by-test (call .usable) (λ u. rw u (simp length-set)) (λ u. rw u (simp length-set))
 
+-- the same call at the same strand
+module _ (d : ℤ) {k m : ℕ} {a b : CountedCall} (e : k ≡ m) (q : a ≡ b) (counts : List ℤ) where
+  pub same-fits : callFits d k a counts ≡ callFits d m b counts
+  same-fits = rw (e, q)
+
+  pub same-count : countCall d k a counts ≡ countCall d m b counts
+  same-count = rw (e, q)
+
 -- ---- the places of a call that may be counted
 module _ {counts : List ℤ} {strand : ℕ} {d : ℤ} {call : CountedCall} (c : Countable counts strand d call) where
   pub at-allele : CountsIn counts (allelePlace call) d

@@ -2,7 +2,7 @@
 -- strand is 0 or 1. What a loop has left of them is the rest of a table, or of a chain from where the walk stands; a record that is not used
 -- ends the chain as 0 does.
 -- Assumes nothing.
-use mathlib.Core.Path.{_≡_, refl, ap}
+use mathlib.Core.Path.{_≡_, sym}
 use mathlib.Core.Bool.{true, false, _&&_, _||_}
 use mathlib.Core.List.{List, [], _∷_, map}
 use Prim.Native.Nat.{ℕ, zero, suc, _+_, _-_, _≤_, _<_}
@@ -25,6 +25,7 @@ use Rattle.variants_and_fragments.proofs.Chain.{next-rises, record-chain}
 use Rattle.variants_and_fragments.proofs.Linked.{Linked, ends, goes, chain-linked}
 use Rattle.variants_and_fragments.proofs.Ranges.{within-top, below-less}
 use Rattle.variants_and_fragments.proofs.Records.{call-facts}
+use Rattle.variants_and_fragments.proofs.Tabulated.{table-start, table-more, table-end}
 use Rattle.variants_and_fragments.proofs.Walks.{chain-end, chain-none, chain-step}
 use Rattle.late_reads.specs.Arriving.{arrivingWord, wholeCalls, arrivingCall, arrivingRead, arrivingOk, arrivingRises}
 use Rattle.late_reads.specs.Inner.Ready.{Arriving}
@@ -65,6 +66,21 @@ module _ {w : List ℤ} {s : Sizes} {f : ℕ} {strand : ℤ} {calls : List ℤ} 
   pub arriving-strand : arrivingRead strand calls .strand ≤ 1
   unfolding arrivingRead
   arriving-strand = within-top 0 1 strand (a .strand-in)
+
+-- the calls left at call i
+abbrev pub arrivingLeft : List ℤ → ℕ → List Call
+arrivingLeft calls i = tabulateFrom (arrivingCall calls) i (wholeCalls calls - i)
+
+module _ (calls : List ℤ) where
+  pub arriving-left : (strand : ℤ) → arrivingRead strand calls .calls ≡ arrivingLeft calls 0
+  unfolding arrivingRead
+  arriving-left strand = sym (table-start (arrivingCall calls) (wholeCalls calls))
+
+  pub arriving-more : (i : ℕ) → i < wholeCalls calls → arrivingLeft calls i ≡ arrivingCall calls i ∷ arrivingLeft calls (i + 1)
+  arriving-more = table-more (arrivingCall calls) (wholeCalls calls)
+
+  pub arriving-out : (i : ℕ) → wholeCalls calls ≤ i → arrivingLeft calls i ≡ []
+  arriving-out = table-end (arrivingCall calls) (wholeCalls calls)
 
 -- ---- a fragment
 linked-rising : (w : List ℤ) (s : Sizes) → VariantsIn w s → (b : ℕ) {r : ℕ} {rs : List ℕ} → Linked w s r rs → (1 ≤ r → b ≤ callVariantAt w s r) → allb (callOk w s) rs ≡ true → Rising (s .n) b (map (callFrom w s) rs)
