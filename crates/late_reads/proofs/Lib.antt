@@ -5,3 +5,6 @@ pub mod ValuesDecoded
 pub mod Promised
 pub mod Ranged
 pub mod ReadShares
+pub mod Places
+pub mod Counting
+pub mod ReadCalls
