@@ -1,1 +1,2 @@
 pub mod WordsAfter
+pub mod OneChanged
