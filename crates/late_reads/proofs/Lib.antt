@@ -1,2 +1,4 @@
 pub mod WordsAfter
 pub mod OneChanged
+pub mod AcceptedAfter
+pub mod DecodedAfter

@@ -15,8 +15,8 @@ use lib.IntN.{ℤ, pos, negsuc}
 use lib.ListN.{length}
 use lib.Signed.{leZ}
 use Rattle.variants_and_fragments.specs.declared.Sizes.{Sizes}
-use Rattle.variants_and_fragments.specs.Words.{word, within, below, none, natOf}
-use Rattle.variants_and_fragments.specs.Layout.{callWords, fragmentWords, variantWords, usedField, firstField, strandField, nextField, variantField, alleleField, qualField, oneMinusQualField, alleleCountField, lowestQuality, fragmentAt, variantAt, variantWord, fragmentWord, callWord, alleleCountAt, callVariantAt, callWordsOk, callOk}
+use Rattle.variants_and_fragments.specs.Words.{word, within, below, none, natOf, natAt}
+use Rattle.variants_and_fragments.specs.Layout.{sizesOf, variantsField, fragmentsField, callsField, cutoffField, callWords, fragmentWords, variantWords, usedField, firstField, strandField, nextField, variantField, alleleField, qualField, oneMinusQualField, alleleCountField, lowestQuality, fragmentAt, variantAt, variantWord, fragmentWord, callWord, alleleCountAt, callVariantAt, callWordsOk, callOk}
 use Rattle.variants_and_fragments.specs.Chain.{firstCallAt, nextCallAt, linkOk, chainFrom, chainOf, memb, reached, goodChain}
 use Rattle.variants_and_fragments.specs.Decode.{callFrom}
 use Rattle.variants_and_fragments.specs.Inner.Layout.{Sized}
@@ -39,6 +39,19 @@ pub record Keeps (w w' : List ℤ) (s : Sizes) (f : ℕ) : Type 0 where
   pub front : (k : ℕ) → k < fragmentAt s 0 → (k ≡ usedField → ⊥) → word w' k ≡ word w k
   pub others : (g field : ℕ) → g < s .f → field < fragmentWords → (g ≡ f → ⊥) → fragmentWord w' s g field ≡ fragmentWord w s g field
   pub records : (r field : ℕ) → 1 ≤ r → r ≤ s .used → field < callWords → callWord w' s r field ≡ callWord w s r field
+
+-- and what is right of fragment f and of the number u of records used afterwards
+pub record Changed (w w' : List ℤ) (s : Sizes) (u f : ℕ) : Type 0 where
+  pub keeps : Keeps w w' s f
+  pub used-is : word w' usedField ≡ pos u
+  pub low : s .used ≤ u
+  pub high : u ≤ s .c
+  pub strand-in : within (pos 0) (pos 1) (fragmentWord w' s f strandField) ≡ true
+  pub first-in : within (negsuc 0) (pos u) (fragmentWord w' s f firstField) ≡ true
+  -- its chain is of records past those that were used, and good
+  pub above : (x : ℕ) → memb x (chainOf w' (usedAs s u) f) ≡ true → s .used < x
+  pub right : goodChain w' (usedAs s u) (reached w s f) (chainOf w' (usedAs s u) f) ≡ true
+  pub calls : (x : ℕ) → memb x (chainOf w' (usedAs s u) f) ≡ true → callOk w' (usedAs s u) x ≡ true
 
 -- ---- lists of records
 -- a test that cannot hold fails
@@ -204,3 +217,14 @@ module _ {w w' : List ℤ} {s : Sizes} {f : ℕ} (k : CaseIn w s) (keeps : Keeps
         ]
         | inr m ↦ reached-calls own g x (omega arith) m
       ]
+
+-- ---- the head
+pub sizes-after : {w w' : List ℤ} {s : Sizes} {u f : ℕ} → CaseIn w s → Changed w w' s u f → sizesOf w' ≡ usedAs s u
+sizes-after {w} {w'} {s} {u} k changed =
+    let at : (i : ℕ) → i < 4 → word w' i ≡ word w i = λ i l. changed .keeps .front i (omega arith) (λ e. omega arith) in
+    let n-is : natAt w' variantsField ≡ s .n = ap natOf (at 0 (omega arith)) ∙ ap (λ (t : Sizes). t .n) (sym (k .shape)) in
+    let f-is : natAt w' fragmentsField ≡ s .f = ap natOf (at 1 (omega arith)) ∙ ap (λ (t : Sizes). t .f) (sym (k .shape)) in
+    let c-is : natAt w' callsField ≡ s .c = ap natOf (at 2 (omega arith)) ∙ ap (λ (t : Sizes). t .c) (sym (k .shape)) in
+    let cutoff-is : word w' cutoffField ≡ s .cutoff = at 3 (omega arith) ∙ ap (λ (t : Sizes). t .cutoff) (sym (k .shape)) in
+    let used-is : natAt w' usedField ≡ u = ap natOf (changed .used-is) in
+    rw (n-is, f-is, c-is, cutoff-is, used-is)
