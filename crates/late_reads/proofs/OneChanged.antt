@@ -43,7 +43,7 @@ pub record Keeps (w w' : List ℤ) (s : Sizes) (f : ℕ) : Type 0 where
 -- and what is right of fragment f and of the number u of records used afterwards
 pub record Changed (w w' : List ℤ) (s : Sizes) (u f : ℕ) : Type 0 where
   pub keeps : Keeps w w' s f
-  pub used-is : word w' usedField ≡ pos u
+  pub used-is : natAt w' usedField ≡ u
   pub low : s .used ≤ u
   pub high : u ≤ s .c
   pub strand-in : within (pos 0) (pos 1) (fragmentWord w' s f strandField) ≡ true
@@ -226,5 +226,4 @@ sizes-after {w} {w'} {s} {u} k changed =
     let f-is : natAt w' fragmentsField ≡ s .f = ap natOf (at 1 (omega arith)) ∙ ap (λ (t : Sizes). t .f) (sym (k .shape)) in
     let c-is : natAt w' callsField ≡ s .c = ap natOf (at 2 (omega arith)) ∙ ap (λ (t : Sizes). t .c) (sym (k .shape)) in
     let cutoff-is : word w' cutoffField ≡ s .cutoff = at 3 (omega arith) ∙ ap (λ (t : Sizes). t .cutoff) (sym (k .shape)) in
-    let used-is : natAt w' usedField ≡ u = ap natOf (changed .used-is) in
-    rw (n-is, f-is, c-is, cutoff-is, used-is)
+    rw (n-is, f-is, c-is, cutoff-is, changed .used-is)
