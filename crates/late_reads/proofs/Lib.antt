@@ -2,3 +2,4 @@ pub mod WordsAfter
 pub mod OneChanged
 pub mod AcceptedAfter
 pub mod DecodedAfter
+pub mod Departures
