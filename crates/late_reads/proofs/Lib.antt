@@ -3,3 +3,4 @@ pub mod OneChanged
 pub mod AcceptedAfter
 pub mod DecodedAfter
 pub mod Departures
+pub mod Arrivals
