@@ -9,15 +9,12 @@ use native.Mathlib.Omega.{arith}
 use native.Mathlib.Decide.{ℕ-discrete}
 use borrow.Author.Tests.{le-leb, leb-true}
 use lib.IntN.{ℤ, pos, negsuc}
-use lib.ListN.{length}
 use Rattle.variants_and_fragments.specs.declared.Sizes.{Sizes}
 use Rattle.variants_and_fragments.specs.Refusals.{done}
-use Rattle.variants_and_fragments.specs.Words.{word, within, natOf}
-use Rattle.variants_and_fragments.specs.First.{firstFail}
-use Rattle.variants_and_fragments.specs.Layout.{sizesOf, cutoffAt, cutoffField, lowestQuality, pos0Field, depthField, genotypeField, alleleCountField, lengthField, firstField, strandField, variantWord, fragmentWord, lengthAt, variantOk, callOk}
-use Rattle.variants_and_fragments.specs.Chain.{strandAt, chainOf, memb, reached, isReached, reachedCallOk, goodChain, fragmentOk}
-use Rattle.variants_and_fragments.specs.Alleles.{allelesLength, allelesStart, baseOkAt, allelesOk}
-use Rattle.variants_and_fragments.specs.First.{holdsBelow}
+use Rattle.variants_and_fragments.specs.Words.{within, natOf}
+use Rattle.variants_and_fragments.specs.Layout.{cutoffAt, cutoffField, lowestQuality, pos0Field, depthField, genotypeField, alleleCountField, lengthField, firstField, strandField, variantWord, fragmentWord, lengthAt, variantOk, callOk}
+use Rattle.variants_and_fragments.specs.Chain.{strandAt, memb, reached, isReached, reachedCallOk, fragmentOk}
+use Rattle.variants_and_fragments.specs.Alleles.{allelesStart, allelesOk}
 use Rattle.variants_and_fragments.specs.Check.{checkCaseAndHaplotypesOutcome}
 use Rattle.variants_and_fragments.specs.Inner.Head.{headFault}
 use Rattle.variants_and_fragments.specs.Inner.Accepted.{CaseIn}
@@ -25,7 +22,7 @@ use Rattle.variants_and_fragments.proofs.First.{first-cong, first-end, all-from
 use Rattle.variants_and_fragments.proofs.Ranges.{within-top}
 use Rattle.variants_and_fragments.proofs.Heads.{head-right}
 use Rattle.variants_and_fragments.proofs.Chain.{frag-in}
-use Rattle.variants_and_fragments.proofs.Accepted.{Passed, passed, accepts, checked-in}
+use Rattle.variants_and_fragments.proofs.Accepted.{Passed, accepts}
 use Rattle.late_reads.proofs.OneChanged.{usedAs, Keeps, Changed, variant-word, reached-same, chain-good, reached-calls, sized-after, sizes-after}
 
 -- a first call in −1..u is in −1..v where v is no less

@@ -2,28 +2,27 @@
 -- order, and it decodes to the arriving calls. All else is kept (WordsAfter). They are accepted, and stand for the case with that fragment exchanged.
 -- Assumes nothing.
 use mathlib.Core.Path.{_≡_, refl, sym, ap, _∙_, subst}
-use mathlib.Core.Bool.{Bool, true, false, cond, _||_}
-use mathlib.Core.List.{List, [], _∷_, map}
+use mathlib.Core.Bool.{true, false, cond}
+use mathlib.Core.List.{List, _∷_, map}
 use mathlib.Core.Logic.{inl, inr}
 use Prim.Native.Nat.{ℕ, zero, suc, _+_, _-_, _≤_, _<_}
 use native.Mathlib.Omega.{arith}
 use native.Mathlib.Numerals.{add-one}
 use native.Mathlib.Decide.{ℕ-discrete}
-use borrow.Author.Tests.{le-leb, lt-ltb, eq-eqb, ne-eqb}
-use lib.Dec.{ltb, leb, eqb}
-use lib.IntN.{ℤ, pos, negsuc}
-use lib.ListN.{length, set, length-set}
+use borrow.Author.Tests.{le-leb, eq-eqb, ne-eqb}
+use lib.Dec.{ltb, eqb}
+use lib.IntN.{ℤ, pos}
+use lib.ListN.{length, length-set}
 use lib.Seq.{getD-set-same, getD-set-other}
-use lib.Signed.{leZ}
 use Rattle.variants_and_fragments.specs.declared.Sizes.{Sizes}
 use Rattle.variants_and_fragments.specs.declared.CallWords.{CallWords}
 use Rattle.variants_and_fragments.specs.Refusals.{done}
-use Rattle.variants_and_fragments.specs.Words.{word, within, natOf, natAt}
-use Rattle.variants_and_fragments.specs.Layout.{callWords, usedField, firstField, strandField, nextField, variantField, fragmentAt, fragmentWord, callAt, callWord, callVariantAt, headSet, fragmentSet, sizesOf, callOk}
-use Rattle.variants_and_fragments.specs.Chain.{firstCallAt, strandAt, nextCallAt, linkOk, chainFrom, chainOf, memb, reached, goodChain}
+use Rattle.variants_and_fragments.specs.Words.{word, within, natOf}
+use Rattle.variants_and_fragments.specs.Layout.{usedField, firstField, strandField, fragmentAt, fragmentWord, callAt, callVariantAt, fragmentSet, sizesOf, callOk}
+use Rattle.variants_and_fragments.specs.Chain.{firstCallAt, nextCallAt, linkOk, chainFrom, chainOf, memb, reached, goodChain}
 use Rattle.variants_and_fragments.specs.Check.{checkCaseAndHaplotypesOutcome}
 use Rattle.variants_and_fragments.specs.Decode.{tabulateFrom, tabulate, callFrom, fragmentFrom, decode}
-use Rattle.variants_and_fragments.specs.Inner.Layout.{Sized, callWordsAt}
+use Rattle.variants_and_fragments.specs.Inner.Layout.{Sized}
 use Rattle.variants_and_fragments.specs.Inner.Accepted.{CaseIn}
 use Rattle.variants_and_fragments.proofs.Bools.{true-false}
 use Rattle.variants_and_fragments.proofs.Tabulated.{table-length}
@@ -31,7 +30,7 @@ use Rattle.variants_and_fragments.proofs.Chain.{link-end, link-after, chain-rec
 use Rattle.variants_and_fragments.proofs.Linked.{Linked, ends, goes, linked-fuel}
 use Rattle.variants_and_fragments.proofs.Accepted.{Passed, passed, checked-in}
 use Rattle.late_reads.specs.Values.{exchanged}
-use Rattle.late_reads.specs.Arriving.{wholeCalls, arrivingAt, arrivingCall, arrivingRead, arrivingOk, arrivingRises, callsLaid, arrivedWords}
+use Rattle.late_reads.specs.Arriving.{wholeCalls, arrivingCall, arrivingRead, arrivingOk, arrivingRises, callsLaid, arrivedWords}
 use Rattle.late_reads.specs.Inner.Ready.{Arriving}
 use Rattle.late_reads.proofs.WordsAfter.{linkAfter, CallAt, call-stays, laid-length, laid-below, laid-at}
 use Rattle.late_reads.proofs.OneChanged.{usedAs, Keeps, Changed, off, memb-cases, sized-after, call-words-kept, sizes-after}
@@ -123,11 +122,11 @@ module _ {w : List ℤ} {s : Sizes} {f : ℕ} {strand : ℤ} {calls : List ℤ} 
         long = arrived-long;
         front = λ i l n. arrived-other i n (λ e. omega arith) (λ e. omega arith) ∙ laid-below w s calls m m i (omega arith);
         others = λ g field l h other.
-          arrived-other (fragmentAt s g + field) (λ e. omega arith) (λ e. other (omega arith)) (λ e. other (omega arith))
-          ∙ laid-below w s calls m m (fragmentAt s g + field) (omega arith);
+            arrived-other (fragmentAt s g + field) (λ e. omega arith) (λ e. other (omega arith)) (λ e. other (omega arith))
+            ∙ laid-below w s calls m m (fragmentAt s g + field) (omega arith);
         records = λ r field lo hi h.
-          arrived-other (callAt s r + field) (λ e. omega arith) (λ e. omega arith) (λ e. omega arith)
-          ∙ laid-below w s calls m m (callAt s r + field) (omega arith);
+            arrived-other (callAt s r + field) (λ e. omega arith) (λ e. omega arith) (λ e. omega arith)
+            ∙ laid-below w s calls m m (callAt s r + field) (omega arith);
       }
 
   -- the record of each arriving call

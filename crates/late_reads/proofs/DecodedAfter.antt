@@ -10,13 +10,11 @@ use native.Mathlib.Decide.{ℕ-discrete}
 use borrow.Author.Tests.{eq-eqb}
 use lib.Dec.{eqb}
 use lib.IntN.{ℤ}
-use lib.ListN.{length, getD, set, length-set}
+use lib.ListN.{set, length-set}
 use lib.Seq.{ext-getD, getD-set-same, getD-set-other}
-use lib.Signed.{leZ}
 use Rattle.variants_and_fragments.specs.declared.Sizes.{Sizes}
-use Rattle.variants_and_fragments.specs.Case.{Case, Variant, Fragment, Call, noFragment}
-use Rattle.variants_and_fragments.specs.Words.{natOf}
-use Rattle.variants_and_fragments.specs.Layout.{sizesOf, cutoffAt, cutoffField, firstField, strandField, pos0Field, depthField, genotypeField, variantWord, fragmentWord, lengthAt, alleleCountAt}
+use Rattle.variants_and_fragments.specs.Case.{Case, noFragment}
+use Rattle.variants_and_fragments.specs.Layout.{cutoffAt, cutoffField, firstField, strandField, pos0Field, depthField, genotypeField, variantWord, alleleCountAt}
 use Rattle.variants_and_fragments.specs.Chain.{chainOf, memb}
 use Rattle.variants_and_fragments.specs.Decode.{tabulate, alleleStart, alleleAt, variantFrom, callFrom, fragmentFrom, decode}
 use Rattle.variants_and_fragments.specs.Inner.Accepted.{CaseIn}
@@ -25,7 +23,7 @@ use Rattle.variants_and_fragments.proofs.Chain.{chain-record}
 use Rattle.variants_and_fragments.proofs.Decoded.{tabulate-length, tabulate-at}
 use Rattle.genotype_probs.proofs.TableSums.{tabulate-cong}
 use Rattle.late_reads.specs.Values.{exchanged}
-use Rattle.late_reads.proofs.OneChanged.{usedAs, Keeps, Changed, variant-word, allele-count-same, call-kept, chain-same, sizes-after}
+use Rattle.late_reads.proofs.OneChanged.{usedAs, Changed, variant-word, allele-count-same, call-kept, chain-same, sizes-after}
 use Rattle.late_reads.proofs.AcceptedAfter.{length-same, start-same}
 
 -- ---- lists
@@ -66,7 +64,7 @@ module _ {w w' : List ℤ} {s : Sizes} {u f : ℕ} (k : CaseIn w s) (changed : C
         let count = allele-count-same k (changed .keeps) v l in
         let top = k .variants .each v l .k-high in
         let alleles : tabulate (alleleCountAt w' v) (alleleAt w' b v) ≡ tabulate (alleleCountAt w v) (alleleAt w b v) =
-          rw count (tabulate-cong (alleleCountAt w v) (alleleAt w' b v) (alleleAt w b v) (λ j m. allele-same j (omega arith))) in
+        rw count (tabulate-cong (alleleCountAt w v) (alleleAt w' b v) (alleleAt w b v) (λ j m. allele-same j (omega arith))) in
         rw (at pos0Field (omega arith), at depthField (omega arith), at (genotypeField + 0) (omega arith), at (genotypeField + 1) (omega arith), alleles)
 
   -- ---- another fragment
@@ -74,8 +72,8 @@ module _ {w w' : List ℤ} {s : Sizes} {u f : ℕ} (k : CaseIn w s) (changed : C
   unfolding fragmentFrom
   fragment-same g l other =
       let calls : map (callFrom w' (usedAs s u)) (chainOf w' (usedAs s u) g) ≡ map (callFrom w s) (chainOf w s g) =
-        rw (chain-same k (changed .keeps) u (changed .low) (changed .high) g l other)
-        (map-same (callFrom w' (usedAs s u)) (callFrom w s) (chainOf w s g) (λ r m. let i = chain-record w s g r m in call-kept k (changed .keeps) u (changed .low) (changed .high) r (i .0) (i .1))) in
+      rw (chain-same k (changed .keeps) u (changed .low) (changed .high) g l other)
+      (map-same (callFrom w' (usedAs s u)) (callFrom w s) (chainOf w s g) (λ r m. let i = chain-record w s g r m in call-kept k (changed .keeps) u (changed .low) (changed .high) r (i .0) (i .1))) in
       rw (changed .keeps .others g firstField l (omega arith) other, changed .keeps .others g strandField l (omega arith) other, calls)
 
   -- ---- the case

@@ -3,22 +3,21 @@
 -- Assumes nothing.
 use mathlib.Core.Path.{_≡_, refl, sym, ap, _∙_, subst}
 use mathlib.Core.Bool.{true, false}
-use mathlib.Core.List.{List, [], map}
-use Prim.Native.Nat.{ℕ, _+_, _≤_, _<_}
+use mathlib.Core.List.{List, []}
+use Prim.Native.Nat.{ℕ, _+_, _<_}
 use native.Mathlib.Omega.{arith}
 use borrow.Author.Tests.{le-leb}
-use lib.Dec.{leb, lit<}
+use lib.Dec.{lit<}
 use lib.IntN.{ℤ, pos, negsuc}
-use lib.ListN.{length, set, length-set}
+use lib.ListN.{length-set}
 use lib.Seq.{getD-set-same, getD-set-other}
-use lib.Signed.{leZ}
 use Rattle.variants_and_fragments.specs.declared.Sizes.{Sizes}
 use Rattle.variants_and_fragments.specs.Refusals.{done}
-use Rattle.variants_and_fragments.specs.Words.{word, within, none, natOf, natAt}
-use Rattle.variants_and_fragments.specs.Layout.{usedField, firstField, strandField, fragmentAt, fragmentWord, callAt, callOk}
-use Rattle.variants_and_fragments.specs.Chain.{firstCallAt, strandAt, chainOf, memb, reached, goodChain}
+use Rattle.variants_and_fragments.specs.Words.{word, within, none, natOf}
+use Rattle.variants_and_fragments.specs.Layout.{usedField, firstField, strandField, fragmentAt, fragmentWord, callAt}
+use Rattle.variants_and_fragments.specs.Chain.{firstCallAt, strandAt, chainOf, memb, goodChain}
 use Rattle.variants_and_fragments.specs.Check.{checkCaseAndHaplotypesOutcome}
-use Rattle.variants_and_fragments.specs.Decode.{callFrom, fragmentFrom, decode}
+use Rattle.variants_and_fragments.specs.Decode.{fragmentFrom, decode}
 use Rattle.variants_and_fragments.specs.Inner.Accepted.{CaseIn}
 use Rattle.variants_and_fragments.proofs.Bools.{true-false}
 use Rattle.variants_and_fragments.proofs.Ranges.{upto-nat}
@@ -26,7 +25,7 @@ use Rattle.variants_and_fragments.proofs.Chain.{none-chain}
 use Rattle.variants_and_fragments.proofs.Accepted.{Passed, passed, checked-in}
 use Rattle.late_reads.specs.Values.{exchanged}
 use Rattle.late_reads.specs.Arriving.{departedWords}
-use Rattle.late_reads.proofs.OneChanged.{usedAs, Keeps, Changed}
+use Rattle.late_reads.proofs.OneChanged.{Keeps, Changed}
 use Rattle.late_reads.proofs.AcceptedAfter.{accepted-changed}
 use Rattle.late_reads.proofs.DecodedAfter.{decoded-changed}
 

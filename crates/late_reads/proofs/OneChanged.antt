@@ -3,20 +3,20 @@
 -- that it shares none with another chain. An arrival and a departure both leave such words.
 -- Assumes nothing.
 use mathlib.Core.Path.{_≡_, refl, sym, ap, _∙_, subst}
-use mathlib.Core.Bool.{Bool, true, false, not, cond, _&&_, _||_}
+use mathlib.Core.Bool.{Bool, true, false, not, _&&_, _||_}
 use mathlib.Core.List.{List, [], _∷_, _++_}
 use mathlib.Core.Logic.{_⊎_, inl, inr}
 use Prim.Native.Nat.{ℕ, zero, suc, _+_, _-_, _≤_, _<_}
 use native.Mathlib.Omega.{arith}
 use native.Mathlib.Decide.{decLt, ℕ-discrete}
-use borrow.Author.Tests.{le-leb, leb-true, eq-eqb, ne-eqb}
-use lib.Dec.{leb, ltb, eqb}
+use borrow.Author.Tests.{leb-true, eq-eqb, ne-eqb}
+use lib.Dec.{leb, eqb}
 use lib.IntN.{ℤ, pos, negsuc}
 use lib.ListN.{length}
 use lib.Signed.{leZ}
 use Rattle.variants_and_fragments.specs.declared.Sizes.{Sizes}
 use Rattle.variants_and_fragments.specs.Words.{word, within, below, none, natOf, natAt}
-use Rattle.variants_and_fragments.specs.Layout.{sizesOf, variantsField, fragmentsField, callsField, cutoffField, callWords, fragmentWords, variantWords, usedField, firstField, strandField, nextField, variantField, alleleField, qualField, oneMinusQualField, alleleCountField, lowestQuality, fragmentAt, variantAt, variantWord, fragmentWord, callWord, alleleCountAt, callVariantAt, callWordsOk, callOk}
+use Rattle.variants_and_fragments.specs.Layout.{sizesOf, variantsField, fragmentsField, callsField, cutoffField, callWords, fragmentWords, variantWords, usedField, firstField, strandField, nextField, variantField, alleleField, qualField, oneMinusQualField, alleleCountField, fragmentAt, variantAt, variantWord, fragmentWord, callWord, alleleCountAt, callVariantAt, callWordsOk, callOk}
 use Rattle.variants_and_fragments.specs.Chain.{firstCallAt, nextCallAt, linkOk, chainFrom, chainOf, memb, reached, goodChain}
 use Rattle.variants_and_fragments.specs.Decode.{callFrom}
 use Rattle.variants_and_fragments.specs.Inner.Layout.{Sized}
@@ -27,7 +27,6 @@ use Rattle.variants_and_fragments.proofs.Ranges.{below-less}
 use Rattle.variants_and_fragments.proofs.Chain.{link-top, link-end, link-in, record-none, record-some, record-chain, chain-record}
 use Rattle.variants_and_fragments.proofs.Linked.{Linked, ends, goes, linked-fuel, chain-linked, chain-length}
 use Rattle.variants_and_fragments.proofs.Pigeon.{memb-append, memb-left}
-use Rattle.late_reads.proofs.WordsAfter.{sized-as}
 
 -- the sizes with u records used
 abbrev pub usedAs : Sizes → ℕ → Sizes

@@ -67,18 +67,20 @@ module _ (w : List ℤ) (s : Sizes) (r : ℕ) (call : CallWords) (next : ℕ) wh
     put-words =
         let o : callWord w4 s r oneMinusQualField ≡ call .«one_minus_qual» = getD-set-same w3 (callAt s r + oneMinusQualField) (call .«one_minus_qual») (pos 0) (simp length-set (omega arith)) in
         let under3 : (field : ℕ) → field < 3 → callWord w4 s r field ≡ callWord w3 s r field =
-          λ field l. getD-set-other w3 (callAt s r + oneMinusQualField) (callAt s r + field) (call .«one_minus_qual») (pos 0) (λ e. omega arith) in
+        λ field l. getD-set-other w3 (callAt s r + oneMinusQualField) (callAt s r + field) (call .«one_minus_qual») (pos 0) (λ e. omega arith) in
         let q : callWord w3 s r qualField ≡ call .qual = getD-set-same w2 (callAt s r + qualField) (call .qual) (pos 0) (simp length-set (omega arith)) in
         let under2 : (field : ℕ) → field < 2 → callWord w3 s r field ≡ callWord w2 s r field =
-          λ field l. getD-set-other w2 (callAt s r + qualField) (callAt s r + field) (call .qual) (pos 0) (λ e. omega arith) in
+        λ field l. getD-set-other w2 (callAt s r + qualField) (callAt s r + field) (call .qual) (pos 0) (λ e. omega arith) in
         let a : callWord w2 s r alleleField ≡ call .allele = getD-set-same w1 (callAt s r + alleleField) (call .allele) (pos 0) (simp length-set (omega arith)) in
         let v : callWord w2 s r variantField ≡ call .variant =
-          getD-set-other w1 (callAt s r + alleleField) (callAt s r + variantField) (call .allele) (pos 0) (λ e. omega arith)
-          ∙ getD-set-same w (callAt s r + variantField) (call .variant) (pos 0) (omega arith) in
-        rw (under-next variantField (omega arith) ∙ under3 variantField (omega arith) ∙ under2 variantField (omega arith) ∙ v,
-            under-next alleleField (omega arith) ∙ under3 alleleField (omega arith) ∙ under2 alleleField (omega arith) ∙ a,
-            under-next qualField (omega arith) ∙ under3 qualField (omega arith) ∙ q,
-            under-next oneMinusQualField (omega arith) ∙ o)
+        getD-set-other w1 (callAt s r + alleleField) (callAt s r + variantField) (call .allele) (pos 0) (λ e. omega arith)
+        ∙ getD-set-same w (callAt s r + variantField) (call .variant) (pos 0) (omega arith) in
+        rw (
+          under-next variantField (omega arith) ∙ under3 variantField (omega arith) ∙ under2 variantField (omega arith) ∙ v,
+          under-next alleleField (omega arith) ∙ under3 alleleField (omega arith) ∙ under2 alleleField (omega arith) ∙ a,
+          under-next qualField (omega arith) ∙ under3 qualField (omega arith) ∙ q,
+          under-next oneMinusQualField (omega arith) ∙ o,
+        )
 
 -- ---- the arriving calls
 pub laid-length : (w : List ℤ) (s : Sizes) (calls : List ℤ) (m i : ℕ) → length (callsLaid w s calls m i) ≡ length w
