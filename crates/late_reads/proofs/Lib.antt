@@ -8,3 +8,9 @@ pub mod ReadShares
 pub mod Places
 pub mod Counting
 pub mod ReadCalls
+pub mod WordsAfter
+pub mod OneChanged
+pub mod AcceptedAfter
+pub mod DecodedAfter
+pub mod Departures
+pub mod Arrivals
