@@ -1,3 +1,4 @@
 pub mod Places
 pub mod Counting
+pub mod CountRuns
 pub mod ReadCalls
