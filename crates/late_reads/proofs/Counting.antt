@@ -3,17 +3,16 @@
 -- and any d, so that the calls of an arrival and those of a departing chain share them.
 -- Assumes nothing.
 use mathlib.Core.Path.{_≡_, refl, sym, ap, _∙_}
-use mathlib.Core.Bool.{Bool, true, false, cond, _&&_}
-use mathlib.Core.Logic.{_⊎_}
+use mathlib.Core.Bool.{Bool, true, false}
 use mathlib.Core.List.{List, [], _∷_}
 use Prim.Native.Nat.{ℕ, zero, suc, _+_, _*_, _/_, _%_, _≤_, _<_}
 use native.Mathlib.Omega.{arith}
 use borrow.Author.Tests.{ne-eqb, eqb-true}
 use lib.Dec.{eqb}
-use lib.IntN.{ℤ, pos, negsuc, negℤ, _+ℤ_, _-ℤ_, +ℤ-idr, +ℤ-assoc, negℤ-+ℤ}
+use lib.IntN.{ℤ, pos, negsuc, negℤ, _+ℤ_, +ℤ-idr, +ℤ-assoc, negℤ-+ℤ}
 use lib.ListN.{length, getD}
 use lib.Seq.{ext-getD}
-use Rattle.steps.proofs.Signed.{by-test, cases, true-false}
+use Rattle.steps.proofs.Signed.{by-test, cases}
 use Rattle.variants_and_fragments.specs.Case.{Fragment, Call}
 use Rattle.variants_and_fragments.specs.First.{holdsBelow}
 use Rattle.variants_and_fragments.specs.Pileup.{only}
@@ -25,7 +24,7 @@ use Rattle.variants_and_fragments.proofs.First.{first-end, all-below, below-all
 use Rattle.variants_and_fragments.proofs.Only.{only-in, only-out, only-none}
 use Rattle.variants_and_fragments.proofs.Written.{written-length, written-at, written-past, written-same}
 use Rattle.late_reads.specs.Values.{maxCount, counted, readCount}
-use Rattle.late_reads.specs.Inner.Counting.{countCall, callFits, CountsIn, Countable, countedCall, countCalls, countsArrived, countsDeparted, countsFit}
+use Rattle.late_reads.specs.Inner.Counting.{countCall, callFits, countedCall, countCalls, countsArrived, countsDeparted, countsFit}
 use Rattle.late_reads.proofs.Places.{countsAt, count-length, count-at, fit-at, at-fit}
 
 -- variants below n that rise strictly, from b on, and alleles below 3
@@ -34,7 +33,7 @@ pub data Rising (n : ℕ) : ℕ → List Call → Type 0 where
   more : {b : ℕ} {call : Call} {calls : List Call} → b ≤ call .variant → call .variant < n → call .allele < 3 → Rising n (suc (call .variant)) calls → Rising n b (call ∷ calls)
 
 -- n times d
-times : ℤ → ℕ → ℤ
+pub times : ℤ → ℕ → ℤ
 times d zero = pos 0
 times d (suc n) = d +ℤ times d n
 
@@ -57,7 +56,7 @@ agree false false f g = refl
 holds-below : (p : ℕ → Bool) (n : ℕ) → ((j : ℕ) → j < n → p j ≡ true) → holdsBelow p n ≡ true
 holds-below p n h = below-all p n (omega (arith, first-end p n n h refl))
 
-abbrev ranged : ℤ → Bool
+abbrev pub ranged : ℤ → Bool
 ranged z = within (pos 0) (pos maxCount) z
 
 -- ---- calls of read x, counted with d
@@ -99,7 +98,7 @@ module _ (d cutoff : ℤ) (x : Fragment) (two : x .strand ≤ 1) where
   countsAfter n counts = written (λ e. getD counts e (pos 0) +ℤ times d (readCount cutoff x e)) (10 * n) counts
 
   module _ {n : ℕ} (r : Rising n 0 (x .calls)) (counts : List ℤ) (long : 10 * n ≤ length counts) where
-    all-counted : countCalls d cutoff x (x .calls) counts ≡ countsAfter n counts
+    pub all-counted : countCalls d cutoff x (x .calls) counts ≡ countsAfter n counts
     unfolding readCount times
     all-counted =
         let g : ℕ → ℤ = λ e. getD counts e (pos 0) +ℤ times d (readCount cutoff x e) in
@@ -135,12 +134,12 @@ module _ (d cutoff : ℤ) (x : Fragment) (two : x .strand ≤ 1) where
             rw (only-in (countsAt cutoff x e) call calls t, no-more call e r t, +ℤ-idr) at (h e (omega arith))),
         ranged-fit counts r k (λ e l. by-test (countsAt cutoff x e call)
             (λ t. rw (no-more call e r t, +ℤ-idr) (k e l))
-            (λ t. rw (only-out (countsAt cutoff x e) call calls t) at (h e l)))
+            (λ t. rw (only-out (countsAt cutoff x e) call calls t) at (h e l))),
       )
 
   -- the counts afterwards are in range just where each call fits the counts as lent
   module _ {n : ℕ} (r : Rising n 0 (x .calls)) (counts : List ℤ) (long : 10 * n ≤ length counts) (lent : countsFit n counts ≡ true) where
-    all-fit : allb (fits counts) (x .calls) ≡ countsFit n (countsAfter n counts)
+    pub all-fit : allb (fits counts) (x .calls) ≡ countsFit n (countsAfter n counts)
     unfolding readCount
     all-fit =
         let g : ℕ → ℤ = λ e. getD counts e (pos 0) +ℤ times d (readCount cutoff x e) in
@@ -153,125 +152,8 @@ module _ (d cutoff : ℤ) (x : Fragment) (two : x .strand ≤ 1) where
 
 -- d is 1 for an arrival and −1 for a departure
 module _ (cutoff : ℤ) (x : Fragment) (two : x .strand ≤ 1) (n : ℕ) (counts : List ℤ) where
-  arrived-is : countsAfter (pos 1) cutoff x two n counts ≡ countsArrived cutoff n x counts
+  pub arrived-is : countsAfter (pos 1) cutoff x two n counts ≡ countsArrived cutoff n x counts
   arrived-is = written-same _ _ (10 * n) counts (λ e l. rw (times-one (readCount cutoff x e)))
 
-  departed-is : countsAfter (negsuc 0) cutoff x two n counts ≡ countsDeparted cutoff n x counts
+  pub departed-is : countsAfter (negsuc 0) cutoff x two n counts ≡ countsDeparted cutoff n x counts
   departed-is = written-same _ _ (10 * n) counts (λ e l. rw (times-less (readCount cutoff x e)))
-
--- ---- a loop over the calls
--- calls are left: their variants rise from `low` on, and the counts from there on are in range
-pub record CallsLeft (n : ℕ) (calls : List Call) (counts : List ℤ) : Type 0 where
-  pub low : ℕ
-  pub rises : Rising n low calls
-  pub long : 10 * n ≤ length counts
-  pub in-range : (e : ℕ) → 10 * low ≤ e → e < 10 * n → ranged (getD counts e (pos 0)) ≡ true
-
-left-start : {n : ℕ} {calls : List Call} (counts : List ℤ) → Rising n 0 calls → 10 * n ≤ length counts → countsFit n counts ≡ true → CallsLeft n calls counts
-left-start {n} counts r long lent = record { low = 0; rises = r; long = long; in-range = λ e l m. all-below _ (10 * n) lent e m }
-
-record FirstIn (n b : ℕ) (call : Call) (calls : List Call) : Type 0 where
-  above : b ≤ call .variant
-  variant-in : call .variant < n
-  allele-in : call .allele < 3
-  rest : Rising n (suc (call .variant)) calls
-
-first-in : {n b : ℕ} {call : Call} {calls : List Call} → Rising n b (call ∷ calls) → FirstIn n b call calls
-first-in (more lo hi three r) = record { above = lo; variant-in = hi; allele-in = three; rest = r }
-
-abbrev One : ℤ → Type 0
-One d = (d ≡ pos 1) ⊎ (d ≡ negsuc 0)
-
-module _ {n : ℕ} {call : Call} {calls : List Call} {counts : List ℤ} (i : CallsLeft n (call ∷ calls) counts) (cutoff : ℤ) (x : Fragment) (two : x .strand ≤ 1) where
-  -- the next one may be counted
-  left-countable : {d : ℤ} → One d → n ≤ 1024 → Countable counts (x .strand) d (countedCall cutoff x call)
-  left-countable one top =
-      let f = first-in (i .rises) in
-      let a = f .above in
-      let b = f .variant-in in
-      let l = i .long in
-      record {
-        variant-in = omega arith;
-        allele-in = f .allele-in;
-        strand-in = two;
-        each-in = λ j h. record { there = omega arith; ranged = i .in-range (10 * call .variant + j) (omega arith) (omega arith); one = one };
-      }
-
-  -- and those after it are then left
-  left-next : CallsLeft n calls counts
-  left-next =
-      let f = first-in (i .rises) in
-      let a = f .above in
-      record { low = suc (call .variant); rises = f .rest; long = i .long; in-range = λ e l m. i .in-range e (omega arith) m }
-
-  left-counted : (d : ℤ) → CallsLeft n calls (countCall d (x .strand) (countedCall cutoff x call) counts)
-  left-counted d =
-      let f = first-in (i .rises) in
-      let a = f .above in
-      let b = f .variant-in in
-      let k = i .long in
-      let s = count-length d (x .strand) (countedCall cutoff x call) counts in
-      record {
-        low = suc (call .variant);
-        rises = f .rest;
-        long = omega arith;
-        in-range = λ e l m. rw (count-at cutoff x call (f .allele-in) two d counts (omega arith) e, ne-eqb (call .variant) (e / 10) (λ q. omega arith), +ℤ-idr) (i .in-range e (omega arith) m);
-      }
-
--- ---- whether they fit: the rest decides
-pub record Fitting (d cutoff : ℤ) (x : Fragment) (n : ℕ) (counts : List ℤ) (calls : List Call) (answer : Bool) : Type 0 where
-  pub left : CallsLeft n calls counts
-  pub decides : allb (λ call. callFits d (x .strand) (countedCall cutoff x call) counts) calls ≡ answer
-
--- ---- counting them: with the rest they are all counted
-pub record Adding (d cutoff : ℤ) (x : Fragment) (n : ℕ) (calls : List Call) (counts after : List ℤ) : Type 0 where
-  pub left : CallsLeft n calls counts
-  pub same : countCalls d cutoff x calls counts ≡ after
-
--- at the start all are left
-module _ (cutoff : ℤ) (x : Fragment) (two : x .strand ≤ 1) {n : ℕ} (r : Rising n 0 (x .calls)) {left : List Call} (e : x .calls ≡ left) (counts : List ℤ) (lent : countsFit n counts ≡ true) (long : 10 * n ≤ length counts) where
-  abbrev all-left : CallsLeft n left counts
-  all-left = rw e at (left-start counts r long lent)
-
-  pub arriving-fit-start : Fitting (pos 1) cutoff x n counts left (countsFit n (countsArrived cutoff n x counts))
-  arriving-fit-start = record { left = all-left; decides = rw (← e) (all-fit (pos 1) cutoff x two r counts long lent ∙ ap (countsFit n) (arrived-is cutoff x two n counts)) }
-
-  pub departing-fit-start : Fitting (negsuc 0) cutoff x n counts left (countsFit n (countsDeparted cutoff n x counts))
-  departing-fit-start = record { left = all-left; decides = rw (← e) (all-fit (negsuc 0) cutoff x two r counts long lent ∙ ap (countsFit n) (departed-is cutoff x two n counts)) }
-
-  pub arriving-start : Adding (pos 1) cutoff x n left counts (countsArrived cutoff n x counts)
-  arriving-start = record { left = all-left; same = rw (← e) (all-counted (pos 1) cutoff x two r counts long ∙ arrived-is cutoff x two n counts) }
-
-  pub departing-start : Adding (negsuc 0) cutoff x n left counts (countsDeparted cutoff n x counts)
-  departing-start = record { left = all-left; same = rw (← e) (all-counted (negsuc 0) cutoff x two r counts long ∙ departed-is cutoff x two n counts) }
-
-module _ {d cutoff : ℤ} {x : Fragment} {n : ℕ} {counts : List ℤ} {left : List Call} {answer : Bool} (i : Fitting d cutoff x n counts left answer) where
-  pub fit-end : left ≡ [] → true ≡ answer
-  unfolding allb
-  fit-end e = rw e at (i .decides)
-
-  -- a call more
-  module _ {call : Call} {calls : List Call} (e : left ≡ call ∷ calls) (two : x .strand ≤ 1) where
-    pub fit-countable : One d → n ≤ 1024 → Countable counts (x .strand) d (countedCall cutoff x call)
-    fit-countable = left-countable (rw e at (i .left)) cutoff x two
-
-    pub fit-stop : callFits d (x .strand) (countedCall cutoff x call) counts ≡ false → false ≡ answer
-    unfolding allb
-    fit-stop h = rw h at (rw e at (i .decides))
-
-    pub fit-on : callFits d (x .strand) (countedCall cutoff x call) counts ≡ true → Fitting d cutoff x n counts calls answer
-    unfolding allb
-    fit-on h = record { left = left-next (rw e at (i .left)) cutoff x two; decides = rw h at (rw e at (i .decides)) }
-
-module _ {d cutoff : ℤ} {x : Fragment} {n : ℕ} {left : List Call} {counts after : List ℤ} (i : Adding d cutoff x n left counts after) where
-  pub add-end : left ≡ [] → counts ≡ after
-  unfolding countCalls
-  add-end e = rw e at (i .same)
-
-  module _ {call : Call} {calls : List Call} (e : left ≡ call ∷ calls) (two : x .strand ≤ 1) where
-    pub add-countable : One d → n ≤ 1024 → Countable counts (x .strand) d (countedCall cutoff x call)
-    add-countable = left-countable (rw e at (i .left)) cutoff x two
-
-    pub add-on : (put : List ℤ) → put ≡ countCall d (x .strand) (countedCall cutoff x call) counts → Adding d cutoff x n calls put after
-    unfolding countCalls
-    add-on put q = rw q (record { left = left-counted (rw e at (i .left)) cutoff x two d; same = rw e at (i .same) })

@@ -7,6 +7,7 @@ pub mod Ranged
 pub mod ReadShares
 pub mod Places
 pub mod Counting
+pub mod CountRuns
 pub mod ReadCalls
 pub mod WordsAfter
 pub mod OneChanged

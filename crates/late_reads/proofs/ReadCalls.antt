@@ -3,21 +3,20 @@
 -- ends the chain as 0 does.
 -- Assumes nothing.
 use mathlib.Core.Path.{_≡_, sym}
-use mathlib.Core.Bool.{true, false, _&&_, _||_}
+use mathlib.Core.Bool.{true}
 use mathlib.Core.List.{List, [], _∷_, map}
 use Prim.Native.Nat.{ℕ, zero, suc, _+_, _-_, _≤_, _<_}
 use native.Mathlib.Nat.{sub-zero}
 use native.Mathlib.Omega.{arith}
 use borrow.Author.Tests.{ne-eqb, ltb-true}
-use lib.Dec.{eqb, ltb}
-use lib.IntN.{ℤ, pos}
+use lib.IntN.{ℤ}
 use Rattle.variants_and_fragments.specs.declared.Sizes.{Sizes}
 use Rattle.variants_and_fragments.specs.Case.{Call}
-use Rattle.variants_and_fragments.specs.Chain.{nextCallAt, linkOk, chainFrom, chainOf}
+use Rattle.variants_and_fragments.specs.Chain.{nextCallAt, chainFrom, chainOf}
 use Rattle.variants_and_fragments.specs.Decode.{tabulateFrom, callFrom, fragmentFrom}
-use Rattle.variants_and_fragments.specs.Layout.{firstCallAt, alleleCountAt, callVariantAt, variantField, alleleField, callOk}
+use Rattle.variants_and_fragments.specs.Layout.{alleleCountAt, callVariantAt, variantField, alleleField, callOk}
 use Rattle.variants_and_fragments.specs.Words.{below, natOf}
-use Rattle.variants_and_fragments.specs.Inner.Accepted.{allb, CallIn, FragmentIn, CaseIn}
+use Rattle.variants_and_fragments.specs.Inner.Accepted.{allb, CaseIn}
 use Rattle.variants_and_fragments.specs.Inner.Alleles.{VariantsIn}
 use Rattle.variants_and_fragments.specs.Inner.Chain.{recordOf, firstRecordAt}
 use Rattle.variants_and_fragments.proofs.Bools.{both}

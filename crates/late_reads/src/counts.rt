@@ -92,7 +92,13 @@ fn arriving_call(words: &[i32], s: Sizes, arrival: Arrival, calls: &[i32], i: us
 }
 
 // The counts with the arriving calls would be in range. At the loop's head those of the calls before i would be.
-pub fn arriving_fits(words: &[i32], s: Sizes, arrival: Arrival, calls: &[i32], counts: &[i32]) -> bool
+pub fn arriving_fits(
+    words: &[i32],
+    s: Sizes,
+    arrival: Arrival,
+    calls: &[i32],
+    counts: &[i32],
+) -> bool
     requires { ⌜ CaseIn (now words) s ⌝ }
     requires { ⌜ Arriving (now words) s (arrival .fragment) (arrival .strand) (now calls) ⌝ }
     requires { ⌜ countsFit (s .n) (now counts) ≡ true ⌝ }
@@ -103,7 +109,12 @@ pub fn arriving_fits(words: &[i32], s: Sizes, arrival: Arrival, calls: &[i32], c
     let strand = nat_of(arrival.strand);
     let mut i = 0;
     while i < m {
-        if !call_fits(counts, arriving_call(words, s, arrival, calls, i), strand, 1) {
+        if !call_fits(
+            counts,
+            arriving_call(words, s, arrival, calls, i),
+            strand,
+            1,
+        ) {
             return false;
         }
         i += 1;
@@ -123,7 +134,12 @@ pub fn count_arriving(words: &[i32], s: Sizes, arrival: Arrival, calls: &[i32], 
     let strand = nat_of(arrival.strand);
     let mut i = 0;
     while i < m {
-        count_call(counts, arriving_call(words, s, arrival, calls, i), strand, 1);
+        count_call(
+            counts,
+            arriving_call(words, s, arrival, calls, i),
+            strand,
+            1,
+        );
         i += 1;
     }
 }
@@ -137,7 +153,11 @@ fn chain_call(words: &[i32], s: Sizes, f: usize, r: usize) -> CountedCall
     CountedCall {
         variant: call_variant(words, s, r),
         allele: called_allele(words, s, r),
-        usable: usable(cutoff_of(words, s), strand_of(words, s, f), qual_of(words, s, r)),
+        usable: usable(
+            cutoff_of(words, s),
+            strand_of(words, s, f),
+            qual_of(words, s, r),
+        ),
     }
 }
 

@@ -3,7 +3,6 @@
 use mathlib.Core.Path.{_∙_, ap}
 use borrow.Author.Needs.{needs, sfits-of}
 use denote.Ref.{now}
-use lib.IntN.{ℤ}
 use mir.Facts.{toZ-ofZ}
 use mir.Syntax.{w32}
 use mir.Val.{SFits}

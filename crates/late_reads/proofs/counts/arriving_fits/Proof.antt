@@ -2,7 +2,7 @@
 -- Assumes nothing.
 use mathlib.Core.Path.{_≡_, refl, sym, _∙_, ap}
 use mathlib.Core.Logic.{inl}
-use Prim.Native.Nat.{_+_, _-_, _≤_}
+use Prim.Native.Nat.{_-_, _≤_}
 use native.Mathlib.Omega.{arith}
 use borrow.Author.Needs.{needs}
 use borrow.Author.Tests.{not-true, not-false}
@@ -18,7 +18,7 @@ use Rattle.late_reads.specs.Arriving.{wholeCalls, arrivingCall, arriving
 use Rattle.late_reads.specs.Inner.Counting.{callFits, countedCall, countsArrived, countsFit}
 use Rattle.late_reads.proofs.counts.arriving_fits.Statement.{statement}
 use Rattle.late_reads.proofs.counts.arriving_fits.Tie as tie
-use Rattle.late_reads.proofs.Counting.{Fitting, arriving-fit-start, fit-end, fit-countable, fit-stop, fit-on}
+use Rattle.late_reads.proofs.CountRuns.{Fitting, arriving-fit-start, fit-end, fit-countable, fit-stop, fit-on}
 use Rattle.late_reads.proofs.Places.{same-fits}
 use Rattle.late_reads.proofs.ReadCalls.{arrivingLeft, arriving-left, arriving-more, arriving-out, arriving-rises, arriving-strand}
 

@@ -2,7 +2,7 @@
 -- Assumes nothing.
 use mathlib.Core.Path.{_≡_, refl, _∙_, ap}
 use mathlib.Core.Logic.{inl}
-use Prim.Native.Nat.{_+_, _-_, _≤_}
+use Prim.Native.Nat.{_-_, _≤_}
 use native.Mathlib.Omega.{arith}
 use borrow.Author.Needs.{needs}
 use denote.Ref.{now}
@@ -19,7 +19,7 @@ use Rattle.late_reads.specs.Arriving.{wholeCalls, arrivingRead}
 use Rattle.late_reads.specs.Inner.Counting.{countsArrived}
 use Rattle.late_reads.proofs.counts.count_arriving.Statement.{statement}
 use Rattle.late_reads.proofs.counts.count_arriving.Tie as tie
-use Rattle.late_reads.proofs.Counting.{Adding, arriving-start, add-end, add-countable, add-on}
+use Rattle.late_reads.proofs.CountRuns.{Adding, arriving-start, add-end, add-countable, add-on}
 use Rattle.late_reads.proofs.Places.{same-count}
 use Rattle.late_reads.proofs.ReadCalls.{arrivingLeft, arriving-left, arriving-more, arriving-out, arriving-rises, arriving-strand}
 
@@ -66,8 +66,7 @@ loop-again c =
     let t = c .before in
     let turn = t .before .before .before in
     let l = turn .before in
-    let s = st l in
-    (
+    let s = st l in (
       omega arith,
       add-on (l .loop .inv .1) (arriving-more (now (s .args .calls)) (l .loop .i) (turn .loop-test .taken)) (strand-in s) _
           (t .count-call .ensures ∙ same-count (pos 1) (strand-is (l .before)) (t .before .arriving-call .ensures) _),

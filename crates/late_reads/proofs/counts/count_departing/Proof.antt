@@ -19,7 +19,7 @@ use Rattle.variants_and_fragments.proofs.Written.{written-length}
 use Rattle.late_reads.specs.Inner.Counting.{countsDeparted}
 use Rattle.late_reads.proofs.counts.count_departing.Statement.{statement}
 use Rattle.late_reads.proofs.counts.count_departing.Tie as tie
-use Rattle.late_reads.proofs.Counting.{Adding, departing-start, add-end, add-countable, add-on}
+use Rattle.late_reads.proofs.CountRuns.{Adding, departing-start, add-end, add-countable, add-on}
 use Rattle.late_reads.proofs.Places.{same-count}
 use Rattle.late_reads.proofs.ReadCalls.{chainLeft, chain-left, chain-more, chain-over, chain-out, chain-rises, chain-strand}
 
@@ -54,8 +54,7 @@ loop-holds : tie.Need-loop-holds Inv-loop μ-loop
 loop-holds c =
     let s = c .before .before in
     let p = s .pre in
-    let w = now (s .args .words) in
-    (
+    let w = now (s .args .words) in (
       omega arith,
       rw (c .first-call .ensures) (record-top (s .args .s) _),
       rw (c .first-call .ensures) (departing-start _ (read s) (strand-in s) (chain-rises (p .0) (s .args .f) (p .1 .0)) (chain-left w (s .args .s) (s .args .f)) (now (s .args .counts)) (p .1 .1 .0) (p .1 .1 .1)),
@@ -94,12 +93,11 @@ loop-again : tie.Need-loop-again Inv-loop μ-loop
 loop-again c =
     let t = c .before .before in
     let e = t .before .before .before in
-    let l = e .before .before in
-    (
+    let l = e .before .before in (
       omega arith,
       rw (c .next-record .ensures) (record-top (st l .args .s) _),
       rw (c .next-record .ensures)
-      (add-on (l .loop .inv .2) (left-is e) (strand-in (st l)) _ (t .count-call .ensures ∙ same-count (negsuc 0) (strand-is (l .before .before)) (t .before .chain-call .ensures) _)),
+          (add-on (l .loop .inv .2) (left-is e) (strand-in (st l)) _ (t .count-call .ensures ∙ same-count (negsuc 0) (strand-is (l .before .before)) (t .before .chain-call .ensures) _)),
     )
 
 returns-2 : tie.Need-returns-2 Inv-loop μ-loop

@@ -18,7 +18,7 @@ use Rattle.variants_and_fragments.proofs.Chain.{record-top}
 use Rattle.late_reads.specs.Inner.Counting.{callFits, countedCall, countsDeparted, countsFit}
 use Rattle.late_reads.proofs.counts.departing_fits.Statement.{statement}
 use Rattle.late_reads.proofs.counts.departing_fits.Tie as tie
-use Rattle.late_reads.proofs.Counting.{Fitting, departing-fit-start, fit-end, fit-countable, fit-stop, fit-on}
+use Rattle.late_reads.proofs.CountRuns.{Fitting, departing-fit-start, fit-end, fit-countable, fit-stop, fit-on}
 use Rattle.late_reads.proofs.Places.{same-fits}
 use Rattle.late_reads.proofs.ReadCalls.{chainLeft, chain-left, chain-more, chain-over, chain-out, chain-rises, chain-strand}
 
@@ -57,8 +57,7 @@ loop-holds : tie.Need-loop-holds Inv-loop μ-loop
 loop-holds c =
     let s = c .before .before in
     let p = s .pre in
-    let w = now (s .args .words) in
-    (
+    let w = now (s .args .words) in (
       omega arith,
       rw (c .first-call .ensures) (record-top (s .args .s) _),
       rw (c .first-call .ensures) (departing-fit-start _ (read s) (strand-in s) (chain-rises (p .0) (s .args .f) (p .1 .0)) (chain-left w (s .args .s) (s .args .f)) (now (s .args .counts)) (p .1 .1 .0) (p .1 .1 .1)),
@@ -99,8 +98,7 @@ loop-again : tie.Need-loop-again Inv-loop μ-loop
 loop-again c =
     let t = c .before .before in
     let e = t .before .before in
-    let l = e .before .before in
-    (
+    let l = e .before .before in (
       omega arith,
       rw (c .next-record .ensures) (record-top (st l .args .s) _),
       rw (c .next-record .ensures) (fit-on (l .loop .inv .2) (left-is e) (strand-in (st l)) (sym (tested t) ∙ not-false _ (c .before .if2 .left))),

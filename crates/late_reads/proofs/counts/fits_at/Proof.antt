@@ -2,7 +2,7 @@
 -- Assumes nothing.
 use mathlib.Core.Path.{_∙_, ap}
 use borrow.Author.Needs.{needs}
-use lib.IntN.{ℤ, pos}
+use lib.IntN.{pos}
 use Rattle.variants_and_fragments.specs.Words.{within}
 use Rattle.late_reads.specs.Values.{maxCount}
 use Rattle.late_reads.proofs.counts.fits_at.Statement.{statement}
