@@ -1,25 +1,23 @@
 -- What `arrive` and `depart` promise at each return: where a test stops, its refusal and the slices as they were; past the tests, what is promised in
 -- terms of the words, which is what the definition says of the decoded case.
 -- Assumes nothing.
-use mathlib.Core.Path.{_≡_, sym, ap, _∙_}
+use mathlib.Core.Path.{_≡_, refl, sym, ap, _∙_}
 use mathlib.Core.Bool.{true, false}
 use mathlib.Core.List.{List}
 use Prim.Native.Nat.{ℕ, _≤_, _<_}
 use lib.IntN.{ℤ}
-use lib.ListN.{List·getD-eq-default}
+use borrow.Author.Tests.{lt-ltb, le-ltb}
 use Rattle.variants_and_fragments.specs.declared.Sizes.{Sizes}
 use Rattle.variants_and_fragments.specs.declared.Refusal.{Refusal}
 use Rattle.variants_and_fragments.specs.declared.Checked.the-variants.{Refused as NotAccepted}
-use Rattle.variants_and_fragments.specs.Case.{Fragment, fragmentOf, noFragment}
 use Rattle.variants_and_fragments.specs.Chain.{presentAt}
 use Rattle.variants_and_fragments.specs.Check as check
 use Rattle.variants_and_fragments.specs.Refusals.{Outcome, done, refusal, refused, afterwards, Promise}
-use Rattle.variants_and_fragments.proofs.Decoded.{fragments-are}
 use Rattle.variants_and_fragments.proofs.Outcomes.{promise-refused, then-on, unless-on, unless-at}
 use Rattle.late_reads.specs.declared.Updated.the-variants.{Refused}
 use Rattle.late_reads.specs.Values.{Values}
 use Rattle.late_reads.specs.Arriving.{arrivedWords, departedWords}
-use Rattle.late_reads.specs.LateReads.{LateInput, LateAnswer, LateSlices, lateSlices, caseOf, outcomeOf, keptOutcome, arrivingOutcome, arrivedValues, arriveOutcome, arriveWritten, Arrives, departedValues, departOutcome, departWritten, Departs}
+use Rattle.late_reads.specs.LateReads.{LateInput, LateAnswer, LateSlices, lateSlices, outcomeOf, keptOutcome, arrivingOutcome, arrivedValues, arriveOutcome, arriveWritten, Arrives, departedValues, departOutcome, departWritten, Departs}
 use Rattle.late_reads.specs.Inner.Ready.{Arriving, arrivingTests, arrivedAt, departedAt, rangedOutcome, ArrivesKept, DepartsKept}
 use Rattle.variants_and_fragments.proofs.Outcomes.{check-stops}
 use Rattle.late_reads.proofs.ArrivalTests.{tests-past, tests-are, present-is}
@@ -78,18 +76,15 @@ module _ (input : LateInput) (f : ℕ) where
   depart-stops x e = check-stops (keptOutcome input) _ x e
 
   module _ (s : Sizes) (ok : keptOutcome input ≡ done s) where
-    -- no fragment of this number is present
-    depart-absent : fragmentOf (caseOf input) f .present ≡ false → refused 13 f ≡ departOutcome input f
-    unfolding departOutcome
-    depart-absent h = unless-at _ 13 f _ h ∙ then-on (keptOutcome input) _ s ok
-
     -- its number is too large
     pub depart-past : s .f ≤ f → refused 13 f ≡ departOutcome input f
-    depart-past l = depart-absent (ap (λ (x : Fragment). x .present) (List·getD-eq-default (caseOf input .fragments) noFragment (rw (fragments-are (kept-case input s ok) (input .bases)) l)))
+    unfolding departOutcome
+    depart-past l = unless-at _ 13 f _ (rw (le-ltb f (s .f) l) refl) ∙ then-on (keptOutcome input) _ s ok
 
     -- it is absent
     pub depart-not-there : f < s .f → presentAt (input .words) s f ≡ false → refused 13 f ≡ departOutcome input f
-    depart-not-there l h = depart-absent (present-is (kept-case input s ok) (input .bases) f l ∙ h)
+    unfolding departOutcome
+    depart-not-there l h = unless-at _ 13 f _ (rw (lt-ltb f (s .f) l) (present-is (kept-case input s ok) (input .bases) f l ∙ h)) ∙ then-on (keptOutcome input) _ s ok
 
     -- it is present
     module _ (below : f < s .f) (present : presentAt (input .words) s f ≡ true) where
@@ -98,7 +93,7 @@ module _ (input : LateInput) (f : ℕ) where
 
       depart-answered : rangedOutcome s (departedAt (input .words) s (input .kept) f) ≡ departOutcome input f
       unfolding departOutcome
-      depart-answered = ap (rangedOutcome s) depart-values ∙ unless-on _ 13 f _ (present-is (kept-case input s ok) (input .bases) f below ∙ present) ∙ then-on (keptOutcome input) _ s ok
+      depart-answered = ap (rangedOutcome s) depart-values ∙ unless-on _ 13 f _ (rw (lt-ltb f (s .f) below) (present-is (kept-case input s ok) (input .bases) f below ∙ present)) ∙ then-on (keptOutcome input) _ s ok
 
       depart-written : (x : Values) → x ≡ departedValues input f → lateSlices (departedWords (input .words) s f) (x .likelihoods) (x .counts) ≡ departWritten input f
       unfolding departWritten

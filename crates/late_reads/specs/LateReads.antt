@@ -110,11 +110,11 @@ module _ (input : LateInput) (f : ℕ) where
   unfoldable pub departedValues : Values
   departedValues = departed (caseOf input .cutoff) (length (caseOf input .variants)) f (fragmentOf (caseOf input) f) (input .kept)
 
-  -- 13, the fragment is present; 10 at place 0, what would be written
+  -- 13, the number is below F and its fragment present; 10 at place 0, what would be written
   unfoldable pub departOutcome : Outcome LateAnswer
   departOutcome =
       andThen (keptOutcome input) (λ s.
-      unless (fragmentOf (caseOf input) f .present) 13 f
+      unless (ltb f (s .f) && fragmentOf (caseOf input) f .present) 13 f
       (unless (inRange (s .n) (s .f) departedValues) 10 0
       (done (unsettled departedValues))))
 
