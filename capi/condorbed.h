@@ -31,18 +31,23 @@ extern "C" {
 /* The number of an answer; the comment says what its place is. */
 enum {
     CONDORBED_DONE = 0,          /* 0 */
-    CONDORBED_HEAD = 1,          /* word 0..3; 4: wrong length; 0: fewer than four words */
-    CONDORBED_VARIANT = 2,       /* variant */
+    CONDORBED_HEAD = 1,          /* word 0..4; 5: wrong length; 0: fewer than five words */
+    CONDORBED_VARIANT = 2,       /* variant; also of a haplotype lent as input that is not below k */
     CONDORBED_ALLELES = 3,       /* variant; N: wrong length */
-    CONDORBED_CALL = 4,          /* call, from 1 */
-    CONDORBED_CHAIN = 5,         /* fragment; F: a call that no fragment reaches */
+    CONDORBED_CALL = 4,          /* call record, from 1; of an arriving call its index, from 0 */
+    CONDORBED_CHAIN = 5,         /* fragment; of an arriving call that does not rise its index, from 0; the number of
+                                    whole arriving calls: a broken length, or no such strand */
     CONDORBED_RATES = 6,         /* rate 0..5; 6: their sum */
     CONDORBED_PHASE = 7,         /* variant; N: wrong length */
     CONDORBED_ORDERS = 8,        /* order; 0: wrong length */
     CONDORBED_LIMIT = 9,         /* the limit */
-    CONDORBED_SHORT = 10,        /* elements needed in a slice that is too short */
+    CONDORBED_SHORT = 10,        /* elements needed in a slice that is too short; 0: a lent total, likelihood or count
+                                    outside its range, before or after */
     CONDORBED_DENSITY_QUAL = 11, /* 0 */
-    CONDORBED_NORMALIZE = 12     /* variant; proved never to happen */
+    CONDORBED_NORMALIZE = 12,    /* variant; proved never to happen */
+    CONDORBED_FRAGMENT = 13,     /* the fragment's number: it is none, or an arriving one is present, or a departing one
+                                    absent */
+    CONDORBED_NO_ROOM = 14       /* the number of arriving calls: there are fewer unused records */
 };
 
 typedef struct {
@@ -50,13 +55,14 @@ typedef struct {
     size_t place;
 } condorbed_answer;
 
-/* If done: N, F, C and the cutoff; else zeros. */
+/* If done: N, F, C, the number of call records used and the cutoff; else zeros. */
 typedef struct {
     size_t number;
     size_t place;
     size_t n;
     size_t f;
     size_t c;
+    size_t used;
     int32_t cutoff;
 } condorbed_check_answer;
 
@@ -79,6 +85,15 @@ typedef struct {
     int64_t end;
     int64_t source;
 } condorbed_round_answer;
+
+/* If done: settled is false, and the new phased total; else zeros. Whether a sample is settled is the answer of the latest
+   arrival, departure or run; the caller keeps it. */
+typedef struct {
+    size_t number;
+    size_t place;
+    bool settled;
+    int64_t total;
+} condorbed_late_answer;
 
 /* In steps, each -262144..-1; the first four, added up as probabilities, stay below certainty. */
 typedef struct {
@@ -165,6 +180,29 @@ condorbed_round_answer condorbed_call_genotypes_with_haplotypes(const int32_t *w
                                                                 int64_t *posteriors, size_t posteriors_len,
                                                                 double *quals, size_t quals_len,
                                                                 double *gqs, size_t gqs_len);
+
+/* A fragment arrives: one whose number is absent, with its strand and its calls (4 words each: variant, allele, qual,
+   one_minus_qual), which take the next unused call records. phase is exactly 1 byte per variant, haplotypes 2 alleles per
+   variant as they stand. Updates the words, 2 likelihoods per fragment, 10 counts per variant (those of
+   condorbed_call_genotypes_no_haplotypes, its third to twelfth value) and the phased total, as the fragment changes them. */
+condorbed_late_answer condorbed_arrive(int32_t *words, size_t words_len,
+                                       const uint8_t *bases, size_t bases_len,
+                                       const uint8_t *phase, size_t phase_len,
+                                       const uint8_t *haplotypes, size_t haplotypes_len,
+                                       int64_t *likelihoods, size_t likelihoods_len,
+                                       int32_t *counts, size_t counts_len,
+                                       int64_t total, uint32_t fragment, int32_t strand,
+                                       const int32_t *calls, size_t calls_len);
+
+/* A fragment departs: it is absent afterwards, with likelihoods of 0. Its calls leave the counts, and the share of its
+   lent likelihoods leaves the total. */
+condorbed_late_answer condorbed_depart(int32_t *words, size_t words_len,
+                                       const uint8_t *bases, size_t bases_len,
+                                       const uint8_t *phase, size_t phase_len,
+                                       const uint8_t *haplotypes, size_t haplotypes_len,
+                                       int64_t *likelihoods, size_t likelihoods_len,
+                                       int32_t *counts, size_t counts_len,
+                                       int64_t total, uint32_t fragment);
 
 #ifdef __cplusplus
 }

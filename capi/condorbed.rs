@@ -6,7 +6,7 @@
 
 use std::fmt;
 
-/// Why an operation turned its input down: a number from 1 to 12, and the place of the fault.
+/// Why an operation turned its input down: a number from 1 to 14, and the place of the fault.
 #[derive(Clone, Copy, Debug, PartialEq, Eq)]
 pub struct Refused {
     pub number: usize,
@@ -21,12 +21,13 @@ impl fmt::Display for Refused {
 
 impl std::error::Error for Refused {}
 
-/// N, F, C and the cutoff.
+/// N, F, C, the number of call records used and the cutoff.
 #[derive(Clone, Copy, Debug, PartialEq, Eq)]
 pub struct Sizes {
     pub n: usize,
     pub f: usize,
     pub c: usize,
+    pub used: usize,
     pub cutoff: i32,
 }
 
@@ -46,6 +47,23 @@ pub struct Round {
     pub start: i64,
     pub end: i64,
     pub source: i64,
+}
+
+/// The phased total after an arrival or a departure; never settled. Whether a sample is settled is the answer of the latest
+/// arrival, departure or run; the caller keeps it.
+#[derive(Clone, Copy, Debug, PartialEq, Eq)]
+pub struct Updated {
+    pub settled: bool,
+    pub total: i64,
+}
+
+/// What arrivals and departures update: 2 likelihoods a fragment, 10 counts a variant (those of calling without haplotypes,
+/// from its third value on) and the phased total, which an accepted call replaces.
+#[derive(Debug, PartialEq, Eq)]
+pub struct Values<'a> {
+    pub likelihoods: &'a mut [i64],
+    pub counts: &'a mut [i32],
+    pub total: i64,
 }
 
 /// Each in -262144..=-1, in steps; the first four added up as probabilities are below certainty.
@@ -72,7 +90,7 @@ pub struct DensityParameters {
 /// The check of a case, which every other operation makes as well: numbers 1 to 5.
 pub fn check_case(words: &[i32], bases: &[u8]) -> Result<Sizes, Refused> {
     let a = unsafe { c::condorbed_check_case(words.as_ptr(), words.len(), bases.as_ptr(), bases.len()) };
-    result(a.number, a.place, Sizes { n: a.n, f: a.f, c: a.c, cutoff: a.cutoff })
+    result(a.number, a.place, Sizes { n: a.n, f: a.f, c: a.c, used: a.used, cutoff: a.cutoff })
 }
 
 /// Writes N filters.
@@ -196,6 +214,54 @@ pub fn call_genotypes_with_haplotypes(
     result(a.number, a.place, round)
 }
 
+/// A fragment arrives: one whose number is absent, with its strand and its calls (4 words each), which take the next unused
+/// call records. `phase` has a byte a variant, `haplotypes` 2 alleles a variant as they stand.
+pub fn arrive(
+    words: &mut [i32],
+    bases: &[u8],
+    phase: &[u8],
+    haplotypes: &[u8],
+    values: &mut Values,
+    fragment: u32,
+    strand: i32,
+    calls: &[i32],
+) -> Result<Updated, Refused> {
+    let a = unsafe {
+        c::condorbed_arrive(
+            words.as_mut_ptr(), words.len(), bases.as_ptr(), bases.len(), phase.as_ptr(), phase.len(),
+            haplotypes.as_ptr(), haplotypes.len(), values.likelihoods.as_mut_ptr(), values.likelihoods.len(),
+            values.counts.as_mut_ptr(), values.counts.len(), values.total, fragment, strand, calls.as_ptr(), calls.len(),
+        )
+    };
+    updated(a, values)
+}
+
+/// A fragment departs: it is absent afterwards, with likelihoods of 0.
+pub fn depart(
+    words: &mut [i32],
+    bases: &[u8],
+    phase: &[u8],
+    haplotypes: &[u8],
+    values: &mut Values,
+    fragment: u32,
+) -> Result<Updated, Refused> {
+    let a = unsafe {
+        c::condorbed_depart(
+            words.as_mut_ptr(), words.len(), bases.as_ptr(), bases.len(), phase.as_ptr(), phase.len(),
+            haplotypes.as_ptr(), haplotypes.len(), values.likelihoods.as_mut_ptr(), values.likelihoods.len(),
+            values.counts.as_mut_ptr(), values.counts.len(), values.total, fragment,
+        )
+    };
+    updated(a, values)
+}
+
+// The answer; a new total replaces the old one.
+fn updated(a: c::LateAnswer, values: &mut Values) -> Result<Updated, Refused> {
+    let answer = result(a.number, a.place, Updated { settled: a.settled, total: a.total })?;
+    values.total = answer.total;
+    Ok(answer)
+}
+
 // Number 0 is done.
 fn result<T>(number: usize, place: usize, values: T) -> Result<T, Refused> {
     if number == 0 {
@@ -221,6 +287,7 @@ mod c {
         pub n: usize,
         pub f: usize,
         pub c: usize,
+        pub used: usize,
         pub cutoff: i32,
     }
 
@@ -241,6 +308,14 @@ mod c {
         pub start: i64,
         pub end: i64,
         pub source: i64,
+    }
+
+    #[repr(C)]
+    pub struct LateAnswer {
+        pub number: usize,
+        pub place: usize,
+        pub settled: bool,
+        pub total: i64,
     }
 
     #[link(name = "exports", kind = "static")]
@@ -291,5 +366,18 @@ mod c {
             posteriors: *mut i64, posteriors_len: usize,
             quals: *mut f64, quals_len: usize, gqs: *mut f64, gqs_len: usize,
         ) -> RoundAnswer;
+
+        pub fn condorbed_arrive(
+            words: *mut i32, words_len: usize, bases: *const u8, bases_len: usize, phase: *const u8, phase_len: usize,
+            haplotypes: *const u8, haplotypes_len: usize, likelihoods: *mut i64, likelihoods_len: usize,
+            counts: *mut i32, counts_len: usize, total: i64, fragment: u32, strand: i32,
+            calls: *const i32, calls_len: usize,
+        ) -> LateAnswer;
+
+        pub fn condorbed_depart(
+            words: *mut i32, words_len: usize, bases: *const u8, bases_len: usize, phase: *const u8, phase_len: usize,
+            haplotypes: *const u8, haplotypes_len: usize, likelihoods: *mut i64, likelihoods_len: usize,
+            counts: *mut i32, counts_len: usize, total: i64, fragment: u32,
+        ) -> LateAnswer;
     }
 }

@@ -3,10 +3,11 @@
 Everything is drawn from the generator that is handed in, so that a seed fixes it.
 """
 import itertools
+import random
 
-from layout import LOWEST, MAX_ALLELES, MAX_CALLS, MAX_FRAGMENTS, MAX_LENGTH, MAX_VARIANTS, needs
-from model import Call, Case, Fragment, Variant, check_rates, encode, Refused
-from protocol import Request
+from layout import CALL, HEAD, LOWEST, MAX_ALLELES, MAX_CALLS, MAX_FRAGMENTS, MAX_LENGTH, MAX_VARIANTS, needs
+from model import Call, Case, Fragment, Variant, check, check_rates, encode, fresh_values, start_haplotypes, Refused
+from protocol import LATE, Request, Update
 
 RATES = [-70000] * 4 + [-4096, -8192]
 MATCH, MISS = -1700, -5796
@@ -29,18 +30,33 @@ def random_case(rng, most=6):
             Call(v, rng.randrange(len(variants[v].alleles)), -rng.choice([0, 1, 1999, 2000, 2001, -LOWEST]),
                  -rng.choice([0, 5, -LOWEST]))
             for v in chosen]))
-    return Case(variants, fragments, -rng.choice([0, 2000, -LOWEST]))
+    return with_absent(rng, Case(variants, fragments, -rng.choice([0, 2000, -LOWEST])))
 
 
-def random_numbering(case, rng):
-    """A record number for each call, rising along each chain."""
-    total = sum(len(f.calls) for f in case.fragments)
-    places = sorted(range(1, total + 1), key=lambda _: rng.random())
-    by_fragment, start = [], 0
+def with_absent(rng, case):
+    """The case with up to two absent fragments among the others."""
+    fragments = list(case.fragments)
+    for _ in range(min(rng.choice([0, 0, 1, 2]), MAX_FRAGMENTS - len(fragments))):
+        fragments.insert(rng.randint(0, len(fragments)), Fragment(rng.randrange(2), [], present=False))
+    return Case(case.variants, fragments, case.cutoff)
+
+
+def random_words(rng):
+    """The words of a record in no chain: nothing looks at them."""
+    return [rng.choice([0, 1, 2, -1, 5, LOWEST - 1, 2147483647, -2147483648]) for _ in range(CALL.words)]
+
+
+def random_records(rng, case, tails=(0, 1, 3, 8)):
+    """How the records of a case lie, for `encode`: chains among one another, records that departed fragments left between
+    them, and an unused tail."""
+    calls = sum(len(f.calls) for f in case.fragments)
+    used = min(calls + rng.choice([0, 0, 1, 5]), MAX_CALLS)
+    places, numbering = iter(rng.sample(range(1, used + 1), calls)), []
     for f in case.fragments:
-        by_fragment += sorted(places[start:start + len(f.calls)])
-        start += len(f.calls)
-    return by_fragment
+        numbering += sorted(itertools.islice(places, len(f.calls)))
+    c, taken = min(used + rng.choice(tails), MAX_CALLS), set(numbering)
+    idle = {r: random_words(rng) for r in range(1, c + 1) if r not in taken}
+    return {"numbering": numbering, "idle": idle, "used": used}
 
 
 # ---- Variants, reads and rates.
@@ -138,16 +154,74 @@ def random_rates(rng):
             continue
 
 
+# ---- Arrivals and departures.
+
+
+class Standing:
+    """A case with the values that arrivals and departures update, as they stand."""
+
+    def __init__(self, words, bases, rates, phase, haplotypes, likelihoods, counts, total):
+        self.words, self.bases, self.rates, self.phase, self.haplotypes = words, bases, rates, phase, haplotypes
+        self.likelihoods, self.counts, self.total = likelihoods, counts, total
+
+    def request(self, word, *more):
+        parts = [self.phase, self.haplotypes, self.likelihoods, self.counts, self.total] + list(more)
+        return Update(word, self.words, self.bases, parts, self.rates)
+
+    def arrive(self, f, fragment):
+        calls = [x for c in fragment.calls for x in (c.variant, c.allele, c.qual, c.one_minus_qual)]
+        return self.request("arrive", f, fragment.strand, calls)
+
+    def depart(self, f):
+        return self.request("depart", f)
+
+    def after(self, request):
+        """What stands after an accepted arrival or departure."""
+        (_, total), (words, likelihoods, counts) = request.result()
+        return Standing(words, self.bases, self.rates, self.phase, self.haplotypes, likelihoods, counts, total)
+
+
+def fresh(words, bases, rates, phase, haplotypes, extra=0):
+    """The values taken afresh; each slice has so many elements past its need, of values that are out of range there."""
+    likelihoods, counts, total = fresh_values(check(words, bases), rates, phase, haplotypes)
+    return Standing(words, bases, rates, phase, haplotypes + [255] * extra, likelihoods + [1] * extra,
+                    counts + [-1] * extra, total)
+
+
+def updates(rng, standing, count):
+    """Up to so many accepted arrivals and departures, each on what the last one left."""
+    out = []
+    for _ in range(count):
+        request = random_update(rng, standing)
+        if request is not None:
+            out.append(request)
+            standing = standing.after(request)
+    return out
+
+
+def random_update(rng, standing):
+    """An accepted arrival or departure; None where there are no fragments."""
+    case, head = check(standing.words, standing.bases), HEAD.read(standing.words, 0)
+    absent = [f for f, x in enumerate(case.fragments) if not x.present]
+    present = [f for f, x in enumerate(case.fragments) if x.present]
+    if absent and (not present or rng.random() < 0.6):
+        places = random_places(rng, head.n)[:head.c - head.used]
+        quality = random_qualities(rng, case.cutoff)
+        return standing.arrive(rng.choice(absent), random_read(rng, case.variants, quality, places))
+    return standing.depart(rng.choice(present)) if present else None
+
+
 # ---- Trials: a case and the parts of every operation.
 
 
 class Trial:
-    """A case with its records' numbers, and the parts of every operation on it; orders are a list of orders, `extra` is
-    the room that every output slice has past its need."""
+    """A case with its records' places, and the parts of every operation on it; orders are a list of orders, `extra` is
+    the room that every output slice has past its need, `late` the seed of its arrivals and departures."""
 
     def __init__(self, rng, case, phase=None):
         n = len(case.variants)
-        self.case, self.numbering = case, random_numbering(case, rng) if rng.random() < 0.5 else None
+        self.case = with_absent(rng, case)
+        self.records = random_records(rng, self.case) if rng.random() < 0.5 else {}
         self.rates = random_rates(rng)
         self.phase = phase or [rng.choice([48, 49, 48, 49, 45, 0]) for _ in range(n)]
         self.sets = [rng.randrange(-1, n) for _ in range(n)]
@@ -158,13 +232,14 @@ class Trial:
                         rng.choice([0, 1, 2, 3, 4294967295]), rng.choice([0, 3, 8, 2147483646, 4294967295])]
         self.single_reads, self.seed = rng.randrange(2), rng.choice([0, rng.getrandbits(64)])
         self.extra = rng.choice([0, 0, 0, 1, 16])
+        self.late = rng.getrandbits(64)
 
     def parts(self, word):
         orders = [v for order in self.orders for v in order]
         return {
             "check": [], "priors": [self.rates], "nohap": [self.rates], "phase": [self.phase, self.sets],
             "run": [self.rates, self.phase, self.sets, orders, self.limit], "flist": [self.single_reads],
-            "filter": [self.quals] + self.density, "orders": [self.seed],
+            "filter": [self.quals] + self.density, "orders": [self.seed], "afresh": [self.rates, self.phase],
         }[word]
 
     def rooms(self, word):
@@ -177,13 +252,27 @@ class Trial:
         return [need + self.extra for need in needs(word, n, f)]
 
     def requests(self, words):
-        """The requests of these words."""
-        data = encode(self.case, self.numbering)
-        return [Request(word, *data, self.parts(word), self.rooms(word)) for word in words]
+        """The requests of these words; an arrival or a departure is left out where there is none among the first."""
+        data, out = encode(self.case, **self.records), []
+        for word in words:
+            if word in LATE:
+                out += [request for request in self.updates(4) if request.word == word][:1]
+            else:
+                out.append(Request(word, *data, self.parts(word), self.rooms(word)))
+        return out
+
+    def updates(self, count):
+        """Up to so many arrivals and departures, each on what the last one left."""
+        rng = random.Random(self.late)
+        words, bases = encode(self.case, **random_records(rng, self.case, (0, 2, 8, 30)))
+        haplotypes = start_haplotypes(self.case, self.phase)
+        if rng.random() < 0.3:
+            haplotypes = [rng.randrange(len(v.alleles)) for v in self.case.variants for _ in range(2)]
+        return updates(rng, fresh(words, bases, self.rates, self.phase, haplotypes, self.extra), count)
 
     def reference(self):
         """The run by document 01's own orders: as many of them as sweeps are allowed."""
-        words, bases = encode(self.case, self.numbering)
+        words, bases = encode(self.case, **self.records)
         count = min(self.limit, 12)
         orders = Request("orders", words, bases, [0], [len(self.case.variants) * count]).result()[1][0]
         return Request("run", words, bases, [self.rates, self.phase, self.sets, orders, count], self.rooms("run"))
@@ -261,3 +350,15 @@ def largest(rng):
     trial = Trial(rng, Case(variants, reads, -2000))
     trial.limit, trial.orders, trial.extra = 1000000, [rng.sample(range(n), n) for _ in range(3)], 16
     return trial
+
+
+def largest_updates(rng, count):
+    """Arrivals and departures on a case with N, F and C at their limits, some fragments absent and some records unused."""
+    trial = largest(rng)
+    gone = set(rng.sample(range(MAX_FRAGMENTS), 64))
+    fragments = [Fragment(x.strand, [], False) if f in gone else x for f, x in enumerate(trial.case.fragments)]
+    case, unused = Case(trial.case.variants, fragments, trial.case.cutoff), 64 * (MAX_CALLS // MAX_FRAGMENTS)
+    records = {"idle": {r: random_words(rng) for r in range(MAX_CALLS - unused + 1, MAX_CALLS + 1)},
+               "used": MAX_CALLS - unused}
+    haplotypes = start_haplotypes(case, trial.phase)
+    return updates(rng, fresh(*encode(case, **records), trial.rates, trial.phase, haplotypes), count)

@@ -1,7 +1,9 @@
-"""Damage to accepted requests, so that every refusal of document 01 turns up, alone and with others."""
+"""Damage to accepted requests, so that every refusal of the documents turns up, alone and with others."""
 import copy
 
-from layout import CALL, FRAGMENT, HEAD, LOWEST, MAX_ALLELES, MAX_LENGTH, MAX_VARIANTS, VARIANT, Layout
+from layout import (ARRIVING, CALL, FRAGMENT, HEAD, LOWEST, LOWEST_LENT, MAX_ALLELES, MAX_COUNT, MAX_LENGTH,
+                    MAX_VARIANTS, VARIANT, Layout)
+from protocol import LatePart, Request
 
 BAD_WORDS = [0, 1, -1, 2, MAX_ALLELES, MAX_ALLELES + 1, MAX_LENGTH + 1, MAX_VARIANTS + 1, LOWEST - 1, 2147483647,
              -2147483648]
@@ -41,14 +43,21 @@ def call(rng, request):
 
 
 def link(rng, request):
-    """A first or a next that names some other record: shared, unreached, falling or not rising."""
+    """A first or a next that names some other record: shared, in the tail, back, not rising; or none: -2, -1."""
     at = layout(request)
     if at.c <= 0 or at.f <= 0:
         return
     places = [at.call(rng.randint(1, at.c)) + CALL.next, at.fragment(rng.randrange(at.f)) + FRAGMENT.first]
     place = rng.choice(places)
     if 0 <= place < len(request.words):
-        request.words[place] = rng.randint(0, at.c + 1)
+        request.words[place] = rng.choice([-2, -1] + [rng.randint(0, at.c + 1) for _ in range(8)])
+
+
+def used(rng, request):
+    """Another number of used records: the tail grows or goes, chains run into it."""
+    at = layout(request)
+    if len(request.words) >= HEAD.words:
+        request.words[HEAD.used] = rng.choice([-1, at.c + 1, at.c, 0, rng.randint(0, max(at.c, 0))])
 
 
 def length(rng, values, added):
@@ -128,17 +137,72 @@ def density_qual(rng, request):
     request.parts[1] = rng.choice([float("nan"), float("inf"), float("-inf")])
 
 
-CASE = [head, variant, variant, fragment, call, call, link, link, words, bases]
+# ---- Parts of an arrival or a departure.
+
+
+def late_phase(rng, request):
+    length(rng, request.parts[LatePart.PHASE], 48)
+
+
+def late_slice(rng, request):
+    """Haplotypes, likelihoods or counts that are too short, by one or more."""
+    values = request.parts[rng.choice([LatePart.HAPLOTYPES, LatePart.LIKELIHOODS, LatePart.COUNTS])]
+    del values[max(0, len(values) - rng.choice([1, 2, 17])):]
+
+
+def late_value(rng, request):
+    """A haplotype, likelihood, count or total out of its range or at its end."""
+    place, values = rng.choice([
+        (LatePart.HAPLOTYPES, [0, 1, 2, MAX_ALLELES, 255]), (LatePart.LIKELIHOODS, [1, 0, LOWEST_LENT, LOWEST_LENT - 1]),
+        (LatePart.COUNTS, [-1, 0, MAX_COUNT, MAX_COUNT + 1]), (LatePart.TOTAL, [1, 0, LOWEST_LENT, LOWEST_LENT - 1])])
+    if place == LatePart.TOTAL:
+        request.parts[LatePart.TOTAL] = rng.choice(values)
+    elif request.parts[place]:
+        request.parts[place][rng.randrange(len(request.parts[place]))] = rng.choice(values)
+
+
+def late_number(rng, request):
+    """Another fragment: present, absent or none."""
+    request.parts[LatePart.NUMBER] = rng.choice([rng.randint(0, max(layout(request).f, 0)), 4294967295])
+
+
+def late_strand(rng, request):
+    request.parts[LatePart.STRAND] = rng.choice([-1, 2, 2147483647, -2147483648])
+
+
+def arriving_call(rng, request):
+    """A word of an arriving call, or their length."""
+    calls = request.parts[LatePart.CALLS]
+    if calls and rng.random() < 0.7:
+        at = rng.randrange(len(calls))
+        calls[at] = rng.choice([calls[at] + 1, calls[at] - 1, 0, -1, 1, MAX_ALLELES, LOWEST, LOWEST - 1])
+    else:
+        length(rng, calls, 0)
+
+
+def more_calls(rng, request):
+    """More arriving calls than records are left, or one that does not rise."""
+    calls = request.parts[LatePart.CALLS]
+    calls += calls[-ARRIVING.words:] if len(calls) >= ARRIVING.words else [0] * ARRIVING.words
+    if rng.random() < 0.7:
+        calls[-ARRIVING.words] += 1
+
+
+LATE = [late_phase, late_slice, late_value, late_value, late_number, late_number]
+
+CASE = [head, variant, variant, fragment, call, call, link, link, used, words, bases]
 DAMAGES = {
     "check": CASE, "priors": [rates, room], "nohap": [rates, room, room], "phase": [given_phase, given_phase, room],
     "run": [rates, given_phase, orders, limit, room], "flist": [room, line_room, line_room],
     "filter": [qualities, density_qual, room], "orders": [order_room],
+    "arrive": LATE + [late_strand, arriving_call, arriving_call, more_calls, more_calls], "depart": LATE,
 }
 
 
 def damaged(rng, request):
     """A copy of the request with one to three faults; now and then it is still accepted."""
-    out = copy.deepcopy(request)
+    parts = copy.deepcopy([request.words, request.bases, request.parts, request.rooms])
+    out = Request(request.word, *parts)
     for _ in range(rng.choice([1, 1, 1, 2, 3])):
         own = rng.random() < 0.6
         rng.choice(DAMAGES[out.word] if own else CASE)(rng, out)

@@ -2,10 +2,10 @@
 import itertools
 import re
 
-from layout import (CALL, CALLED, FRAGMENT, HEAD, LOWEST, MAX_ALLELES, MAX_CALLS, MAX_FRAGMENTS, MAX_LENGTH,
-                    MAX_VARIANTS, PAIR, TABLE, VARIANT, Layout, needs)
+from layout import (ARRIVING, CALL, CALLED, COUNTED, FRAGMENT, HEAD, LOWEST, LOWEST_LENT, MAX_ALLELES, MAX_CALLS,
+                    MAX_COUNT, MAX_FRAGMENTS, MAX_LENGTH, MAX_VARIANTS, PAIR, TABLE, VARIANT, Layout, needs)
 from model import check, number, pairs, phred
-from protocol import PARTS, Request, plain_text
+from protocol import LATE, OUTPUTS, PARTS, LatePart, Request, plain_text
 
 REQUESTS = {
     "check": "see whether a case is within the rules",
@@ -16,13 +16,16 @@ REQUESTS = {
     "flist": "the fragment lines that HapCUT2 reads",
     "filter": "mark the variants that are too dense or too deep",
     "orders": "orders of the variants for `run`, from a seed",
+    "arrive": "a read that comes late: the case and its values with the read",
+    "depart": "a read that leaves: the case and its values without it",
 }
 
-# The output slices of each request.
+# The output slices of each request; of an arrival or departure those that can be too short.
 SLICES = {
     "check": (), "priors": ("priors",), "nohap": ("variants", "quals", "gqs"),
     "phase": ("haplotypes", "phased", "names"), "run": ("haplotypes", "likelihoods", "posteriors", "quals", "gqs"),
     "flist": ("buffer",), "filter": ("filters",), "orders": ("orders",),
+    "arrive": ("haplotypes", "likelihoods", "counts"), "depart": ("haplotypes", "likelihoods", "counts"),
 }
 
 RATES = ("hom_snv", "het_snv", "hom_indel", "het_indel", "ts", "tv")
@@ -47,6 +50,7 @@ def help_parts():
         ("phase, sets, quals, gqs, phased, names, filters", most["quals"] + SPARE), ("orders", MOST_ORDERS),
         ("priors, posteriors", most["posteriors"] + SPARE), ("variants", CALLED.words * MAX_VARIANTS + SPARE),
         ("haplotypes", most["haplotypes"] + SPARE), ("likelihoods", most["likelihoods"] + SPARE),
+        ("counts", COUNTED.words * MAX_VARIANTS + SPARE), ("calls", ARRIVING.words * MAX_VARIANTS + SPARE),
         ("buffer", MOST_LINES + SPARE)]
     return (
         "\n".join("  %-8s %s" % pair for pair in REQUESTS.items()),
@@ -77,7 +81,7 @@ class Reader:
     def part(self, form):
         """A part of one of the forms in PARTS."""
         return {
-            "plain": lambda: self.integers(len(RATES)), "slice": self.slice, "number": self.integer,
+            "plain": lambda: self.integers(len(RATES)), "slice": self.slice, "lent": self.slice, "number": self.integer,
             "quality": lambda: number(self.integer()), "qualities": lambda: [number(x) for x in self.slice()],
         }[form]()
 
@@ -87,7 +91,7 @@ class Reader:
         self.at, word = token.start(), token[0]
         words, bases = self.slice(), self.slice()
         parts = [self.part(form) for form in PARTS[word]]
-        return Request(word, words, bases, parts, self.integers(len(SLICES[word])))
+        return Request(word, words, bases, parts, self.integers(len(OUTPUTS[word])))
 
 
 # ---- Tables.
@@ -163,15 +167,23 @@ def told_priors(_request, case, _fields, slices):
     return ["Priors are in steps, one for each pair."] + variant_table(case, ["priors"], rows)
 
 
+COUNTS = ["calls", "forward", "reverse", "ambiguous"]
+ABOUT_COUNTS = "Calls are usable calls, a number for each allele; forward and reverse are those of them on each strand."
+
+
+def count_cells(variant, x):
+    """Under COUNTS, the cells of a variant's counts."""
+    k = len(variant.alleles)
+    return [",".join(map(str, of[:k])) for of in (x.counts, x.forward, x.reverse)] + [x.ambiguous]
+
+
 def told_nohap(_request, case, _fields, slices):
     rows = []
     for v, variant in enumerate(case.variants):
-        x, k = CALLED.read(slices[0], CALLED.words * v), len(variant.alleles)
-        counts = [",".join(map(str, of[:k])) for of in (x.counts, x.forward, x.reverse)]
-        rows.append(pair_cells(variant, x.genotype) + counts + [x.ambiguous, x.depth])
-    head = ["genotype", "letters", "calls", "forward", "reverse", "ambiguous", "depth", "qual", "gq"]
-    return (["Calls are usable calls, a number for each allele; forward and reverse are those of them on each strand."]
-            + variant_table(case, head, rows, decimals(slices[1]), decimals(slices[2])))
+        x = CALLED.read(slices[0], CALLED.words * v)
+        rows.append(pair_cells(variant, x.genotype) + count_cells(variant, x) + [x.depth])
+    head = ["genotype", "letters"] + COUNTS + ["depth", "qual", "gq"]
+    return [ABOUT_COUNTS] + variant_table(case, head, rows, decimals(slices[1]), decimals(slices[2]))
 
 
 def told_phase(_request, case, _fields, slices):
@@ -217,8 +229,22 @@ def told_orders(_request, case, _fields, slices):
     return ["order %d: %s" % (m, plain_text(slices[0][n * m:n * (m + 1)])) for m in range(len(slices[0]) // max(n, 1))]
 
 
+def told_late(request, case, fields, slices):
+    """After an arrival or a departure; the case is the one before."""
+    (words, likelihoods, counts), f = slices, request.parts[LatePart.NUMBER]
+    at, two = Layout.of(words), likelihoods[PAIR * f:PAIR * (f + 1)]
+    own = check(words, request.bases).fragments[f]
+    happened = "left; its number is free" if not own.present else "arrived with %s, first record %d" % (
+        count(len(own.calls), "call"), words[at.fragment(f) + FRAGMENT.first])
+    rows = [count_cells(x, COUNTED.read(counts, COUNTED.words * v)) for v, x in enumerate(case.variants)]
+    return [
+        "Fragment %d %s. Call records used: %d of %d." % (f, happened, words[HEAD.used], at.c),
+        "Its likelihoods are %d and %d. Phased total: %s steps. The sample is now %s." % (*two, *fields[::-1]),
+        ABOUT_COUNTS] + variant_table(case, COUNTS, rows)
+
+
 TOLD = {"check": told_check, "priors": told_priors, "nohap": told_nohap, "phase": told_phase, "run": told_run,
-        "flist": told_flist, "filter": told_filter, "orders": told_orders}
+        "flist": told_flist, "filter": told_filter, "orders": told_orders, "arrive": told_late, "depart": told_late}
 
 
 # ---- Refusals. Each function takes the request and the place: what is wrong there, and what is expected.
@@ -226,6 +252,7 @@ TOLD = {"check": told_check, "priors": told_priors, "nohap": told_nohap, "phase"
 OF_HEAD = {
     HEAD.n: ("N, the number of variants,", 0, MAX_VARIANTS), HEAD.f: ("F, the number of fragments,", 0, MAX_FRAGMENTS),
     HEAD.c: ("C, the number of call records,", 0, MAX_CALLS), HEAD.cutoff: ("the cutoff", LOWEST, 0),
+    HEAD.used: ("the number of call records used", 0, None),
 }
 
 
@@ -235,6 +262,7 @@ def wrong_head(request, place):
         return "`words` has %s; the head alone has %d" % (count(size, "element"), HEAD.words)
     if place < HEAD.words:
         name, low, high = OF_HEAD[place]
+        high = request.words[HEAD.c] if high is None else high
         return "word %d of the head is %d: %s must be in %d..%d" % (place, request.words[place], name, low, high)
     at = Layout.of(request.words)
     return "`words` has %s: with N = %d, F = %d and C = %d it must have %d" % (
@@ -248,6 +276,9 @@ def record(request, kind, start):
 
 def wrong_variant(request, place):
     own = record(request, VARIANT, Layout.of(request.words).variant(place))
+    if request.word in LATE:
+        lent = request.parts[LatePart.HAPLOTYPES][PAIR * place:PAIR * (place + 1)]
+        own += ". Its haplotypes, which must be below k, are " + plain_text(lent)
     return ("variant %d is out of range: pos0 must be 0 or more and not below that of the variant before, dp 0 or "
             "more, both genotype alleles in 0..k-1, k in 1..%d, the lengths of its k alleles in 1..%d and those past "
             "them 0. %s" % (place, MAX_ALLELES, MAX_LENGTH, own))
@@ -261,20 +292,36 @@ def wrong_bases(request, place):
     return "`bases` has %s: it must have %d, the sum of all allele lengths" % (count(len(request.bases), "byte"), total)
 
 
+def arriving(request):
+    """Whether the fault is one of the arriving calls: the case itself is within the rules."""
+    return request.word == "arrive" and Request("check", request.words, request.bases).refusal() is None
+
+
 def wrong_call(request, place):
-    at = Layout.of(request.words)
-    return ("call record %d is out of range: its variant must be below %d, its allele below that variant's k, both "
-            "qualities in %d..0. %s" % (place, at.n, LOWEST, record(request, CALL, at.call(place))))
+    at, late = Layout.of(request.words), arriving(request)
+    calls = request.parts[LatePart.CALLS] if late else request.words
+    kind, start = (ARRIVING, ARRIVING.words * place) if late else (CALL, at.call(place))
+    return ("%s %d is out of range: its variant must be below %d, its allele below that variant's k, both qualities in "
+            "%d..0. Its words are %s" % ("arriving call" if late else "call record", place, at.n, LOWEST,
+                                         plain_text(calls[start:start + kind.words])))
 
 
 def wrong_fragment(request, place):
-    at = Layout.of(request.words)
-    if place == at.f:
-        return "a call record is in no fragment's chain: every call record must be in exactly one"
+    if arriving(request):
+        return wrong_arrival(request, place)
+    at, used = Layout.of(request.words), request.words[HEAD.used]
     own = record(request, FRAGMENT, at.fragment(place))
-    return ("fragment %d is wrong: its first record must be in 0..%d and its strand 0 or 1; along its chain each next "
-            "must be 0 or above its record and at most %d, and the variants must rise; no record may be an earlier "
-            "fragment's. %s" % (place, at.c, at.c, own))
+    return ("fragment %d is wrong: its first record must be -1, if it is absent, or in 0..%d, the records used, and its "
+            "strand 0 or 1; along its chain each next must be 0 or above its record and at most %d, and the variants must "
+            "rise; no record may be an earlier fragment's. %s" % (place, used, used, own))
+
+
+def wrong_arrival(request, place):
+    words, strand = len(request.parts[LatePart.CALLS]), request.parts[LatePart.STRAND]
+    if place < words // ARRIVING.words:
+        return "the variant of arriving call %d does not rise over that of the call before" % place
+    return "the arrival has %s and the strand %d: it must have %d words for each call, and the strand 0 or 1" % (
+        count(words, "word"), strand, ARRIVING.words)
 
 
 def wrong_rates(request, place):
@@ -286,6 +333,8 @@ def wrong_rates(request, place):
 
 def wrong_phase(request, place):
     (phase, sets), n = given(request), Layout.of(request.words).n
+    if request.word in LATE:
+        return "`phase` has %s: it must have %d, one for each variant" % (count(len(phase), "element"), n)
     if place == n:
         return "`phase` has %s and `sets` %d: each must have %d, one for each variant" % (
             count(len(phase), "element"), len(sets), n)
@@ -307,7 +356,11 @@ def wrong_limit(_request, place):
 
 def wrong_room(request, place):
     at = Layout.of(request.words)
-    rooms = dict(zip(SLICES[request.word], request.rooms))
+    late = map(len, request.parts[LatePart.HAPLOTYPES:LatePart.TOTAL]) if request.word in LATE else []
+    rooms = dict(zip(SLICES[request.word], [*late, *request.rooms]))
+    if request.word in LATE and place == 0:
+        return ("a value is out of range, as it was lent or as it would be written: the total and the likelihoods must "
+                "be in %d..0, the counts in 0..%d" % (LOWEST_LENT, MAX_COUNT))
     need = {"buffer": place} if request.word == "flist" else dict(
         zip(SLICES[request.word], needs(request.word, at.n, at.f)))
     if request.word == "filter":
@@ -324,8 +377,22 @@ def wrong_sum(_request, place):
     return "the posteriors of variant %d do not add up; this is proved never to happen" % place
 
 
+def wrong_number(request, place):
+    f = Layout.of(request.words).f
+    if place >= f:
+        return "there is no fragment %d: the fragments are those below %d" % (place, f)
+    return "fragment %d is %s" % (place, "present: an absent one can arrive" if request.word == "arrive" else
+                                  "absent: a present one can depart")
+
+
+def no_records(request, place):
+    left = request.words[HEAD.c] - request.words[HEAD.used]
+    return "the arrival has %s and there are %d unused records" % (count(place, "call"), left)
+
+
 WRONG = {1: wrong_head, 2: wrong_variant, 3: wrong_bases, 4: wrong_call, 5: wrong_fragment, 6: wrong_rates,
-         7: wrong_phase, 8: wrong_orders, 9: wrong_limit, 10: wrong_room, 11: wrong_density, 12: wrong_sum}
+         7: wrong_phase, 8: wrong_orders, 9: wrong_limit, 10: wrong_room, 11: wrong_density, 12: wrong_sum,
+         13: wrong_number, 14: no_records}
 
 
 def refused(request, refusal, place):
@@ -368,9 +435,10 @@ def heading(text):
 
 def about(case):
     calls = sum(len(fragment.calls) for fragment in case.fragments)
-    return "%s, %s, %s; cutoff %d steps (Phred %.1f)" % (
-        count(len(case.variants), "variant"), count(len(case.fragments), "fragment"), count(calls, "call"), case.cutoff,
-        phred(case.cutoff))
+    absent = sum(not fragment.present for fragment in case.fragments)
+    return "%s, %s%s, %s; cutoff %d steps (Phred %.1f)" % (
+        count(len(case.variants), "variant"), count(len(case.fragments), "fragment"),
+        " (%d absent)" % absent if absent else "", count(calls, "call"), case.cutoff, phred(case.cutoff))
 
 
 def told(request, first, slices):
@@ -394,6 +462,6 @@ def explanation(text, answers):
             yield from unreadable(reader, first)
             return
         request = reader.request()
-        slices = [[int(x) for x in next(lines).split()] for _ in request.rooms]
+        slices = [[int(x) for x in next(lines).split()] for _ in request.befores()]
         yield from heading("Request %d, line %d: %s (%s)" % (i, reader.line, request.word, REQUESTS[request.word]))
         yield from told(request, first, slices)

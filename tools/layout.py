@@ -1,4 +1,5 @@
-"""The layout of a case (document 01, section 2) and of the slices that the operations write, with its limits.
+"""The layout of a case (document 01, section 2, as amended by request 1) and of the slices that the operations write,
+with its limits.
 
 No other script has the offset of a field, the stride of a record or a limit: a change of the layout is a change here.
 Run by itself it prints the same as a C header, for bench/limit.c: python3 tools/layout.py > FILE
@@ -9,6 +10,10 @@ MAX_VARIANTS, MAX_FRAGMENTS, MAX_CALLS = 1024, 4096, 16384
 MAX_ALLELES, MAX_LENGTH = 3, 64
 # Of the cutoff, of both qualities and of the rates.
 LOWEST = -262144
+# The first call of an absent fragment.
+ABSENT = -1
+# Of a total or a likelihood that is lent, and of a count.
+LOWEST_LENT, MAX_COUNT = -2**40, 4096
 
 
 class Record:
@@ -40,15 +45,19 @@ class Record:
         return SimpleNamespace(**values)
 
 
-HEAD = Record(n=1, f=1, c=1, cutoff=1)
+HEAD = Record(n=1, f=1, c=1, cutoff=1, used=1)
 VARIANT = Record(pos0=1, dp=1, genotype=2, k=1, lengths=MAX_ALLELES)
 FRAGMENT = Record(first=1, strand=1)
-CALL = Record(variant=1, allele=1, qual=1, one_minus_qual=1, next=1)
+# A call as an arrival gives it; its record has one word more.
+ARRIVING = Record(variant=1, allele=1, qual=1, one_minus_qual=1)
+CALL = Record(**ARRIVING.widths, next=1)
 
 # What is written: 2 haplotype alleles per variant and 2 likelihoods per fragment; tables of all pairs, one per variant;
-# and one record per variant by the calling without haplotypes.
+# the counts of a variant, which arrivals and departures update; and these within the record of the calling without
+# haplotypes, one per variant.
 PAIR, TABLE = 2, MAX_ALLELES**2
-CALLED = Record(genotype=2, counts=MAX_ALLELES, forward=MAX_ALLELES, reverse=MAX_ALLELES, ambiguous=1, depth=1)
+COUNTED = Record(counts=MAX_ALLELES, forward=MAX_ALLELES, reverse=MAX_ALLELES, ambiguous=1)
+CALLED = Record(genotype=2, **COUNTED.widths, depth=1)
 
 
 class Layout:
@@ -78,17 +87,19 @@ class Layout:
 
 
 def needs(word, n, f):
-    """The elements that a request with n variants and f fragments needs in each output slice; those of `flist` and
-    `orders` depend on more."""
+    """The elements that a request with n variants and f fragments needs in each output slice, an arrival or departure in
+    its haplotypes, likelihoods and counts; those of `flist` and `orders` depend on more."""
+    late = [PAIR * n, PAIR * f, COUNTED.words * n]
     return {
         "check": [], "priors": [TABLE * n], "nohap": [CALLED.words * n, n, n], "phase": [PAIR * n, n, n],
-        "run": [PAIR * n, PAIR * f, TABLE * n, n, n], "filter": [n],
+        "run": [PAIR * n, PAIR * f, TABLE * n, n, n], "filter": [n], "arrive": late, "depart": late, "afresh": late[1:],
     }[word]
 
 
 HEADER = """/* Written by tools/layout.py: words of each record, offsets of its fields, limits; then what is written per variant. */
 %s
 enum { MAX_VARIANTS = %d, MAX_FRAGMENTS = %d, MAX_CALLS = %d, MAX_ALLELES = %d, MAX_LENGTH = %d, LOWEST = %d };
+enum { ABSENT = %d };
 enum { PAIR = %d, TABLE = %d };
 """
 
@@ -102,7 +113,7 @@ def record_header(name, record):
 def main():
     records = {"HEAD": HEAD, "VARIANT": VARIANT, "FRAGMENT": FRAGMENT, "CALL": CALL}
     print(HEADER % ("\n".join(record_header(*pair) for pair in records.items()), MAX_VARIANTS, MAX_FRAGMENTS, MAX_CALLS,
-                    MAX_ALLELES, MAX_LENGTH, LOWEST, PAIR, TABLE), end="")
+                    MAX_ALLELES, MAX_LENGTH, LOWEST, ABSENT, PAIR, TABLE), end="")
 
 
 if __name__ == "__main__":

@@ -1,17 +1,18 @@
-"""An independent model of document 01 in Python, for recorded answers and comparisons.
+"""An independent model of documents 01 and 02 in Python, for recorded answers and comparisons.
 
-It is written from the document and not from the Rattle code: a case as words and bases in, an answer
+It is written from the documents and not from the Rattle code: a case as words and bases in, an answer
 or a refusal with its number and place out. Whole numbers are exact; qualities are written as 64-bit patterns.
 
 Each operation is a function of the request's parts and its output slices before; it gives the returned fields and the
-output slices afterwards, or raises Refused. Where the answer is much work, `accept_...` is its part that refuses.
+output slices afterwards, or raises Refused. A slice that is lent to be read and written is both a part and an output
+slice. Where the answer is much work, `accept_...` is its part that refuses.
 """
 import math
 import struct
 
 import knots
-from layout import (CALL, CALLED, FRAGMENT, HEAD, LOWEST, MAX_ALLELES, MAX_CALLS, MAX_FRAGMENTS, MAX_LENGTH,
-                    MAX_VARIANTS, PAIR, TABLE, VARIANT, Layout, needs)
+from layout import (ABSENT, ARRIVING, CALL, CALLED, COUNTED, FRAGMENT, HEAD, LOWEST, LOWEST_LENT, MAX_ALLELES,
+                    MAX_CALLS, MAX_COUNT, MAX_FRAGMENTS, MAX_LENGTH, MAX_VARIANTS, PAIR, TABLE, VARIANT, Layout, needs)
 
 
 class Refused(Exception):
@@ -33,8 +34,10 @@ class Call:
 
 
 class Fragment:
-    def __init__(self, strand, calls):
-        self.strand, self.calls = strand, list(calls)
+    """An absent fragment has a strand and no calls."""
+
+    def __init__(self, strand, calls, present=True):
+        self.strand, self.calls, self.present = strand, list(calls), present
 
 
 class Case:
@@ -44,49 +47,55 @@ class Case:
     def usable(self, fragment, call):
         return call.qual < self.cutoff
 
+    def usable_calls(self, fragment):
+        return [call for call in fragment.calls if self.usable(fragment, call)]
 
-def encode(case, numbering=None):
-    """Words and bases of a case. numbering: for each call, fragment after fragment, its record number;
-    records are numbered in order where it is left out."""
-    calls = [(f, i) for f, x in enumerate(case.fragments) for i in range(len(x.calls))]
-    number = dict(zip(calls, numbering or range(1, len(calls) + 1)))
-    words = HEAD.make(n=len(case.variants), f=len(case.fragments), c=len(calls), cutoff=case.cutoff)
+
+def encode(case, numbering=None, idle=None, used=None):
+    """Words and bases of a case. numbering: for each call, fragment after fragment, its record number; in order where it
+    is left out. idle: the words of records in no chain, by their numbers. used: all records where it is left out."""
+    calls, idle = [(f, i) for f, x in enumerate(case.fragments) for i in range(len(x.calls))], idle or {}
+    c = len(calls) + len(idle)
+    number = dict(zip(calls, numbering or [r for r in range(1, c + 1) if r not in idle]))
+    words = HEAD.make(n=len(case.variants), f=len(case.fragments), c=c, cutoff=case.cutoff,
+                      used=c if used is None else used)
     for v in case.variants:
         words += VARIANT.make(pos0=v.pos0, dp=v.dp, genotype=list(v.genotype), k=len(v.alleles),
                               lengths=[len(a) for a in v.alleles])
     for f, x in enumerate(case.fragments):
-        words += FRAGMENT.make(first=number[f, 0] if x.calls else 0, strand=x.strand)
-    records = [None] * len(calls)
+        words += FRAGMENT.make(first=number.get((f, 0), 0) if x.present else ABSENT, strand=x.strand)
+    records = dict(idle)
     for f, i in calls:
         x, following = case.fragments[f].calls[i], number.get((f, i + 1), 0)
-        records[number[f, i] - 1] = CALL.make(variant=x.variant, allele=x.allele, qual=x.qual,
-                                              one_minus_qual=x.one_minus_qual, next=following)
-    words += [word for record in records for word in record]
+        records[number[f, i]] = CALL.make(variant=x.variant, allele=x.allele, qual=x.qual,
+                                          one_minus_qual=x.one_minus_qual, next=following)
+    words += [word for r in range(1, c + 1) for word in records[r]]
     return words, [ord(c) for v in case.variants for a in v.alleles for c in a]
 
 
 def check_head(words):
-    """Number 1: the layout and the cutoff."""
+    """Number 1: the layout, and the head."""
     if len(words) < HEAD.words:
         raise Refused(1, 0)
-    ranges = [(HEAD.n, 0, MAX_VARIANTS), (HEAD.f, 0, MAX_FRAGMENTS), (HEAD.c, 0, MAX_CALLS), (HEAD.cutoff, LOWEST, 0)]
+    ranges = [(HEAD.n, 0, MAX_VARIANTS), (HEAD.f, 0, MAX_FRAGMENTS), (HEAD.c, 0, MAX_CALLS), (HEAD.cutoff, LOWEST, 0),
+              (HEAD.used, 0, words[HEAD.c])]
     for place, low, high in ranges:
         if not low <= words[place] <= high:
             raise Refused(1, place)
     at = Layout.of(words)
     if len(words) != at.total():
         raise Refused(1, HEAD.words)
-    return at, words[HEAD.cutoff]
+    return at, HEAD.read(words, 0)
 
 
-def check_variants(at, words):
-    """Number 2."""
+def check_variants(at, words, haplotypes):
+    """Number 2: the records, and the haplotypes where they are lent as input."""
     before = 0
     for v in range(at.n):
         x = VARIANT.read(words, at.variant(v))
         if x.pos0 < 0 or x.pos0 < before or x.dp < 0 or not 1 <= x.k <= MAX_ALLELES:
             raise Refused(2, v)
-        if not all(0 <= a < x.k for a in x.genotype):
+        if not all(0 <= a < x.k for a in list(x.genotype) + list(haplotypes[PAIR * v:PAIR * (v + 1)])):
             raise Refused(2, v)
         for j, length in enumerate(x.lengths):
             if not (1 <= length <= MAX_LENGTH if j < x.k else length == 0):
@@ -111,51 +120,67 @@ def check_alleles(at, words, bases):
     return alleles
 
 
-def check_calls(at, words, alleles):
-    """Number 4."""
-    for r in range(1, at.c + 1):
-        x = CALL.read(words, at.call(r))
-        if not 0 <= x.variant < at.n or not 0 <= x.allele < len(alleles[x.variant]):
-            raise Refused(4, r)
-        if not (LOWEST <= x.qual <= 0 and LOWEST <= x.one_minus_qual <= 0):
+def reached(at, words, used):
+    """The records that some fragment reaches by following first and next through 1..used, whatever else is wrong."""
+    found = set()
+    for f in range(at.f):
+        r = words[at.fragment(f) + FRAGMENT.first]
+        while 1 <= r <= used and r not in found:
+            found.add(r)
+            r = words[at.call(r) + CALL.next]
+    return found
+
+
+def in_range(call, alleles):
+    """Whether a call's variant, allele and qualities are within their ranges; alleles are those of each variant."""
+    return (0 <= call.variant < len(alleles) and 0 <= call.allele < len(alleles[call.variant])
+            and LOWEST <= call.qual <= 0 and LOWEST <= call.one_minus_qual <= 0)
+
+
+def check_calls(at, words, used, alleles):
+    """Number 4: the lowest reached record that is out of range."""
+    for r in sorted(reached(at, words, used)):
+        if not in_range(CALL.read(words, at.call(r)), alleles):
             raise Refused(4, r)
 
 
-def check_fragments(at, words):
+STRANDS = (0, 1)
+
+
+def check_fragments(at, words, used):
     """Number 5: the fragments."""
-    fragments, reached = [], set()
+    fragments, taken = [], set()
     for f in range(at.f):
         fragment, calls = FRAGMENT.read(words, at.fragment(f)), []
-        r = fragment.first
-        if fragment.strand not in (0, 1) or not 0 <= r <= at.c:
+        present, r = fragment.first != ABSENT, fragment.first
+        if fragment.strand not in STRANDS or (present and not 0 <= r <= used):
             raise Refused(5, f)
-        while r:
+        while present and r:
             x = CALL.read(words, at.call(r))
-            if r in reached or (x.next != 0 and not r < x.next <= at.c):
+            if r in taken or (x.next != 0 and not r < x.next <= used):
                 raise Refused(5, f)
             if x.next != 0 and not x.variant < words[at.call(x.next) + CALL.variant]:
                 raise Refused(5, f)
-            reached.add(r)
+            taken.add(r)
             calls.append(Call(x.variant, x.allele, x.qual, x.one_minus_qual))
             r = x.next
-        fragments.append(Fragment(fragment.strand, calls))
-    if len(reached) < at.c:
-        raise Refused(5, at.f)
+        fragments.append(Fragment(fragment.strand, calls, present))
     return fragments
 
 
-def check(words, bases):
-    """01, section 2 and the table of refusals, numbers 1 to 5: the case, or Refused."""
-    at, cutoff = check_head(words)
-    check_variants(at, words)
+def check(words, bases, haplotypes=()):
+    """01, section 2 and the table of refusals, numbers 1 to 5, as amended by request 1: the case, or Refused. Haplotypes
+    are those lent as input."""
+    at, head = check_head(words)
+    check_variants(at, words, haplotypes)
     alleles = check_alleles(at, words, bases)
-    check_calls(at, words, alleles)
-    fragments = check_fragments(at, words)
+    check_calls(at, words, head.used, alleles)
+    fragments = check_fragments(at, words, head.used)
     variants = []
     for v in range(at.n):
         x = VARIANT.read(words, at.variant(v))
         variants.append(Variant(x.pos0, x.dp, x.genotype, alleles[v]))
-    return Case(variants, fragments, cutoff)
+    return Case(variants, fragments, head.cutoff)
 
 
 def pattern(x):
@@ -379,6 +404,16 @@ def accept_no_haplotypes(words, bases, rates, variants, quals, gqs):
     return case
 
 
+def counted(case, v):
+    """The counts of a variant: usable calls by allele, those on each strand, ambiguous calls."""
+    here = calls_at(case, v)
+    used = [(f, c) for f, c in here if case.usable(f, c)]
+    forward, reverse = ([sum(1 for f, c in used if (f.strand, c.allele) == (strand, a)) for a in range(MAX_ALLELES)]
+                        for strand in STRANDS)
+    return COUNTED.make(counts=[x + y for x, y in zip(forward, reverse)], forward=forward, reverse=reverse,
+                        ambiguous=len(here) - len(used))
+
+
 def call_genotypes_no_haplotypes(words, bases, rates, variants, quals, gqs):
     """01, section 4: the three slices afterwards (qualities as patterns)."""
     case = accept_no_haplotypes(words, bases, rates, variants, quals, gqs)
@@ -390,11 +425,8 @@ def call_genotypes_no_haplotypes(words, bases, rates, variants, quals, gqs):
                   for i, j in pairs(variant)]
         posts = normalize(variant, scores)
         best, top = max_genotype_post(variant, posts, False)
-        forward, reverse = ([sum(1 for f, c in used if (f.strand, c.allele) == (strand, a)) for a in range(MAX_ALLELES)]
-                            for strand in (0, 1))
-        counts = [x + y for x, y in zip(forward, reverse)]
-        out += CALLED.make(genotype=list(best), counts=counts, forward=forward, reverse=reverse,
-                           ambiguous=len(here) - len(used), depth=max(variant.dp, len(here)))
+        counts = COUNTED.read(counted(case, v), 0)
+        out += CALLED.make(genotype=list(best), depth=max(variant.dp, len(here)), **vars(counts))
         qual.append(pattern(capped_phred(posts[0])))
         gq.append(pattern(capped_phred(ln_one_minus_exp(top))))
     return [], [written(out, variants), written(qual, quals), written(gq, gqs)]
@@ -409,12 +441,20 @@ def phase_rule(variant):
     return len(a) >= 2 and variant.genotype[0] != variant.genotype[1] and len(a[0]) == 1 and len(a[1]) == 1
 
 
+def phased_flags(case, phase):
+    return [phase_rule(v) and b in (48, 49) for v, b in zip(case.variants, phase)]
+
+
+def check_length(case, *slices):
+    """Number 7: one element for each variant."""
+    if any(len(x) != len(case.variants) for x in slices):
+        raise Refused(7, len(case.variants))
+
+
 def check_phase(case, phase, sets):
-    n = len(case.variants)
-    if len(phase) != n or len(sets) != n:
-        raise Refused(7, n)
-    for v in range(n):
-        if sets[v] >= n:
+    check_length(case, phase, sets)
+    for v, name in enumerate(sets):
+        if name >= len(case.variants):
             raise Refused(7, v)
 
 
@@ -431,7 +471,7 @@ def given_phase(words, bases, phase, sets, haplotypes, phased, names):
     check_phase(case, phase, sets)
     n = len(case.variants)
     need(needs("phase", n, 0), [haplotypes, phased, names])
-    flags = [int(phase_rule(v) and b in (48, 49)) for v, b in zip(case.variants, phase)]
+    flags = [int(flag) for flag in phased_flags(case, phase)]
     name = []
     for v in range(n):
         if sets[v] < 0 or phase[v] not in (48, 49):
@@ -467,20 +507,30 @@ def with_pair(haps, v, pair):
     return haps[:PAIR * v] + list(pair) + haps[PAIR * (v + 1):]
 
 
+def likelihood(calls, alleles, counts):
+    """Of these usable calls on the haplotype with these alleles, over the variants that count."""
+    return sum(c.one_minus_qual if c.allele == alleles[c.variant] else c.qual for c in calls if counts(c.variant))
+
+
+def likelihoods_of(calls, haps, counts):
+    return [likelihood(calls, haps[h::PAIR], counts) for h in range(PAIR)]
+
+
+def share(two):
+    """What a read with these two likelihoods adds to a total."""
+    return ln_add_exp(two[0] + HALF, two[1] + HALF)
+
+
 class Sweeps:
     """The definitions of section 6 over a case, its priors and its phased flags."""
 
     def __init__(self, case, rates, phased):
         self.case, self.phased = case, phased
         self.priors = [{(i, j): get_prior(rates, v, i, j) for i, j in pairs(v)} for v in case.variants]
-        self.reads = [[c for c in f.calls if case.usable(f, c)] for f in case.fragments]
+        self.reads = [case.usable_calls(f) for f in case.fragments]
 
-    def likelihood(self, calls, alleles, counts):
-        return sum(c.one_minus_qual if c.allele == alleles[c.variant] else c.qual for c in calls if counts(c.variant))
-
-    def share(self, calls, haps, counts):
-        two = [self.likelihood(calls, haps[h::PAIR], counts) for h in (0, 1)]
-        return ln_add_exp(two[0] + HALF, two[1] + HALF)
+    def in_phase(self, v):
+        return self.phased[v]
 
     def score(self, v, haps, i, j):
         changed = with_pair(haps, v, (i, j))
@@ -488,12 +538,15 @@ class Sweeps:
         for calls in self.reads:
             for c in calls:
                 if c.variant == v:
-                    total += self.share(calls, changed, lambda w: w == v or self.phased[w])
+                    total += share(likelihoods_of(calls, changed, lambda w: w == v or self.phased[w]))
         return total
 
     def total(self, haps, counts):
         priors = sum(self.priors[v][pair_at(haps, v)] for v in range(len(self.priors)) if counts(v))
-        return priors + sum(self.share(calls, haps, counts) for calls in self.reads)
+        return priors + sum(share(likelihoods_of(calls, haps, counts)) for calls in self.reads)
+
+    def likelihoods(self, haps):
+        return [x for calls in self.reads for x in likelihoods_of(calls, haps, self.in_phase)]
 
     def run(self, haps, orders, limit):
         posts = {}
@@ -540,18 +593,12 @@ def final_answers(case, posts):
 def call_genotypes_with_haplotypes(words, bases, rates, phase, sets, orders, limit, *befores):
     """01, sections 6 and 7: the returned fields and the five slices afterwards (qualities as patterns)."""
     case, lists = accept_with_haplotypes(words, bases, rates, phase, sets, orders, limit, *befores)
-    phased = [phase_rule(v) and b in (48, 49) for v, b in zip(case.variants, phase)]
-    sweeps = Sweeps(case, rates, phased)
+    sweeps = Sweeps(case, rates, phased_flags(case, phase))
     start = start_haplotypes(case, phase)
     count, settled, haps, posts = sweeps.run(start, lists, limit)
-
-    def in_phase(v):
-        return phased[v]
-
-    fields = [count, "settled" if settled else "unsettled", sweeps.total(start, in_phase), sweeps.total(haps, in_phase),
-              sweeps.total(haps, lambda v: True)]
-    liks = [sweeps.likelihood(calls, haps[h::PAIR], in_phase) for calls in sweeps.reads for h in (0, 1)]
-    afters = [haps, liks] + list(final_answers(case, posts))
+    fields = [count, "settled" if settled else "unsettled", sweeps.total(start, sweeps.in_phase),
+              sweeps.total(haps, sweeps.in_phase), sweeps.total(haps, lambda v: True)]
+    afters = [haps, sweeps.likelihoods(haps)] + list(final_answers(case, posts))
     return fields, [written(new, old) for new, old in zip(afters, befores)]
 
 
@@ -605,6 +652,107 @@ def sweep_orders(words, bases, seed, orders):
     return [], [out]
 
 
+# ---- 02, request 1: arrivals and departures.
+
+
+def fresh_values(case, rates, phase, haps):
+    """What arrivals and departures update, taken afresh: the likelihoods, the counts and the phased total."""
+    sweeps = Sweeps(case, rates, phased_flags(case, phase))
+    counts = [x for v in range(len(case.variants)) for x in counted(case, v)]
+    return sweeps.likelihoods(haps), counts, sweeps.total(haps, sweeps.in_phase)
+
+
+def afresh(words, bases, rates, phase, likelihoods, counts):
+    """The fresh values of section 5's haplotypes: no operation of the program, but what the oracle tells of a case."""
+    case = check(words, bases)
+    fresh = fresh_values(case, rates, phase, start_haplotypes(case, phase))
+    return [fresh[2]], [written(fresh[0], likelihoods), written(fresh[1], counts)]
+
+
+def check_values(likelihoods, counts, total):
+    """Number 10, place 0: the values that are updated, before or after."""
+    if not all(LOWEST_LENT <= x <= 0 for x in likelihoods + [total]) or not all(0 <= x <= MAX_COUNT for x in counts):
+        raise Refused(10, 0)
+
+
+def check_lent(words, bases, phase, haplotypes, likelihoods, counts, total):
+    """What arrivals and departures both check of what is lent; the case."""
+    case = check(words, bases, haplotypes)
+    check_length(case, phase)
+    wanted = needs("arrive", len(case.variants), len(case.fragments))
+    need(wanted, [haplotypes, likelihoods, counts])
+    check_values(list(likelihoods[:wanted[1]]), list(counts[:wanted[2]]), total)
+    return case
+
+
+def arriving(case, strand, words):
+    """The fragment that arrives: numbers 4 and 5, place the index of a call, or the number of whole calls."""
+    whole = len(words) // ARRIVING.words
+    calls = [ARRIVING.read(words, ARRIVING.words * i) for i in range(whole)]
+    for i, call in enumerate(calls):
+        if not in_range(call, [v.alleles for v in case.variants]):
+            raise Refused(4, i)
+    for i in range(1, whole):
+        if not calls[i - 1].variant < calls[i].variant:
+            raise Refused(5, i)
+    if len(words) % ARRIVING.words or strand not in STRANDS:
+        raise Refused(5, whole)
+    return Fragment(strand, [Call(c.variant, c.allele, c.qual, c.one_minus_qual) for c in calls])
+
+
+def recounted(case, fragment, counts, change):
+    """The counts with the calls of a fragment added or taken off."""
+    counts = list(counts)
+    strand = (COUNTED.forward, COUNTED.reverse)[fragment.strand]
+    for call in fragment.calls:
+        own = (COUNTED.counts + call.allele, strand + call.allele)
+        for place in own if case.usable(fragment, call) else [COUNTED.ambiguous]:
+            counts[COUNTED.words * call.variant + place] += change
+    return counts
+
+
+def updated(case, f, two, likelihoods, counts, total):
+    """The answer with two other likelihoods of fragment f, if all values are in range afterwards; the lent slices
+    without the words."""
+    likelihoods = likelihoods[:PAIR * f] + two + likelihoods[PAIR * (f + 1):]
+    wanted = needs("arrive", len(case.variants), len(case.fragments))
+    check_values(likelihoods[:wanted[1]], counts[:wanted[2]], total)
+    return ["unsettled", total], [likelihoods, counts]
+
+
+def arrive(words, bases, phase, haplotypes, likelihoods, counts, total, f, strand, calls):
+    """A fragment comes: its chain in the next unused records; likelihoods, counts and total with its share."""
+    case = check_lent(words, bases, phase, haplotypes, likelihoods, counts, total)
+    fragment = arriving(case, strand, calls)
+    if f >= len(case.fragments) or case.fragments[f].present:
+        raise Refused(13, f)
+    at, head, whole = Layout.of(words), HEAD.read(words, 0), len(fragment.calls)
+    if head.c - head.used < whole:
+        raise Refused(14, whole)
+    phased = phased_flags(case, phase)
+    two = likelihoods_of(case.usable_calls(fragment), haplotypes, lambda v: phased[v])
+    fields, lent = updated(case, f, two, list(likelihoods), recounted(case, fragment, counts, 1), total + share(two))
+    words, numbers = list(words), list(range(head.used + 1, head.used + whole + 1))
+    words[HEAD.used] += whole
+    words[at.fragment(f):at.fragment(f + 1)] = FRAGMENT.make(first=(numbers + [0])[0], strand=strand)
+    for r, following, call in zip(numbers, numbers[1:] + [0], fragment.calls):
+        words[at.call(r):at.call(r + 1)] = CALL.make(next=following, **vars(call))
+    return fields, [words] + lent
+
+
+def depart(words, bases, phase, haplotypes, likelihoods, counts, total, f):
+    """A fragment goes: what its lent likelihoods added is taken off the total."""
+    case = check_lent(words, bases, phase, haplotypes, likelihoods, counts, total)
+    if f >= len(case.fragments) or not case.fragments[f].present:
+        raise Refused(13, f)
+    off = share(likelihoods[PAIR * f:PAIR * (f + 1)])
+    fields, lent = updated(case, f, [0, 0], list(likelihoods), recounted(case, case.fragments[f], counts, -1),
+                           total - off)
+    words = list(words)
+    words[Layout.of(words).fragment(f) + FRAGMENT.first] = ABSENT
+    return fields, [words] + lent
+
+
 # Each request's word: its operation, and the part of it that refuses.
 OPERATIONS = {
     "check": (check_case, check_case),
@@ -615,4 +763,7 @@ OPERATIONS = {
     "flist": (generate_flist_buffer, generate_flist_buffer),
     "filter": (var_filter, var_filter),
     "orders": (sweep_orders, sweep_orders),
+    "arrive": (arrive, arrive),
+    "depart": (depart, depart),
+    "afresh": (afresh, afresh),
 }

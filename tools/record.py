@@ -1,30 +1,31 @@
 #!/usr/bin/env python3
-"""Writes the recorded requests of the program and the answers that document 01 gives to them.
+"""Writes the recorded requests of the program and the answers that documents 01 and 02 give to them.
 
 Run at the repository's root, after oracle/build: python3 tools/record.py
-It writes crates/condorbed/stdin and crates/condorbed/stdout. Accepted requests of the operations that longshot has are
-answered by the oracle, longshot's own code; refusals, `check` and `orders` by tools/model.py, which is written from the
-document. The model answers the others too, and a difference between the two ends this script without a list.
+It writes crates/condorbed/stdin and crates/condorbed/stdout. Accepted requests of the operations that longshot has, and
+arrivals and departures on fresh values, are answered by the oracle, longshot's own code; refusals, `check` and `orders`
+by tools/model.py, which is written from the documents. The model answers the others too, and a difference between the
+two ends this script without a list.
 A change of the layout is a change of tools/layout.py and a new run of this script.
 """
 import itertools
 import random
 import sys
 
-from cases import RATES, random_case, random_numbering, tangled
-from layout import (CALL, FRAGMENT, HEAD, LOWEST, MAX_ALLELES, MAX_CALLS, MAX_FRAGMENTS, MAX_LENGTH, MAX_VARIANTS,
-                    VARIANT, Layout, needs)
-from model import Call, Case, Fragment, Variant, encode
-from protocol import OF_THE_SOURCE, Request, ask
+from cases import RATES, Standing, Trial, fresh, random_case, random_records, tangled
+from layout import (ABSENT, ARRIVING, CALL, COUNTED, FRAGMENT, HEAD, LOWEST, LOWEST_LENT, MAX_ALLELES, MAX_CALLS,
+                    MAX_COUNT, MAX_FRAGMENTS, MAX_LENGTH, MAX_VARIANTS, PAIR, VARIANT, Layout, needs)
+from model import Call, Case, Fragment, Variant, check, encode, start_haplotypes
+from protocol import LATE, LatePart, Request, ask_oracle
 
 HEADER = """# Written by tools/record.py: %d requests and one that cannot be read. The answers in the file stdout are
 # longshot's own for %d of them (oracle/build compiles its files with the steps of document 01), those of tools/model.py
-# for refusals, check and orders.
+# for refusals, check, orders, and arrivals and departures on values that are not fresh.
 """
 
 # The request that cannot be read, up to the number that does not fit its type and from it on; it is the fifth token.
-UNREADABLE = ("# an integer that does not fit its type ends the program\ncheck 4 0 0\n  # a comment is no token\n  ",
-              "2147483648 0 0\ncheck 4 0 0 0 0 0\n")
+UNREADABLE = ("# an integer that does not fit its type ends the program\ncheck 5 0 0\n  # a comment is no token\n  ",
+              "2147483648 0 0 0\ncheck 5 0 0 0 0 0 0\n")
 
 
 class Record:
@@ -96,17 +97,21 @@ def rooms(word, n, f=0, more=()):
 
 
 def heads(rec):
-    rec.note("number 1: fewer than four words, each word out of its range, the length")
+    rec.note("number 1: fewer than five words, each word out of its range, the length")
     words, bases = encode(sample())
     for short in range(HEAD.words):
         rec.check(words[:short], bases)
-    ranges = [(HEAD.n, 0, MAX_VARIANTS), (HEAD.f, 0, MAX_FRAGMENTS), (HEAD.c, 0, MAX_CALLS), (HEAD.cutoff, LOWEST, 0)]
+    ranges = [(HEAD.n, 0, MAX_VARIANTS), (HEAD.f, 0, MAX_FRAGMENTS), (HEAD.c, 0, MAX_CALLS), (HEAD.cutoff, LOWEST, 0),
+              (HEAD.used, 0, words[HEAD.c])]
     for field, low, high in ranges:
         for value in (low - 1, high + 1):
             rec.check(with_word(words, field, value), bases)
     rec.check(words[:-1], bases)
     rec.check(words + [0], bases)
+    rec.check(with_word(words, HEAD.used, 9) + [0], bases)
     rec.check(HEAD.make(n=MAX_VARIANTS + 1, f=-1, cutoff=1), [])
+    rec.check(HEAD.make(c=-1, cutoff=1, used=7), [])
+    rec.check(HEAD.make(used=1), [])
     rec.check(HEAD.make(cutoff=LOWEST), [])
     rec.check(*NOTHING)
 
@@ -139,7 +144,7 @@ def alleles(rec):
 
 
 def calls(rec):
-    rec.note("number 4: the record's number, from 1")
+    rec.note("number 4: the record's number, from 1; a record in no chain is no fault")
     words, bases = encode(sample())
     at = Layout.of(words)
     variant, allele, qual, one_minus_qual = CALL.variant, CALL.allele, CALL.qual, CALL.one_minus_qual
@@ -147,16 +152,17 @@ def calls(rec):
               (5, qual, 1), (6, one_minus_qual, LOWEST - 1), (8, one_minus_qual, 1)]
     for r, field, value in faults:
         rec.check(with_word(words, at.call(r) + field, value), bases)
-    rec.check(HEAD.make(c=1) + CALL.make(), [])
+    rec.check(HEAD.make(f=1, c=1, used=1) + FRAGMENT.make(first=1) + CALL.make(), [])
+    rec.check(HEAD.make(c=1, used=1) + CALL.make(), [])
 
 
 def chains(rec):
-    rec.note("number 5: the fragment, the later one where a record is shared; F for a record that none reaches")
+    rec.note("number 5: the fragment, the later one where a record is shared; a record that none reaches is no fault")
     words, bases = encode(sample())
     at = Layout.of(words)
     first, strand = FRAGMENT.first, FRAGMENT.strand
-    faults = [(0, first, -1), (1, first, 9), (2, first, 1), (2, first, 2), (1, strand, 2), (4, strand, -1),
-              (2, first, -2147483648)]
+    faults = [(0, first, ABSENT), (0, first, -2), (1, first, 9), (2, first, 1), (2, first, 2), (1, strand, 2),
+              (4, strand, -1), (2, first, -2147483648)]
     for f, field, value in faults:
         rec.check(with_word(words, at.fragment(f) + field, value), bases)
     for r, value in [(1, 1), (2, 1), (4, 5), (3, 9), (8, -1), (7, 7), (6, 7), (5, 8), (1, 3)]:
@@ -164,9 +170,54 @@ def chains(rec):
     rec.check(with_word(words, at.call(2) + CALL.variant, 0), bases)
     rec.check(with_word(words, at.fragment(3) + first, 6), bases)
     rec.check(with_word(words, at.fragment(4) + first, 0), bases)
-    rec.check(HEAD.make(n=1, c=1) + VARIANT.make(k=1, lengths=[1]) + CALL.make(), [65])
+    rec.check(HEAD.make(n=1, c=1, used=1) + VARIANT.make(k=1, lengths=[1]) + CALL.make(), [65])
     shared = with_word(with_word(words, at.fragment(1) + first, 1), at.fragment(0) + strand, 5)
     rec.check(shared, bases)
+
+
+# Words that no accepted call record has.
+NO_RECORD = CALL.make(variant=-1, allele=99, qual=7, one_minus_qual=LOWEST - 1, next=-5)
+
+
+def changed_words(words, changes):
+    """The words with each change: a place and its value."""
+    for place, value in changes:
+        words = with_word(words, place, value)
+    return words
+
+
+def idle_records(rec):
+    rec.note("absent fragments, records in no chain and an unused tail: nothing looks at their records")
+    case = sample()
+    case.fragments[1:2] = [Fragment(1, [], False)]
+    case.fragments.append(Fragment(0, [], False))
+    idle = {r: NO_RECORD for r in (2, 7, 10, 11)}
+    words, bases = encode(case, idle=idle, used=9)
+    at, first, strand = Layout.of(words), FRAGMENT.first, FRAGMENT.strand
+    rec.check(words, bases)
+    rec.check(with_word(words, at.fragment(1) + strand, 2), bases)
+    rec.check(with_word(words, at.fragment(5) + strand, -1), bases)
+    rec.check(with_word(words, HEAD.used, 8), bases)
+    rec.note("a chain into the tail or to an idle record: 5 at its fragment; 4 where a used record is bad")
+    for f, r in [(5, 10), (5, 11), (5, 12), (2, 10), (5, 2), (5, 7)]:
+        rec.check(with_word(words, at.fragment(f) + first, r), bases)
+    for r, following in [(9, 10), (4, 10), (4, 7), (1, 2), (3, 12)]:
+        rec.check(with_word(words, at.call(r) + CALL.next, following), bases)
+
+
+def past_faults(rec):
+    rec.note("number 4 along every chain, past any 5: behind a bad strand, a link back, variants that do not rise")
+    words, bases = encode(sample(), idle={9: NO_RECORD, 10: NO_RECORD}, used=9)
+    at, strand = Layout.of(words), FRAGMENT.strand
+    after, bad = lambda r: at.call(r) + CALL.next, lambda r: (at.call(r) + CALL.qual, 1)
+    for changes in (
+            [bad(2), (at.fragment(0) + strand, 7)], [bad(3), (at.call(1) + CALL.variant, 1)],
+            [bad(1), (after(4), 1), (at.fragment(0), 0)], [bad(7), (after(8), 7), (at.fragment(4), 8)],
+            [(after(8), 7)], [(after(3), 1)], [bad(3), (after(3), 1)], [(after(4), 9)], [(after(8), 10)],
+            [bad(8), (after(5), 8), bad(6)], [bad(8), (after(6), 9)], [bad(6), (after(5), -2)], [bad(6), (after(5), 10)],
+            [bad(6), (after(5), 0)], [bad(4), (at.fragment(1), ABSENT)], [bad(4), (at.fragment(1), -2)],
+            [bad(4), (at.fragment(1), 4), (at.fragment(0), 4)]):
+        rec.check(changed_words(words, changes), bases)
 
 
 def order_of_numbers(rec):
@@ -188,6 +239,7 @@ def accepted(rec):
     words, bases = encode(sample())
     rec.check(words, bases)
     rec.check(*encode(sample(), [2, 5, 8, 1, 3, 4, 6, 7]))
+    rec.check(*encode(Case([], [Fragment(1, [], False)], 0), idle={1: NO_RECORD}, used=0))
     wide = Case([Variant(0, 0, (0, 0), [base * MAX_LENGTH for base in "ACG"]),
                  Variant(2147483647, 2147483647, (2, 2), ["A", "A", "A"])],
                 [Fragment(1, [Call(0, 2, LOWEST, LOWEST), Call(1, 2, 0, 0)])], LOWEST)
@@ -237,11 +289,12 @@ def damaged(rec, rng, count):
     rec.note("random small cases, whole and damaged")
     for i in range(count):
         case = random_case(rng)
-        words, bases = encode(case, random_numbering(case, rng))
+        words, bases = encode(case, **random_records(rng, case))
         for _ in range(i % 3):
             if words and rng.random() < 0.9:
                 at = rng.randrange(len(words))
-                values = [words[at] + 1, words[at] - 1, 0, 1, -1, 2, MAX_ALLELES, MAX_LENGTH + 1, LOWEST - 1]
+                near = [x for x in (words[at] + 1, words[at] - 1) if abs(x) < 2**31]
+                values = near + [0, 1, -1, 2, MAX_ALLELES, MAX_LENGTH + 1, LOWEST - 1]
                 words = with_word(words, at, rng.choice(values))
             elif bases:
                 bases = with_word(bases, rng.randrange(len(bases)), rng.randrange(256))
@@ -434,14 +487,228 @@ def runs(rec, rng):
     random_runs(rec, rng)
 
 
+# ---- Arrivals and departures.
+
+LATE_PHASE = [48, 49, 48, 49]
+
+
+def late_sample():
+    """The variants of the sample; fragments 1 and 4 absent, 2 without calls; seven unused records, two left behind."""
+    variants = sample().variants
+    variants[1] = Variant(10, 0, (2, 0), ["C", "T", "G"])
+    fragments = [
+        Fragment(0, [Call(0, 1, -5796, -1700), Call(1, 2, -9000, -40), Call(3, 0, -2000, -1)]),
+        Fragment(1, [], False),
+        Fragment(0, []),
+        Fragment(1, [Call(0, 0, -9000, -40), Call(2, 1, -2001, -3)]),
+        Fragment(1, [], False),
+    ]
+    idle = {r: NO_RECORD for r in (1, 4, 8, 9, 10, 11, 12, 13, 14)}
+    return encode(Case(variants, fragments, -2000), idle=idle, used=7)
+
+
+def late_standing(extra=0):
+    words, bases = late_sample()
+    haplotypes = start_haplotypes(check(words, bases), LATE_PHASE)
+    return fresh(words, bases, RATES, LATE_PHASE, haplotypes, extra)
+
+
+# Reads to arrive: three calls with one ambiguous, two, one, none.
+LONG = Fragment(0, [Call(0, 0, -5796, -1700), Call(1, 1, -2000, 0), Call(2, 0, LOWEST, LOWEST)])
+SHORT = Fragment(1, [Call(0, 1, -9000, -40), Call(1, 0, -2001, 0)])
+SINGLE, EMPTY = Fragment(1, [Call(3, 0, -13607, -12)]), Fragment(0, [])
+
+
+def follow(rec, standing, steps):
+    """Records each step on what the last one left; a step makes a request of what stands."""
+    for step in steps:
+        request = step(standing)
+        rec.entries.append(request)
+        standing = standing.after(request)
+    return standing
+
+
+def arrival(f, fragment):
+    return lambda standing: standing.arrive(f, fragment)
+
+
+def departure(f):
+    return lambda standing: standing.depart(f)
+
+
+def late_lists(rec, rng):
+    rec.note("arrivals and departures from fresh values, each on what the last one left")
+    left = follow(rec, late_standing(), [
+        arrival(1, LONG), departure(0), arrival(0, SHORT), departure(1), arrival(1, EMPTY), departure(1), departure(2),
+        arrival(4, SINGLE), arrival(2, SINGLE), departure(3), departure(0), departure(4), departure(2)])
+    rec.note("all records are used: one call more is refused, none is not")
+    rec.entries += [left.arrive(1, SINGLE), left.arrive(1, EMPTY)]
+    rec.note("slices that are longer, with values past their needs that are out of range")
+    follow(rec, late_standing(3), [arrival(4, LONG), departure(3), arrival(3, LONG)])
+    rec.note("what is left goes through the other operations; absent fragments have likelihoods 0 and 0")
+    left = follow(rec, late_standing(), [departure(3), arrival(1, LONG), departure(0)])
+    n, f = left.words[HEAD.n], left.words[HEAD.f]
+    rec.check(left.words, left.bases)
+    rec.nohap(left.words, left.bases, RATES, rooms("nohap", n))
+    rec.flist(left.words, left.bases, 1, 60)
+    parts = [RATES, LATE_PHASE, [0] * n, list(range(n)), 50]
+    rec.run(left.words, left.bases, *parts, rooms("run", n, f))
+    after_run(rec, left, parts)
+    rec.note("random lists")
+    for _ in range(8):
+        rec.entries += Trial(rng, random_case(rng, 7)).updates(5) + tangled(rng).updates(5)
+
+
+def after_run(rec, standing, parts):
+    rec.note("from the haplotypes, likelihoods and end total of a run, and the counts as they stand")
+    n, f = standing.words[HEAD.n], standing.words[HEAD.f]
+    fields, slices = Request("run", standing.words, standing.bases, parts, rooms("run", n, f)).result()
+    swept = Standing(standing.words, standing.bases, RATES, LATE_PHASE, slices[0], slices[1], standing.counts, fields[3])
+    follow(rec, swept, [arrival(0, SHORT), departure(1), arrival(3, SINGLE), departure(0)])
+
+
+def late_parts(word):
+    """The parts of an accepted request: read 1 arrives, or read 3 departs."""
+    standing = late_standing()
+    return (standing.arrive(1, LONG) if word == "arrive" else standing.depart(3)).parts
+
+
+def with_parts(word, changes):
+    """The parts with each change: a part, a place in it (None for all of it) and the value."""
+    parts = [list(x) if isinstance(x, list) else x for x in late_parts(word)]
+    for part, place, value in changes:
+        if place is None:
+            parts[part] = value
+        else:
+            parts[part][place] = value
+    return parts
+
+
+def refuse(rec, word, *changes, words=None, bases=None):
+    data = late_sample()
+    rec.add(word, words or data[0], data[1] if bases is None else bases, with_parts(word, changes))
+
+
+def lent_faults(rec):
+    rec.note("refusals that arrivals and departures share: 1 to 5, haplotypes under 2, 7, 10")
+    words, bases = late_sample()
+    at, part = Layout.of(words), late_parts("depart")
+    bad = [(HEAD.used, 15), (at.variant(2) + VARIANT.dp, -1), (at.call(7) + CALL.qual, 1), (at.fragment(4) + 1, 2)]
+    short = [(i, None, part[i][:-1]) for i in (LatePart.HAPLOTYPES, LatePart.LIKELIHOODS, LatePart.COUNTS)]
+    for word in LATE:
+        for i in range(len(bad)):
+            refuse(rec, word, words=changed_words(words, bad[i:]))
+        refuse(rec, word, bases=with_word(bases, 3, 78))
+        refuse(rec, word, (LatePart.HAPLOTYPES, 7, 1), words=with_word(words, at.variant(2) + VARIANT.dp, -1))
+        refuse(rec, word, (LatePart.HAPLOTYPES, 1, 2), words=with_word(words, at.variant(2) + VARIANT.dp, -1))
+        for place, value in [(0, 2), (1, 255), (2, 3), (5, 2), (7, 1)]:
+            refuse(rec, word, (LatePart.HAPLOTYPES, place, value))
+        refuse(rec, word, (LatePart.HAPLOTYPES, None, part[LatePart.HAPLOTYPES][:2] + [3]), *short[1:])
+        refuse(rec, word, (LatePart.PHASE, None, LATE_PHASE[1:]), (LatePart.HAPLOTYPES, None, []))
+        refuse(rec, word, (LatePart.PHASE, None, LATE_PHASE + [48]))
+        for count in (1, 2, 3):
+            for chosen in itertools.combinations(short, count):
+                refuse(rec, word, *chosen, (LatePart.TOTAL, None, 1))
+
+
+def range_faults(rec):
+    rec.note("10, place 0: the total, a likelihood or a count as lent; the ends of their ranges are accepted")
+    for word in LATE:
+        for value in (LOWEST_LENT - 1, 1, -2**63, 2**63 - 1):
+            refuse(rec, word, (LatePart.TOTAL, None, value))
+            refuse(rec, word, (LatePart.LIKELIHOODS, 2, value))
+        for place in (0, 9, 39):
+            for value in (-1, MAX_COUNT + 1, 2147483647):
+                refuse(rec, word, (LatePart.COUNTS, place, value))
+        refuse(rec, word, (LatePart.LIKELIHOODS, 0, LOWEST_LENT), (LatePart.LIKELIHOODS, 3, LOWEST_LENT),
+               (LatePart.COUNTS, 2, MAX_COUNT))
+    rec.note("10, place 0, of what would be written")
+    refuse(rec, "arrive", (LatePart.COUNTS, 0, MAX_COUNT))
+    refuse(rec, "arrive", (LatePart.COUNTS, COUNTED.forward, MAX_COUNT))
+    refuse(rec, "arrive", (LatePart.COUNTS, COUNTED.words + COUNTED.ambiguous, MAX_COUNT))
+    refuse(rec, "arrive", (LatePart.COUNTS, COUNTED.reverse, MAX_COUNT))
+    refuse(rec, "arrive", (LatePart.TOTAL, None, LOWEST_LENT))
+    refuse(rec, "arrive", (LatePart.TOTAL, None, LOWEST_LENT), (LatePart.CALLS, None, []))
+    refuse(rec, "depart", (LatePart.COUNTS, 0, 0))
+    refuse(rec, "depart", (LatePart.COUNTS, COUNTED.reverse, 0))
+    refuse(rec, "depart", (LatePart.COUNTS, COUNTED.forward, 0))
+    refuse(rec, "depart", (LatePart.TOTAL, None, 0))
+    refuse(rec, "depart", (LatePart.TOTAL, None, LOWEST_LENT))
+    rec.note("a departure takes off what is lent, whatever the calls say")
+    lent = [(LatePart.LIKELIHOODS, PAIR * 3, -100000), (LatePart.LIKELIHOODS, PAIR * 3 + 1, -99000)]
+    for total in (-200000, -96000, LOWEST_LENT):
+        refuse(rec, "depart", *lent, (LatePart.TOTAL, None, total))
+    rec.note("what is lent at an absent number is written over")
+    refuse(rec, "arrive", (LatePart.LIKELIHOODS, PAIR, -1), (LatePart.LIKELIHOODS, PAIR + 1, LOWEST_LENT))
+
+
+def arriving_faults(rec):
+    rec.note("an arriving call out of range (4), not rising (5, its index); a broken length, a strand (5, whole calls)")
+    words = ARRIVING.words
+    qual, one_minus_qual, allele = ARRIVING.qual, ARRIVING.one_minus_qual, ARRIVING.allele
+    for place, value in [(0, -1), (2 * words, 4), (allele, 2), (words + allele, 3), (2 * words + allele, -1),
+                         (qual, LOWEST - 1), (words + qual, 1), (one_minus_qual, 1),
+                         (2 * words + one_minus_qual, LOWEST - 1)]:
+        refuse(rec, "arrive", (LatePart.CALLS, place, value))
+    for place, value in [(words, 0), (2 * words, 1), (2 * words, 0), (0, 1)]:
+        refuse(rec, "arrive", (LatePart.CALLS, place, value))
+    calls = late_parts("arrive")[LatePart.CALLS]
+    for length in (1, 3, 5, 11):
+        refuse(rec, "arrive", (LatePart.CALLS, None, calls[:length]))
+        refuse(rec, "arrive", (LatePart.CALLS, None, calls[:length]), (LatePart.STRAND, None, 2))
+    refuse(rec, "arrive", (LatePart.CALLS, None, calls + [-1]))
+    refuse(rec, "arrive", (LatePart.CALLS, None, []), (LatePart.STRAND, None, -1))
+    for strand in (-1, 2, 3, 2147483647):
+        refuse(rec, "arrive", (LatePart.STRAND, None, strand))
+    refuse(rec, "arrive", (LatePart.CALLS, None, calls[:9]), (LatePart.CALLS, words, 0), (LatePart.STRAND, None, 2))
+    refuse(rec, "arrive", (LatePart.CALLS, 2 * words + qual, 1), (LatePart.CALLS, words, 0))
+
+
+def number_faults(rec):
+    rec.note("13: the arriving fragment present, the departing one absent, no such fragment; 14: too few records")
+    calls = [x for v in range(4) for x in (v, 0, -5796, -1700)]
+    for f in (0, 2, 3, 5, 4294967295):
+        refuse(rec, "arrive", (LatePart.NUMBER, None, f))
+    for f in (1, 4, 5, 4294967295):
+        refuse(rec, "depart", (LatePart.NUMBER, None, f))
+    words, bases = late_sample()
+    for used in (10, 11, 14):
+        refuse(rec, "arrive", (LatePart.CALLS, None, calls), words=with_word(words, HEAD.used, used))
+    refuse(rec, "arrive", words=with_word(words, HEAD.used, 11))
+    refuse(rec, "arrive", (LatePart.CALLS, None, []), words=with_word(words, HEAD.used, 14))
+    nothing = [[], [], [], [], 0]
+    for number in (0, 1):
+        rec.add("arrive", *NOTHING, nothing + [number, 0, []])
+        rec.add("depart", *NOTHING, nothing + [number])
+    empty = HEAD.make(f=1) + FRAGMENT.make(first=ABSENT)
+    rec.add("arrive", empty, [], [[], [], [0, -5], [], LOWEST_LENT, 0, 1, []])
+    rec.add("depart", empty, [], [[], [], [0, -5], [], LOWEST_LENT, 0])
+    rec.note("several faults at once, in their order: ranges before, 4, 5, 13, 14, ranges after")
+    faults = [(LatePart.TOTAL, None, 1), (LatePart.CALLS, 2 * ARRIVING.words + ARRIVING.qual, 1),
+              (LatePart.CALLS, ARRIVING.words, 0), (LatePart.STRAND, None, 2), (LatePart.NUMBER, None, 0),
+              (LatePart.COUNTS, 0, MAX_COUNT)]
+    full = with_word(words, HEAD.used, 12)
+    for i in range(len(faults)):
+        refuse(rec, "arrive", *faults[i:], words=full)
+    refuse(rec, "arrive", words=full)
+    refuse(rec, "depart", (LatePart.NUMBER, None, 1), (LatePart.COUNTS, 0, 0), (LatePart.TOTAL, None, 0))
+    refuse(rec, "depart", (LatePart.NUMBER, None, 1), (LatePart.COUNTS, 0, -1))
+
+
+def late(rec, rng):
+    late_lists(rec, rng)
+    for part in (lent_faults, range_faults, arriving_faults, number_faults):
+        part(rec)
+
+
 # The requests that the program has; a later operation joins the list with its library function.
-LATER = [priors, orders, phase, flist, nohap, runs]
+LATER = [priors, orders, phase, flist, nohap, runs, late]
 
 
 def recorded():
     """The whole list."""
     rec, rng = Record(), random.Random(1)
-    for part in (accepted, heads, variants, alleles, calls, chains, order_of_numbers, filters):
+    for part in (accepted, heads, variants, alleles, calls, chains, idle_records, past_faults, order_of_numbers, filters):
         part(rec)
     damaged(rec, rng, 150)
     random_filters(rec, rng, 60)
@@ -451,15 +718,15 @@ def recorded():
 
 
 def answers(requests):
-    """Document 01's answers, by the oracle where the source has the operation and the request is accepted, else by the
-    model; both must agree."""
+    """The documents' answers, by the oracle where it has one and the request is accepted, else by the model; both must
+    agree."""
     by_model = [request.answer() for request in requests]
-    asked = [i for i, r in enumerate(requests) if r.word in OF_THE_SOURCE and by_model[i].startswith("done")]
-    by_oracle = ask(["target/oracle/oracle"], [requests[i] for i in asked])
-    for i, answer in zip(asked, by_oracle):
+    accepted = [i for i, answer in enumerate(by_model) if answer.startswith("done")]
+    by_oracle, asked = ask_oracle(["target/oracle/oracle"], [requests[i] for i in accepted])
+    for i, answer in zip(accepted, by_oracle):
         if answer != by_model[i]:
             sys.exit("the oracle and the model differ at:\n" + requests[i].text())
-    return by_model, len(asked)
+    return by_model, asked
 
 
 def main():

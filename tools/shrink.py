@@ -16,7 +16,7 @@ def without_variants(trial, gone):
     trial.sets = [min(s, len(place) - 1) for s in kept(trial.sets)]
     trial.orders = [[place[v] for v in order if v in place] for order in trial.orders]
     reads = trial.case.fragments
-    fragments = [Fragment(f.strand, [copy.copy(c) for c in f.calls if c.variant in place]) for f in reads]
+    fragments = [Fragment(f.strand, [copy.copy(c) for c in f.calls if c.variant in place], f.present) for f in reads]
     for call in (c for f in fragments for c in f.calls):
         call.variant = place[call.variant]
     trial.case = Case(kept(trial.case.variants), fragments, trial.case.cutoff)
@@ -31,7 +31,7 @@ def without_calls(trial, gone):
     """These calls, counted over all fragments, go."""
     fragments, first = [], 0
     for f in trial.case.fragments:
-        fragments.append(Fragment(f.strand, [c for i, c in enumerate(f.calls, first) if i not in gone]))
+        fragments.append(Fragment(f.strand, [c for i, c in enumerate(f.calls, first) if i not in gone], f.present))
         first += len(f.calls)
     trial.case = Case(trial.case.variants, fragments, trial.case.cutoff)
 
@@ -41,7 +41,7 @@ def without_orders(trial, gone):
 
 
 def plain(trial, _):
-    trial.numbering, trial.extra = None, 0
+    trial.records, trial.extra = {}, 0
 
 
 def steps(trial):
@@ -49,7 +49,7 @@ def steps(trial):
     calls = sum(len(f.calls) for f in trial.case.fragments)
     parts = [(without_variants, len(trial.case.variants)), (without_fragments, len(trial.case.fragments)),
              (without_calls, calls), (without_orders, len(trial.orders) - 1)]
-    if trial.numbering or trial.extra:
+    if trial.records or trial.extra:
         yield plain, ()
     size = max(count for _, count in parts)
     while size > 0:
@@ -61,7 +61,7 @@ def steps(trial):
 
 def smaller(trial, step, gone):
     out = copy.copy(trial)
-    out.numbering = None
+    out.records = {}
     step(out, gone)
     return out
 

@@ -14,9 +14,9 @@ import tempfile
 
 import unreadable
 from explain import REQUESTS
-from layout import needs
+from layout import CALL, FRAGMENT, HEAD, LOWEST_LENT, VARIANT, Layout, needs
 from model import Call, Case, Fragment, Variant, encode
-from protocol import Request
+from protocol import LatePart, Request
 
 ROOT = pathlib.Path(__file__).resolve().parent.parent
 PROGRAM = ROOT / "target" / "bin" / "condorbed"
@@ -99,25 +99,56 @@ def request(word, words=None, bases=None, rates=RATES, phase=(48, 49), sets=(0, 
     return Request(word, own, bases or CASE[1], parts, rooms if rooms is not None else needs(word, 2, 1))
 
 
+AT = Layout.of(CASE[0])
+
+# An arrival on a case without values to update but the total: fragment 0 is present, 1 is absent, one record is unused.
+LATE_CASE = encode(Case([Variant(99, 12, (0, 1), ["A", "G"])], [Fragment(0, []), Fragment(1, [], False)], -9525),
+                   idle={1: CALL.make()}, used=0)
+LATE_PARTS = [[48], [0, 1], [0] * 4, [0] * 10, -49012, 1, 1, [0, 1, -27213, -59]]
+
+
+def late(word, **changed):
+    """An arrival or a departure on that case, with some of its parts exchanged, by their names in LatePart."""
+    parts = list(LATE_PARTS)
+    for name, value in changed.items():
+        parts[getattr(LatePart, name)] = value
+    return Request(word, *LATE_CASE, parts[:LatePart.STRAND] if word == "depart" else parts)
+
+
+# The arrival where the one record is used.
+FULL = Request("arrive", HEAD.make(n=1, f=2, c=1, cutoff=-9525, used=1) + LATE_CASE[0][HEAD.words:], LATE_CASE[1],
+               LATE_PARTS)
+
 # A request, its refusal, and what the explanation says of the place and of what is expected there.
 REFUSALS = [
-    (request("check", {0: 2000}), "refused 1 0", ["word 0 of the head is 2000", "the number of variants", "0..1024"]),
-    (request("check", {3: 1}), "refused 1 3", ["word 3 of the head is 1", "the cutoff", "-262144..0"]),
-    (request("check", {2: 3}), "refused 1 4", ["`words` has 32 elements", "C = 3", "must have 37"]),
-    (Request("check", [2, 1], []), "refused 1 0", ["`words` has 2 elements", "the head alone has 4"]),
-    (request("check", {8: 4}), "refused 2 0", ["variant 0 is out of range", "k in 1..3", "99 12 0 1 4 1 1 0"]),
-    (request("check", {12: 98}), "refused 2 1", ["variant 1 is out of range", "not below that of the variant before"]),
+    (request("check", {HEAD.n: 2000}), "refused 1 0", ["word 0 of the head is 2000", "number of variants", "0..1024"]),
+    (request("check", {HEAD.cutoff: 1}), "refused 1 3", ["word 3 of the head is 1", "the cutoff", "-262144..0"]),
+    (request("check", {HEAD.used: 3}), "refused 1 4", ["word 4 of the head is 3", "call records used", "0..2"]),
+    (request("check", {HEAD.c: 3}), "refused 1 5", ["`words` has 33 elements", "C = 3", "must have 38"]),
+    (Request("check", [2, 1], []), "refused 1 0", ["`words` has 2 elements", "the head alone has 5"]),
+    (request("check", {AT.variant(0) + VARIANT.k: 4}), "refused 2 0", [
+        "variant 0 is out of range", "k in 1..3", "99 12 0 1 4 1 1 0"]),
+    (request("check", {AT.variant(1) + VARIANT.pos0: 98}), "refused 2 1", [
+        "variant 1 is out of range", "not below that of the variant before"]),
+    (late("depart", HAPLOTYPES=[0, 2]), "refused 2 0", ["which must be below k, are 0 2"]),
     (request("check", bases=[65, 71, 67]), "refused 3 2", ["`bases` has 3 bytes", "must have 4"]),
     (request("check", bases=[65, 71, 67, 85]), "refused 3 1", ["variant 1 has a byte", "other than 65 (A)"]),
-    (request("check", {27: 2}), "refused 4 2", [
+    (request("check", {AT.call(2) + CALL.variant: 2}), "refused 4 2", [
         "call record 2 is out of range", "its variant must be below 2", "its allele below that variant's k",
         "both qualities in -262144..0", "Its words are 2 0 -13607 -623 0"]),
-    (request("check", {21: 2}), "refused 5 0", ["fragment 0 is wrong", "strand 0 or 1", "Its words are 1 2"]),
-    (request("check", {26: 0}), "refused 5 1", ["a call record is in no fragment's chain", "in exactly one"]),
+    (late("arrive", CALLS=[0, 2, -27213, -59]), "refused 4 0", [
+        "arriving call 0 is out of range", "its variant must be below 1", "Its words are 0 2 -27213 -59"]),
+    (request("check", {AT.fragment(0) + FRAGMENT.strand: 2}), "refused 5 0", [
+        "fragment 0 is wrong", "strand 0 or 1", "Its words are 1 2"]),
+    (request("check", {AT.fragment(0) + FRAGMENT.first: -2}), "refused 5 0", ["-1, if it is absent, or in 0..2"]),
+    (late("arrive", CALLS=[0, 1, -27213, -59] * 2), "refused 5 1", ["arriving call 1 does not rise"]),
+    (late("arrive", STRAND=2), "refused 5 1", ["the arrival has 4 words and the strand 2", "the strand 0 or 1"]),
+    (late("arrive", CALLS=[0, 1, -27213]), "refused 5 0", ["the arrival has 3 words", "4 words for each call"]),
     (request("priors", rates=RATES[:5] + [0]), "refused 6 5", ["rate 5, tv, is 0", "-262144..-1"]),
     (request("priors", rates=[-1] * 6), "refused 6 6", ["the first four rates are too high", "less than 1"]),
     (request("phase", sets=[0, 2]), "refused 7 1", ["the set of variant 1 is 2", "below 2, or negative"]),
     (request("run", phase=[48]), "refused 7 2", ["`phase` has 1 element and `sets` 2", "each must have 2"]),
+    (late("depart", PHASE=[]), "refused 7 1", ["`phase` has 0 elements: it must have 1"]),
     (request("run", orders=[0, 1, 1, 1]), "refused 8 1", ["order 1 is no permutation", "variants 0..1 once"]),
     (request("run", orders=[0]), "refused 8 0", ["`orders` has 1 element", "a multiple of 2"]),
     (request("orders", rooms=[3]), "refused 8 0", ["`orders` has 3 elements", "a multiple of 2"]),
@@ -125,7 +156,15 @@ REFUSALS = [
     (request("run", rooms=[4, 2, 17, 2, 2]), "refused 10 18", ["`posteriors` has room for 17", "18 elements or more"]),
     (request("flist", rooms=[13]), "refused 10 14", ["`buffer` has room for 13", "14 elements or more"]),
     (request("filter", quals=[60.0]), "refused 10 2", ["`quals` has room for 1", "2 elements or more"]),
+    (late("arrive", COUNTS=[0] * 9), "refused 10 10", ["`counts` has room for 9", "10 elements or more"]),
+    (late("depart", LIKELIHOODS=[0] * 3, NUMBER=0), "refused 10 4", ["`likelihoods` has room for 3"]),
+    (late("arrive", TOTAL=1), "refused 10 0", ["a value is out of range", "as it would be written", "in 0..4096"]),
+    (late("arrive", TOTAL=LOWEST_LENT), "refused 10 0", ["in -1099511627776..0"]),
     (request("filter", density_qual=float("inf")), "refused 11 0", ["density_qual is inf", "must be finite"]),
+    (late("arrive", NUMBER=0), "refused 13 0", ["fragment 0 is present", "an absent one can arrive"]),
+    (late("depart"), "refused 13 1", ["fragment 1 is absent", "a present one can depart"]),
+    (late("depart", NUMBER=2), "refused 13 2", ["there is no fragment 2", "those below 2"]),
+    (FULL, "refused 14 1", ["the arrival has 1 call and there are 0 unused records"]),
 ]
 
 
@@ -135,12 +174,27 @@ def test_refusals():
         expect_in("%s of %s" % (refusal, asked.word), told, "Request 1, line 1: " + asked.word, refusal + ": ", *words)
         expect("status of " + refusal, status, 0)
     numbers = {int(refusal.split()[1]) for _, refusal, _ in REFUSALS}
-    expect("every number from 1 to 11 is refused once", numbers, set(range(1, 12)))
+    expect("every number is refused once, but for 12", numbers, set(range(1, 15)) - {12})
 
 
 def test_unsettled():
     told = command("--explain", "-", text=request("run", limit=1).text().encode())[0]
     expect_in("an unsettled run", told, "The run made 1 sweep, the most that its limit allows, and did not settle")
+
+
+def test_late():
+    """An arrival and the departure of the same read: the second gives back the values of the first."""
+    told = command("--explain", "-", text=late("arrive").text().encode())[0]
+    expect_in("an arrival", told, "1 variant, 2 fragments (1 absent), 0 calls",
+              "Fragment 1 arrived with 1 call, first record 1. Call records used: 1 of 1.",
+              "Its likelihoods are -27213 and -59. Phased total: -53108 steps. The sample is now unsettled.")
+    expect("the counts of an arrival", told.splitlines()[-1].split(), ["0", "100", "A/G", "0,1", "0,0", "0,1", "0"])
+    first, *lent = own_answer(late("arrive").text().encode()).splitlines()
+    words, likelihoods, counts = [[int(x) for x in line.split()] for line in lent]
+    back = Request("depart", words, LATE_CASE[1], [[48], [0, 1], likelihoods, counts, int(first.split()[2]), 1])
+    told = command("--explain", "-", text=back.text().encode())[0]
+    expect_in("a departure", told, "1 variant, 2 fragments, 1 call", "Fragment 1 left; its number is free.",
+              "Call records used: 1 of 1.", "Its likelihoods are 0 and 0. Phased total: -49012 steps.")
 
 
 # ---- Unreadable inputs: a text, its answer, what is said, the input's line and the mark below the token.
@@ -149,9 +203,9 @@ UNREADABLE = [
     ("\n chekc 1\n", "unreadable 2 1 request",
      "token 1 of the request, in line 2, is no word of a request; the words are check, priors",
      "  line 2:  chekc 1\n           ^\n"),
-    ("check 4 0 0\n0 zero 0", "unreadable 2 6 number", "is no whole number", "  line 2: 0 zero 0\n            ^\n"),
-    ("check 98325 " + "1 " * 99, "unreadable 1 2 length", "cannot hold", "  line 1: check 98325 1 1"),
-    ("check 4 0 # x\n0 0\n", "unreadable 3 6 end", "is missing: the input ends", "  line 3:\n          ^\n"),
+    ("check 5 0 0\n0 zero 0", "unreadable 2 6 number", "is no whole number", "  line 2: 0 zero 0\n            ^\n"),
+    ("check 98326 " + "1 " * 99, "unreadable 1 2 length", "cannot hold", "  line 1: check 98326 1 1"),
+    ("check 5 0 # x\n0 0\n", "unreadable 3 6 end", "is missing: the input ends", "  line 3:\n          ^\n"),
     ("check 99 " + "1 " * 80 + "y", "unreadable 1 83 number", "is no whole number", "  line 1: ... 1 1 1"),
 ]
 
@@ -257,8 +311,8 @@ def test_stale(root, wanted):
     expect("answers after a good check", build(root)[::2], (wanted, 0))
 
 
-TESTS = [test_samples, test_run_as_phase, test_refusals, test_unsettled, test_unreadable, test_help, test_faults,
-         test_build]
+TESTS = [test_samples, test_run_as_phase, test_refusals, test_unsettled, test_late, test_unreadable, test_help,
+         test_faults, test_build]
 
 
 def renew():

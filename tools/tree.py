@@ -1,17 +1,19 @@
 #!/usr/bin/env python3
-"""Writes samples/tree.txt, a run on a tree of twenty variants and sixty reads, with comments, and samples/tree.answer.
+"""Writes the samples: samples/tree.txt, a run on a tree of twenty variants and sixty reads, with comments, and its answer
+samples/tree.answer; and those of tools/samples.py.
 
 Run at the repository's root, after oracle/build: python3 tools/tree.py
 The tree is made up: two haplotypes, reads drawn from either with errors, a phase with two faults. The oracle and the
-model must give the same answer.
+model must give the same answers. tools/test_condorbed.py --renew then writes samples/expected.
 """
 import math
 import random
 import sys
 
+import samples
 from layout import CALL, FRAGMENT, HEAD, VARIANT, needs
 from model import Call, Case, Fragment, Variant, encode, sweep_orders
-from protocol import Request, ask, plain_text
+from protocol import Request, ask_oracle, plain_text
 
 # Position, alleles, the tree's pair, the genotype and the phase that the run is given, the phase set; then what it is.
 ROWS = [
@@ -93,7 +95,7 @@ def words_text(case, words):
     def record(kind):
         return plain_text(next(at) for _ in range(kind.words))
 
-    lines = ["# the words: how many; then the head: variants, fragments, calls, cutoff",
+    lines = ["# the words: how many; then the head: variants, fragments, call records, cutoff, call records used",
              "# (the cutoff is an error probability of 0.2, Phred 6.99; a call is used if its qual is below it)",
              "%d  %s" % (len(words), record(HEAD)),
              "# each variant: pos0, depth, genotype (2), alleles, their lengths (3)"]
@@ -130,13 +132,13 @@ def text(case, asked):
 def main():
     case = tree(SEED)
     asked = request(case)
-    answer = asked.answer()
-    if ask(["target/oracle/oracle"], [asked])[0] != answer:
-        sys.exit("the oracle and the model differ")
     with open("samples/tree.txt", "w") as out:
         out.write(text(case, asked))
     with open("samples/tree.answer", "w") as out:
-        out.write(answer)
+        out.write(asked.answer())
+    accepted = [request for request in [asked] + samples.write() if request.refusal() is None]
+    if ask_oracle(["target/oracle/oracle"], accepted)[0] != [request.answer() for request in accepted]:
+        sys.exit("the oracle and the model differ")
 
 
 if __name__ == "__main__":

@@ -22,6 +22,7 @@ OPERATIONS = {
     "haplotype_assembly/src/lib.rt": ["given_phase", "generate_flist_buffer"],
     "shuffle/src/lib.rt": ["sweep_orders"],
     "with_haplotypes/src/lib.rt": ["call_genotypes_with_haplotypes"],
+    "late_reads/src/lib.rt": ["arrive", "depart"],
     "condorbed/src/requests.rt": ["named"],
 }
 SAMPLES = "samples/specs/Samples.antt"

@@ -1,6 +1,7 @@
 //! The benchmark: one round of longshot's own code, of the static library and of bench/limit.c, in turn on each case.
 //!
-//! bench SECONDS FILE...   each file a `run` request; so many seconds per file; the last file's ratio is the last line
+//! bench SECONDS FILE...   each file a `run` request; so many seconds per file; the last file's ratio is the last line,
+//!                         after what an arrival and a departure take there
 //!
 //! What is timed of the Rust is `call_genotypes_with_haplotypes` (one round, by an infinite ll_delta) on variants,
 //! fragments and priors that are ready; of ours and of the limit the whole call, with the checks of all slices and the
@@ -59,20 +60,26 @@ mod variants_and_fragments;
 
 extern crate condorbed;
 
+mod late;
 mod limit;
 mod request;
 mod timing;
 
+use late::Late;
 use request::Request;
 use std::path::Path;
 use std::time::Duration;
 use std::{env, fs};
 use timing::{Times, TITLES};
 
+fn read(file: &str) -> Request {
+    let text = fs::read(file).expect("reading a request");
+    Request::read(&text).expect("a run request")
+}
+
 /// The line of one file, and its ratio.
 fn measured(file: &str, time: Duration) -> (String, f64) {
-    let text = fs::read(file).expect("reading a request");
-    let request = Request::read(&text).expect("a run request");
+    let request = read(file);
     let work = request.agreed();
     let times = Times::measure(&request, time);
     let name = Path::new(file).file_stem().expect("a name").to_string_lossy().into_owned();
@@ -89,6 +96,9 @@ fn main() {
         let (line, ratio) = measured(file, time);
         println!("{}", line);
         last = ratio;
+    }
+    if let Some(file) = arguments[1..].last() {
+        println!("{}", Late::new(&read(file)).measured(time));
     }
     println!("ratio {:.1}", last);
 }

@@ -16,10 +16,10 @@ pub struct Request {
     case: Case,
     priors: GenotypePriors,
     lent: Orders,
-    words: Vec<i32>,
-    bases: Vec<u8>,
-    rates: Rates,
-    phase: Phase,
+    pub words: Vec<i32>,
+    pub bases: Vec<u8>,
+    pub rates: Rates,
+    pub phase: Phase,
     orders: Vec<u32>,
     limit: u32,
 }
@@ -91,9 +91,14 @@ impl Request {
 
     /// One call of the library; its answer and its time.
     pub fn ours(&self, out: &mut Slices) -> (Round, Duration) {
+        self.ours_on(&self.words, out)
+    }
+
+    /// The same on other words of as many variants and fragments.
+    pub fn ours_on(&self, words: &[i32], out: &mut Slices) -> (Round, Duration) {
         let start = Instant::now();
         let answer = condorbed::call_genotypes_with_haplotypes(
-            &self.words, &self.bases, self.rates, &self.phase.bytes, &self.phase.sets, &self.orders, self.limit,
+            words, &self.bases, self.rates, &self.phase.bytes, &self.phase.sets, &self.orders, self.limit,
             &mut out.haplotypes, &mut out.likelihoods, &mut out.posteriors, &mut out.quals, &mut out.gqs,
         );
         let time = start.elapsed();

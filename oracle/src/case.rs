@@ -1,4 +1,5 @@
-//! A case of document 01, section 2, as the source's variants and fragments. The case is an accepted one.
+//! A case of document 01, section 2, as amended by request 1, as the source's variants and fragments. The case is an
+//! accepted one. An absent fragment is read as one without calls.
 //!
 //! Here, in `layout`, stand all strides, offsets and limits that the oracle and the benchmark know.
 
@@ -18,15 +19,20 @@ pub mod layout {
     pub const LOWEST: i32 = -262144;
 
     /// Words of the head and of each record.
-    const HEAD: usize = 4;
+    const HEAD: usize = 5;
     const VARIANT: usize = 8;
     const FRAGMENT: usize = 2;
     const CALL: usize = 5;
 
-    /// Written: 2 haplotype alleles per variant and 2 likelihoods per fragment; a table of all pairs per variant.
+    /// Written: 2 haplotype alleles per variant and 2 likelihoods per fragment; a table of all pairs per variant; the
+    /// values of calling without haplotypes, with the counts among them.
     #[allow(dead_code)] // the benchmark's
     pub const PAIR: usize = 2;
     pub const TABLE: usize = MAX_ALLELES * MAX_ALLELES;
+    #[allow(dead_code)] // the benchmark's
+    pub const CALLED: usize = 13;
+    #[allow(dead_code)] // the benchmark's
+    pub const COUNTED: ::std::ops::Range<usize> = 2..12;
 
     /// The words of a case.
     pub struct Words<'a>(pub &'a [i32]);
@@ -53,6 +59,10 @@ pub mod layout {
             self.0[3]
         }
 
+        pub fn used(&self) -> usize {
+            self.0[4] as usize
+        }
+
         pub fn variant(&self, v: usize) -> VariantWords<'a> {
             VariantWords(self.record(HEAD + VARIANT * v, VARIANT))
         }
@@ -61,8 +71,9 @@ pub mod layout {
             FragmentWords(self.record(HEAD + VARIANT * self.n() + FRAGMENT * f, FRAGMENT))
         }
 
-        /// Calls are numbered from 1.
+        /// Calls are numbered from 1; those past the used ones are not read.
         pub fn call(&self, r: usize) -> CallWords<'a> {
+            assert!(r <= self.used(), "a chain into the unused records");
             CallWords(self.record(HEAD + VARIANT * self.n() + FRAGMENT * self.f() + CALL * (r - 1), CALL))
         }
 
@@ -74,9 +85,22 @@ pub mod layout {
         /// layout, not the check of a case.
         pub fn sized(&self) -> bool {
             let (n, f, c) = (self.n(), self.f(), self.c());
-            let within = n <= MAX_VARIANTS && f <= MAX_FRAGMENTS && c <= MAX_CALLS;
+            let within = n <= MAX_VARIANTS && f <= MAX_FRAGMENTS && c <= MAX_CALLS && self.used() <= c;
             within && ranged(self.cutoff()) && self.0.len() == HEAD + VARIANT * n + FRAGMENT * f + CALL * c
         }
+    }
+
+    /// Takes the last fragment out, whose records are the last ones and are unused then. Its strand, and its calls as an
+    /// arrival gives them.
+    #[allow(dead_code)] // the benchmark's
+    pub fn take_last(words: &mut [i32]) -> (i32, Vec<i32>) {
+        let (f, c) = (Words(words).f(), Words(words).c());
+        let (first, strand) = (Words(words).fragment(f - 1).first(), Words(words).fragment(f - 1).strand());
+        let calls = (first..c + 1).flat_map(|r| Words(words).call(r).0[..CALL - 1].to_vec()).collect();
+        let at = HEAD + VARIANT * Words(words).n() + FRAGMENT * (f - 1);
+        words[at] = -1;
+        words[4] = first as i32 - 1;
+        (strand, calls)
     }
 
     /// Whether it is a cutoff or a quality.
@@ -109,8 +133,9 @@ pub mod layout {
     }
 
     impl<'a> FragmentWords<'a> {
+        /// The first call; 0 for a fragment without calls and for an absent one, whose word is -1.
         pub fn first(&self) -> usize {
-            self.0[0] as usize
+            self.0[0].max(0) as usize
         }
 
         pub fn strand(&self) -> i32 {
@@ -172,6 +197,14 @@ impl Case {
         self.varlist.lst.len()
     }
 
+    /// The case with one variant more, behind the others: of one allele, and called by no fragment.
+    pub fn with_idle_variant(&self) -> Case {
+        let mut vars = self.varlist.lst.clone();
+        let pos0 = vars.last().map_or(0, |var| var.pos0);
+        vars.push(variant_of(pos0, 0, Genotype(0, 0), vec!["A".to_string()]));
+        Case { varlist: var_list(vars), flist: self.flist.clone(), max_p_miscall: self.max_p_miscall }
+    }
+
     pub fn with_genotypes(&self, genotypes: &[Genotype]) -> Case {
         let mut case = self.clone();
         for (var, g) in case.varlist.lst.iter_mut().zip(genotypes) {
@@ -210,23 +243,29 @@ fn var_list(vars: Vec<Var>) -> VarList {
 
 fn variant<I: Iterator<Item = char>>(words: &Words, v: usize, bases: &mut I) -> Var {
     let words = words.variant(v);
-    let (k, (a, b)) = (words.k(), words.genotype());
+    let (a, b) = words.genotype();
     let lengths = words.lengths().iter().map(|l| *l as usize);
     let alleles: Vec<String> = lengths.map(|l| bases.by_ref().take(l).collect()).collect();
     assert!(alleles.iter().all(|x| 1 <= x.len() && x.len() <= MAX_LENGTH), "an allele's length");
+    variant_of(words.pos0(), words.dp(), Genotype(a, b), alleles)
+}
+
+/// A variant as the source has it before any calling; its list gives it its number.
+fn variant_of(pos0: usize, dp: usize, genotype: Genotype, alleles: Vec<String>) -> Var {
+    let k = alleles.len();
     Var {
-        ix: v,
+        ix: 0,
         tid: 0,
-        pos0: words.pos0(),
+        pos0: pos0,
         alleles: alleles,
-        dp: words.dp(),
+        dp: dp,
         allele_counts: vec![0; k],
         allele_counts_forward: vec![0; k],
         allele_counts_reverse: vec![0; k],
         ambiguous_count: 0,
         qual: 0.0,
         filter: VarFilter::Pass,
-        genotype: Genotype(a, b),
+        genotype: genotype,
         gq: 0.0,
         unphased_genotype: Genotype(0, 0),
         unphased_gq: 0.0,

@@ -4,13 +4,14 @@ use bio::stats::LogProb;
 use call_genotypes::call_genotypes_no_haplotypes;
 use case::Case;
 use case::layout::{MAX_ALLELES, TABLE};
-use genotype_probs::{Genotype, GenotypeProbs};
+use genotype_probs::GenotypeProbs;
 use haplotype_assembly::generate_flist_buffer;
 use protocol::{Answer, Output, Tokens};
 use rand::rngs::StdRng;
 use rand::seq::SliceRandom;
 use rand::{self, Orders, SeedableRng};
-use rounds::{genotype_priors, phased_case, phased_flags, phased_total, round, Phase};
+use rounds::{first_likelihoods, genotype_priors, genotypes, likelihoods};
+use rounds::{phased_case, phased_flags, phased_total, round, Phase};
 use variants_and_fragments::{var_filter, Var};
 
 /// The source's own limit of sweeps.
@@ -35,6 +36,7 @@ pub fn answer(word: &[u8], tokens: &mut Tokens, mode: Mode) -> Option<Answer> {
         b"flist" => flist(tokens),
         b"filter" => filter(tokens),
         b"orders" => orders(tokens),
+        b"afresh" => afresh(tokens),
         _ => None,
     }
 }
@@ -59,6 +61,19 @@ fn three(counts: &[u16]) -> Vec<i64> {
     (0..MAX_ALLELES).map(|a| counts.get(a).map_or(0, |x| i64::from(*x))).collect()
 }
 
+/// The counts of a variant: by allele, on each strand, ambiguous.
+fn counts(v: &Var) -> Vec<i64> {
+    let mut values = three(&v.allele_counts);
+    values.extend(three(&v.allele_counts_forward));
+    values.extend(three(&v.allele_counts_reverse));
+    values.push(i64::from(v.ambiguous_count));
+    values
+}
+
+fn steps(probs: Vec<LogProb>) -> Vec<i64> {
+    probs.into_iter().map(|p| p.0 as i64).collect()
+}
+
 fn pairs(vars: &[Var]) -> Vec<u8> {
     vars.iter().flat_map(|v| vec![v.genotype.0, v.genotype.1]).collect()
 }
@@ -80,10 +95,7 @@ fn nohap(tokens: &mut Tokens) -> Option<Answer> {
     let vars = &case.varlist.lst;
     let values = vars.iter().flat_map(|v| {
         let mut values = vec![i64::from(v.genotype.0), i64::from(v.genotype.1)];
-        values.extend(three(&v.allele_counts));
-        values.extend(three(&v.allele_counts_forward));
-        values.extend(three(&v.allele_counts_reverse));
-        values.push(i64::from(v.ambiguous_count));
+        values.extend(counts(v));
         values.push(v.dp as i64);
         values
     });
@@ -144,7 +156,6 @@ fn ran(case: &Case, rates: &[i32], phase: &Phase, orders: Orders, limit: usize, 
     let sweeps = rand::sweeps();
     assert!(sweeps < MAX_ITERATIONS, "the source's own limit does not tell whether its last sweep changed something");
     let settled = sweeps <= limit;
-    let genotypes = |case: &Case| case.varlist.lst.iter().map(|v| v.genotype).collect::<Vec<Genotype>>();
     let flags = phased_flags(case, phase);
     let total = |at: &Case| phased_total(case, &priors, &flags, &genotypes(at));
     let fields = format!(
@@ -167,10 +178,9 @@ fn run_outputs(called: &Case, rooms: &[usize]) -> Vec<Output> {
     let vars = &called.varlist.lst;
     let sums = vars.iter().map(|v| v.genotype_post.sum());
     assert!(sums.into_iter().all(|sum| sum == LogProb::ln_one()), "a sum of row sums is not 0 after normalize");
-    let likelihoods = called.flist.iter().flat_map(|f| f.p_read_hap.to_vec());
     vec![
         Output::bytes(rooms[0], pairs(vars).into_iter()),
-        Output::integers(rooms[1], likelihoods.map(|p| p.0 as i64)),
+        Output::integers(rooms[1], steps(likelihoods(called)).into_iter()),
         Output::integers(rooms[2], vars.iter().flat_map(|v| nine(&v.genotype_post))),
         Output::qualities(rooms[3], vars.iter().map(|v| v.qual)),
         Output::qualities(rooms[4], vars.iter().map(|v| v.gq)),
@@ -217,4 +227,21 @@ fn orders(tokens: &mut Tokens) -> Option<Answer> {
         written.extend(order.into_iter().map(|v| v as i64));
     }
     Some(Answer::new(String::new(), vec![Output::integers(room, written.into_iter())]))
+}
+
+/// No operation of the program: what arrivals and departures update, taken afresh at section 5's haplotypes. The phased
+/// total at the start of a run, the likelihoods before its first sweep, and the counts of calling without haplotypes.
+fn afresh(tokens: &mut Tokens) -> Option<Answer> {
+    let case = Case::read(tokens)?;
+    let priors = genotype_priors(&rates(tokens)?);
+    let phase = Phase { bytes: tokens.slice(|t| t.u8())?, sets: vec![-1; case.n()] };
+    let rooms = rooms(tokens, 2)?;
+    let total = phased_total(&case, &priors, &phased_flags(&case, &phase), &genotypes(&phased_case(&case, &phase)));
+    let mut called = case.clone();
+    call_genotypes_no_haplotypes(&case.flist, &mut called.varlist, &priors, case.max_p_miscall).expect("calling");
+    let outputs = vec![
+        Output::integers(rooms[0], steps(first_likelihoods(&case, &phase)).into_iter()),
+        Output::integers(rooms[1], called.varlist.lst.iter().flat_map(counts)),
+    ];
+    Some(Answer::new(format!(" {}", total), outputs))
 }

@@ -93,3 +93,24 @@ pub fn phased_total(case: &Case, priors: &GenotypePriors, flags: &[bool], haplot
     let converted = round(&mut cut, priors, &Phase::all(b'-', n), Orders::Leave, 1);
     *converted.last().expect("the total after HapCUT2") as i64
 }
+
+/// The likelihoods before the first sweep, 2 per fragment. The source writes them after its sweeps; here one sweep visits
+/// a variant of one allele that no fragment calls, again and again, which changes nothing.
+pub fn first_likelihoods(case: &Case, phase: &Phase) -> Vec<LogProb> {
+    let (mut longer, mut phase) = (case.with_idle_variant(), phase.clone());
+    phase.bytes.push(b'-');
+    phase.sets.push(-1);
+    let n = case.n();
+    round(&mut longer, &some_priors(), &phase, Orders::Lent(vec![vec![n; n + 1]]), 1);
+    assert!(rand::sweeps() == 1, "a sweep over an idle variant changed something");
+    likelihoods(&longer)
+}
+
+/// The likelihoods that a round wrote, 2 per fragment.
+pub fn likelihoods(called: &Case) -> Vec<LogProb> {
+    called.flist.iter().flat_map(|f| f.p_read_hap.to_vec()).collect()
+}
+
+pub fn genotypes(case: &Case) -> Vec<Genotype> {
+    case.varlist.lst.iter().map(|v| v.genotype).collect()
+}

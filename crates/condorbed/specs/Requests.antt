@@ -5,7 +5,7 @@ use Prim.Native.Nat.{ℕ}
 use lib.Dec.{eqb}
 use Rattle.protocol.specs.Word.{wordOf}
 use Rattle.condorbed.specs.declared.requests.Operation.{Operation}
-use Rattle.condorbed.specs.declared.requests.Operation.the-variants.{Check, Filter, Priors, Orders, Phase, Flist, Nohap, Run}
+use Rattle.condorbed.specs.declared.requests.Operation.the-variants.{Check, Filter, Priors, Orders, Phase, Flist, Nohap, Run, Arrive, Depart}
 use Rattle.condorbed.specs.declared.requests.Asked.{Asked}
 use Rattle.condorbed.specs.declared.requests.Asked.the-variants.{End, For, Unknown}
 
@@ -37,6 +37,10 @@ requests =
     ∷ row (110 ∷ 111 ∷ 104 ∷ 97 ∷ 112 ∷ []) Nohap
     -- run
     ∷ row (114 ∷ 117 ∷ 110 ∷ []) Run
+    -- arrive
+    ∷ row (97 ∷ 114 ∷ 114 ∷ 105 ∷ 118 ∷ 101 ∷ []) Arrive
+    -- depart
+    ∷ row (100 ∷ 101 ∷ 112 ∷ 97 ∷ 114 ∷ 116 ∷ []) Depart
     ∷ []
 
 -- what the first of these rows asks for whose name passes the test

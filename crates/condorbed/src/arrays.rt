@@ -39,12 +39,18 @@ const HAPLOTYPES: usize = 2 * MAX_VARIANTS + SPARE;
 // Two likelihoods per fragment, one for each haplotype.
 const LIKELIHOODS: usize = 2 * MAX_FRAGMENTS + SPARE;
 
+// Ten counts per variant.
+const COUNTS: usize = 10 * MAX_VARIANTS + SPARE;
+
+// The calls of an arriving read, at most one per variant, four words each.
+const CALLS: usize = 4 * MAX_VARIANTS + SPARE;
+
 // A fragment's line: 10 bytes, and 8 per call.
 const LINES: usize = 10 * MAX_FRAGMENTS + 8 * MAX_CALLS + SPARE;
 
 const ORDERS: usize = 65536;
 
-// ---- read by the operations
+// ---- read by the operations; arrivals and departures write words and counts too
 
 pub fn words() -> [i32; WORDS] {
     [0; WORDS]
@@ -62,7 +68,15 @@ pub fn sets() -> [i32; ONES] {
     [0; ONES]
 }
 
-// ---- written by an operation (quals and orders are read by others)
+pub fn counts() -> [i32; COUNTS] {
+    [0; COUNTS]
+}
+
+pub fn calls() -> [i32; CALLS] {
+    [0; CALLS]
+}
+
+// ---- written by an operation (quals, orders, haplotypes and likelihoods are read by others)
 
 pub fn priors() -> [i64; PAIRS] {
     [77; PAIRS]

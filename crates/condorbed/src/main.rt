@@ -4,6 +4,7 @@ mod arrays;
 mod check;
 mod filter;
 mod flist;
+mod late;
 mod nohap;
 mod orders;
 mod parts;

@@ -12,6 +12,7 @@ use crate::answers::unreadable;
 use crate::check;
 use crate::filter;
 use crate::flist;
+use crate::late;
 use crate::nohap;
 use crate::orders;
 use crate::parts::read_case;
@@ -33,6 +34,8 @@ pub enum Operation {
     Flist,
     Nohap,
     Run,
+    Arrive,
+    Depart,
 }
 
 // What the next word of the input asks for: nothing at the end of the input.
@@ -62,6 +65,10 @@ const NOHAP: u64 = 1573827142000;
 
 const RUN: u64 = 24278382;
 
+const ARRIVE: u64 = 388619150390885;
+
+const DEPART: u64 = 391861816619636;
+
 // What a word asks for.
 fn named(word: u64) -> Asked
     ensures { λ r. ⌜ r ≡ askedByWord word ⌝ }
@@ -76,6 +83,8 @@ fn named(word: u64) -> Asked
         FLIST => Asked::For(Operation::Flist),
         NOHAP => Asked::For(Operation::Nohap),
         RUN => Asked::For(Operation::Run),
+        ARRIVE => Asked::For(Operation::Arrive),
+        DEPART => Asked::For(Operation::Depart),
         _ => Asked::Unknown,
     }
 }
@@ -124,7 +133,14 @@ fn answer_case(
     let w = case.words;
     let b = case.bases;
     let after = case.reader;
-    answer_operation(operation, input, after, output, &words[..w], &bases[..b])
+    answer_operation(
+        operation,
+        input,
+        after,
+        output,
+        &mut words[..w],
+        &bases[..b],
+    )
 }
 
 // The same once the case is read.
@@ -133,7 +149,7 @@ fn answer_operation(
     input: &mut Buffer,
     reader: Reader,
     output: &mut Buffer,
-    words: &[i32],
+    words: &mut [i32],
     bases: &[u8],
 ) -> Reader {
     match operation {
@@ -145,5 +161,7 @@ fn answer_operation(
         Operation::Flist => flist::answer(input, reader, output, words, bases),
         Operation::Nohap => nohap::answer(input, reader, output, words, bases),
         Operation::Run => run::answer(input, reader, output, words, bases),
+        Operation::Arrive => late::answer(input, reader, output, words, bases, true),
+        Operation::Depart => late::answer(input, reader, output, words, bases, false),
     }
 }

@@ -3,12 +3,15 @@
 use mathlib.Core.Path.{_≡_, refl, sym, ap, _∙_, subst}
 use Rattle.variants_and_fragments.specs.declared.Sizes.{Sizes}
 use Rattle.variants_and_fragments.specs.declared.Refusal.{Refusal}
-use Rattle.variants_and_fragments.specs.declared.Refusal.the-variants.{Head, Variant, Alleles, Call, Chain, Rates, Phase, Orders, Limit, Short, DensityQual, Normalize}
+use Rattle.variants_and_fragments.specs.declared.Refusal.the-variants.{Head, Variant, Alleles, Call, Chain, Rates, Phase, Orders, Limit, Short, DensityQual, Normalize, Fragment, Room}
 use Rattle.variants_and_fragments.specs.Refusals.{Outcome, done, number, place, refusal}
 use Rattle.haplotype_assembly.specs.FlistBuffer.{Amount}
 use Rattle.with_haplotypes.specs.declared.RoundAnswer.{RoundAnswer}
+use Rattle.late_reads.specs.declared.Updated.{Updated}
+use Rattle.late_reads.specs.declared.Updated.the-variants.{Unsettled, Refused}
+use Rattle.late_reads.specs.LateReads as late
 use Rattle.exports.specs.declared.answers.Answer.{Answer}
-use Rattle.exports.specs.Answers.{readAs, readAnswer, readCheck, readFlist, readRound, answerOf, numbersOf, checkNumbers, flistNumbers, roundNumbers, Exported}
+use Rattle.exports.specs.Answers.{readAs, readAnswer, readCheck, readFlist, readRound, readLate, answerOf, numbersOf, checkNumbers, flistNumbers, roundNumbers, lateNumbers, Exported}
 
 -- the numbers a are those of the outcome, and are read as it
 pub record Numbers {X N : Type 0} (read : N → Outcome X) (numbers : Outcome X → N) (outcome : Outcome X) (a : N) : Type 0 where
@@ -34,6 +37,8 @@ reads-refusal (Limit p) values = refl
 reads-refusal (Short p) values = refl
 reads-refusal (DensityQual p) values = refl
 reads-refusal (Normalize p) values = refl
+reads-refusal (Fragment p) values = refl
+reads-refusal (Room p) values = refl
 
 -- ---- with no values
 -- of an outcome that is known, and of an answer that is known to have these numbers
@@ -71,3 +76,9 @@ round-done x = record { reads = refl; exact = refl }
 pub round-refused : (x : Refusal) → Numbers readRound roundNumbers (refusal x) (roundNumbers (refusal x))
 unfolding readRound roundNumbers
 round-refused x = record { reads = reads-refusal x _; exact = refl }
+
+-- ---- of an arrival or a departure
+pub late-numbers : (u : Updated) → Numbers readLate lateNumbers (late.outcomeOf u) (lateNumbers (late.outcomeOf u))
+unfolding readLate readAs lateNumbers late.outcomeOf
+late-numbers (Unsettled total) = record { reads = refl; exact = refl }
+late-numbers (Refused x) = record { reads = reads-refusal x _; exact = refl }

@@ -19,10 +19,12 @@ use Rattle.with_haplotypes.specs.Promise.{RoundSlices, CalledWithHaplotypes}
 use Rattle.exports.specs.declared.answers.Answer.{Answer}
 use Rattle.exports.specs.declared.answers.CheckAnswer.{CheckAnswer}
 use Rattle.exports.specs.declared.answers.FlistAnswer.{FlistAnswer}
+use Rattle.late_reads.specs.LateReads as late
 use Rattle.exports.specs.declared.answers.RoundAnswer.{RoundAnswer}
+use Rattle.exports.specs.declared.answers.LateAnswer.{LateAnswer}
 use Rattle.exports.specs.declared.inputs.Rates.{Rates}
 use Rattle.exports.specs.declared.inputs.DensityParameters.{DensityParameters}
-use Rattle.exports.specs.Answers.{Exported, readAnswer, readCheck, readFlist, readRound, numbersOf, checkNumbers, flistNumbers, roundNumbers}
+use Rattle.exports.specs.Answers.{Exported, readAnswer, readCheck, readFlist, readRound, readLate, numbersOf, checkNumbers, flistNumbers, roundNumbers, lateNumbers}
 use Rattle.exports.specs.Inputs.{ratesOf, densityOf}
 
 abbrev pub CheckCase : List ℤ → List ℕ → CheckAnswer → Type 0
@@ -52,3 +54,10 @@ SweepOrders w b seed before a after = Exported readAnswer numbersOf (λ answer. 
 abbrev pub CallGenotypesWithHaplotypes : RoundInput → List ℤ → RoundSlices → RoundAnswer → RoundSlices → Type 0
 CallGenotypesWithHaplotypes input sets before a after =
     Exported readRound roundNumbers (λ answer. CalledWithHaplotypes input sets before answer after) a
+
+-- request 1
+abbrev pub Arrives : late.LateInput → ℕ → ℤ → List ℤ → LateAnswer → late.LateSlices → Type 0
+Arrives input f strand calls a after = Exported readLate lateNumbers (λ answer. late.Arrives input f strand calls answer after) a
+
+abbrev pub Departs : late.LateInput → ℕ → LateAnswer → late.LateSlices → Type 0
+Departs input f a after = Exported readLate lateNumbers (λ answer. late.Departs input f answer after) a

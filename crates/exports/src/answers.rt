@@ -21,6 +21,7 @@ pub struct CheckAnswer {
     pub n: usize,
     pub f: usize,
     pub c: usize,
+    pub used: usize,
     pub cutoff: i32,
 }
 
@@ -44,6 +45,15 @@ pub struct RoundAnswer {
     pub start: i64,
     pub end: i64,
     pub source: i64,
+}
+
+// The answer of an arrival or a departure: where done, that the sample is not settled, and the new phased total; else these are 0.
+#[repr(C)]
+pub struct LateAnswer {
+    pub number: usize,
+    pub place: usize,
+    pub settled: bool,
+    pub total: i64,
 }
 
 // Done, with no values.

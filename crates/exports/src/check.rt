@@ -18,6 +18,7 @@ pub extern "C" fn condorbed_check_case(words: &[i32], bases: &[u8]) -> CheckAnsw
             n: s.n,
             f: s.f,
             c: s.c,
+            used: s.used,
             cutoff: s.cutoff,
         },
         Checked::Refused(x) => CheckAnswer {
@@ -26,6 +27,7 @@ pub extern "C" fn condorbed_check_case(words: &[i32], bases: &[u8]) -> CheckAnsw
             n: 0,
             f: 0,
             c: 0,
+            used: 0,
             cutoff: 0,
         },
     }

@@ -7,6 +7,7 @@ mod check;
 mod filter;
 mod flist;
 mod inputs;
+mod late;
 mod nohap;
 mod orders;
 mod phase;

@@ -1,3 +1,13 @@
+pub mod Below
+pub mod ArrivalTests
+pub mod KeptCase
+pub mod ValuesDecoded
+pub mod Promised
+pub mod Ranged
+pub mod ReadShares
+pub mod Places
+pub mod Counting
+pub mod ReadCalls
 pub mod WordsAfter
 pub mod OneChanged
 pub mod AcceptedAfter

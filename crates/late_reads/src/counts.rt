@@ -8,7 +8,7 @@ ghost use Rattle.variants_and_fragments.specs.Layout.{cutoffAt};
 ghost use Rattle.variants_and_fragments.specs.Decode.{callFrom, fragmentFrom};
 ghost use Rattle.variants_and_fragments.specs.Inner.Accepted.{CaseIn};
 ghost use Rattle.late_reads.specs.Arriving.{wholeCalls, arrivingCall, arrivingRead};
-ghost use Rattle.late_reads.specs.Inner.Counting.{addAt, countedCall, countCall, callFits, Countable, CountsIn, countsArrived, countsDeparted, countsFit};
+ghost use Rattle.late_reads.specs.Inner.Counting.{addAt, countedCall, countCall, fitsAt, callFits, Countable, CountsIn, countsArrived, countsDeparted, countsFit};
 ghost use Rattle.late_reads.specs.Inner.Ready.{Arriving};
 use crate::Arrival;
 use crate::arriving::ARRIVING_WORDS;
@@ -32,18 +32,26 @@ pub struct CountedCall {
     pub usable: bool,
 }
 
-// What the counts of a call at its read's strand would be with d more are in range; d is 1 or −1.
+// A count with d more is in range; d is 1 or −1.
+fn fits_at(counts: &[i32], e: usize, d: i32) -> bool
+    requires { ⌜ CountsIn (now counts) e d ⌝ }
+    ensures { λ r. ⌜ r ≡ fitsAt d e (now (counts .entry)) ⌝ }
+{
+    count_ok(counts[e] + d)
+}
+
+// What the counts of a call at its read's strand would be with d more are in range.
 fn call_fits(counts: &[i32], call: CountedCall, strand: usize, d: i32) -> bool
     requires { ⌜ Countable (now counts) strand d call ⌝ }
     ensures { λ r. ⌜ r ≡ callFits d strand call (now (counts .entry)) ⌝ }
 {
     let at = 10 * call.variant;
     if call.usable {
-        let one = count_ok(counts[at + call.allele] + d);
-        let two = count_ok(counts[at + 3 * (1 + strand) + call.allele] + d);
+        let one = fits_at(counts, at + call.allele, d);
+        let two = fits_at(counts, at + 3 * (1 + strand) + call.allele, d);
         return one & two;
     }
-    count_ok(counts[at + 9] + d)
+    fits_at(counts, at + 9, d)
 }
 
 // Adds d to a count.

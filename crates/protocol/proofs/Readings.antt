@@ -4,10 +4,10 @@ use mathlib.Core.Bool.{Bool, true, false, _&&_, and-false, false≢true}
 use Prim.Native.Nat.{ℕ, _≤_, _<_, _^_}
 use lib.Dec.{leb}
 use borrow.Author.Tests.{lt-ltb, le-ltb, leb-true}
+use lib.IntN.{ℤ}
 use Rattle.protocol.specs.Text.{isDigit}
-use Rattle.protocol.specs.Inner.State.{grown, spoilt, natural, isNatural, isInteger, i32In, i32Sizes, withSign}
+use Rattle.protocol.specs.Inner.State.{grown, spoilt, natural, isNatural, isInteger, integral, signedSizes, withSign}
 use Rattle.protocol.specs.declared.number.Number.{Number}
-use Rattle.protocol.specs.declared.number.ReadI32.the-variants.{Value as I32·Value, Unreadable as I32·Unreadable}
 
 -- The unsigned types; `found` is what `is_natural` answers.
 module _ {A : Type 0} (limit : ℕ) (value : ℕ → A) (unreadable : A) (s : Number) where
@@ -23,18 +23,19 @@ module _ {A : Type 0} (limit : ℕ) (value : ℕ → A) (unreadable : A) (s : Nu
   unfolding natural
   natural-large l = simp (le-ltb (s .value) limit l, and-false)
 
-module _ (s : Number) where
-  pub i32-none : isInteger s ≡ false → I32·Unreadable ≡ i32In s
-  unfolding i32In
-  i32-none h = simp h
+-- The signed types, of sizes up to p.
+module _ {A : Type 0} (p : ℕ) (value : ℤ → A) (unreadable : A) (s : Number) where
+  pub integral-none : isInteger s ≡ false → unreadable ≡ integral p value unreadable s
+  unfolding integral
+  integral-none h = simp h
 
-  pub i32-value : (n : Bool) → s .negative ≡ n → isInteger s ≡ true → s .value < i32Sizes n → I32·Value (withSign n (s .value)) ≡ i32In s
-  unfolding i32In
-  i32-value n e h l = simp (e, h, lt-ltb (s .value) (i32Sizes n) l)
+  pub integral-value : (n : Bool) → s .negative ≡ n → isInteger s ≡ true → s .value < signedSizes p n → value (withSign n (s .value)) ≡ integral p value unreadable s
+  unfolding integral
+  integral-value n e h l = simp (e, h, lt-ltb (s .value) (signedSizes p n) l)
 
-  pub i32-large : (n : Bool) → s .negative ≡ n → i32Sizes n ≤ s .value → I32·Unreadable ≡ i32In s
-  unfolding i32In
-  i32-large n e l = simp (e, le-ltb (s .value) (i32Sizes n) l, and-false)
+  pub integral-large : (n : Bool) → s .negative ≡ n → signedSizes p n ≤ s .value → unreadable ≡ integral p value unreadable s
+  unfolding integral
+  integral-large n e l = simp (e, le-ltb (s .value) (signedSizes p n) l, and-false)
 
 module _ (s : Number) (v : ℕ) where
   pub grown-value : v < 2 ^ 64 → record { negative = s .negative; digits = true; bad = s .bad; value = v } ≡ grown s v

@@ -3,15 +3,16 @@
 use mathlib.Core.Path.{_≡_, refl, sym, ap, _∙_, subst}
 use mathlib.Core.Bool.{Bool, true, false, cond, not, _&&_, _||_, and-false, and-true, or-true}
 use mathlib.Core.List.{List, [], _∷_}
-use Prim.Native.Nat.{ℕ, zero, suc, _+_, _-_, _*_, _≤_, _^_}
+use Prim.Native.Nat.{ℕ, zero, suc, _+_, _-_, _*_, _≤_, _^_, _<_}
 use native.Mathlib.Omega.{arith}
 use native.Mathlib.Nat.{pow-succ', mul-assoc, add-mul, add-assoc, le-mul-of-pos-right, one-le-pow}
+use lib.IntN.{ℤ}
 use lib.Dec.{eqb, ltb, leb·suc-suc, eqb·suc-zero}
 use lib.Ieee.{binary64, ofBits}
 use lib.ListN.{length}
-use borrow.Author.Tests.{le-ltb, ltb-true, ltb-false, lt-leb, eqb-true}
+use borrow.Author.Tests.{lt-ltb, le-ltb, ltb-true, ltb-false, lt-leb, eqb-true}
 use Rattle.protocol.specs.Text.{isDigit, allDigits, isNumeral, valueOf, Reading, none, integer, intOf}
-use Rattle.protocol.specs.Inner.State.{start, spoilt, grown, signed, pushed, pushedAll, isInteger, isNatural, natural, naturalOf, withSign, i32Sizes, i32In, i32Of, u8In, u8Of, u32In, u32Of, u64In, u64Of, f64In, f64Of, lengthIn, lengthOf}
+use Rattle.protocol.specs.Inner.State.{start, spoilt, grown, signed, pushed, pushedAll, isInteger, isNatural, natural, naturalOf, withSign, signedSizes, integral, integralOf, i32In, i32Of, i64In, i64Of, u8In, u8Of, u32In, u32Of, u64In, u64Of, f64In, f64Of, lengthIn, lengthOf}
 use Rattle.protocol.specs.declared.number.Number.{Number}
 use Rattle.protocol.specs.declared.number.ReadU8.the-variants.{Value as U8·Value, Unreadable as U8·Unreadable}
 use Rattle.protocol.specs.declared.number.ReadU32.the-variants.{Value as U32·Value, Unreadable as U32·Unreadable}
@@ -19,6 +20,7 @@ use Rattle.protocol.specs.declared.number.ReadU64.the-variants.{Value as
 use Rattle.protocol.specs.declared.number.ReadF64.the-variants.{Value as F64·Value, Unreadable as F64·Unreadable}
 use Rattle.protocol.specs.declared.number.ReadLength.the-variants.{Value as Length·Value, Unreadable as Length·Unreadable}
 use Rattle.protocol.specs.declared.number.ReadI32.the-variants.{Value as I32·Value, Unreadable as I32·Unreadable}
+use Rattle.protocol.specs.declared.number.ReadI64.the-variants.{Value as I64·Value, Unreadable as I64·Unreadable}
 use Rattle.protocol.proofs.Readings.{grown-value, grown-large}
 
 -- A reading that no type holds: none, or a size of 2^64 or more.
@@ -210,24 +212,25 @@ module _ {A : Type 0} (limit : ℕ) (value : ℕ → A) (unreadable : A) where
   shows-natural (unread e u) h = simp e (unfit-natural u h)
   shows-natural {s} (holds e) h = simp e (by-sign (s .negative) (s .value))
 
--- What a state shows, as an i32.
-by-sign-i32 : (n : Bool) (v : ℕ) → cond (ltb v (i32Sizes n)) (I32·Value (withSign n v)) I32·Unreadable ≡ i32Of (integer (withSign n v))
-unfolding i32Of i32Sizes withSign
-by-sign-i32 false v = simp (leb·suc-suc v 2147483647)
-by-sign-i32 true zero = refl
-by-sign-i32 true (suc v) = simp (leb·suc-suc (suc v) 2147483648, leb·suc-suc v 2147483647, and-true)
+-- What a state shows, at a signed type whose largest number is q.
+module _ {A : Type 0} (q : ℕ) (value : ℤ → A) (unreadable : A) where
+  signed-reading : (n : Bool) (v : ℕ) → cond (ltb v (signedSizes (suc q) n)) (value (withSign n v)) unreadable ≡ integralOf (suc q) value unreadable (integer (withSign n v))
+  unfolding integralOf signedSizes withSign
+  signed-reading false v = refl
+  signed-reading true zero = simp (lt-ltb 0 (suc q + 1) (omega arith), lt-ltb 0 (suc q) (omega arith))
+  signed-reading true (suc v) = let e : suc q + 1 ≡ suc (suc q) = omega arith in simp (e, leb·suc-suc (suc v) (suc q), leb·suc-suc v q, and-true)
 
-unfit-i32 : {r : Reading} → Unfit r → I32·Unreadable ≡ i32Of r
-unfolding i32Of withSign
-unfit-i32 nothing = refl
-unfit-i32 (huge false m l) = simp (lt-leb m 2147483647 (omega arith))
-unfit-i32 (huge true zero l) = absurd (omega arith)
-unfit-i32 (huge true (suc m) l) = simp (lt-leb m 2147483647 (omega arith))
+  unfit-integral : {r : Reading} → Unfit r → q < 2 ^ 63 → unreadable ≡ integralOf (suc q) value unreadable r
+  unfolding integralOf withSign
+  unfit-integral nothing top = refl
+  unfit-integral (huge false m l) top = simp (le-ltb m (suc q) (omega arith))
+  unfit-integral (huge true zero l) top = absurd (omega arith)
+  unfit-integral (huge true (suc m) l) top = simp (lt-leb m q (omega arith))
 
-shows-i32 : {s : Number} {r : Reading} → Shows s r → i32In s ≡ i32Of r
-unfolding i32In
-shows-i32 (unread e u) = simp e (unfit-i32 u)
-shows-i32 {s} (holds e) = simp e (by-sign-i32 (s .negative) (s .value))
+  shows-integral : {s : Number} {r : Reading} → Shows s r → q < 2 ^ 63 → integral (suc q) value unreadable s ≡ integralOf (suc q) value unreadable r
+  unfolding integral
+  shows-integral (unread e u) top = simp e (unfit-integral u top)
+  shows-integral {s} (holds e) top = simp e (signed-reading (s .negative) (s .value))
 
 -- The laws: the bytes t of a token, pushed one by one from the start, read as the integer that t stands for.
 
@@ -252,4 +255,9 @@ unfolding lengthIn lengthOf
 token-length t = shows-natural (2 ^ 64) Length·Value Length·Unreadable (token-shows t) (omega arith)
 
 pub token-i32 : (t : List ℕ) → i32In (pushedAll start t) ≡ i32Of (intOf t)
-token-i32 t = shows-i32 (token-shows t)
+unfolding i32In i32Of
+token-i32 t = shows-integral 2147483647 I32·Value I32·Unreadable (token-shows t) (omega arith)
+
+pub token-i64 : (t : List ℕ) → i64In (pushedAll start t) ≡ i64Of (intOf t)
+unfolding i64In i64Of
+token-i64 t = shows-integral 9223372036854775807 I64·Value I64·Unreadable (token-shows t) (omega arith)

@@ -8,6 +8,7 @@ use crate::Buffer;
 use crate::number::Number;
 use crate::number::ReadF64;
 use crate::number::ReadI32;
+use crate::number::ReadI64;
 use crate::number::ReadLength;
 use crate::number::ReadU8;
 use crate::number::ReadU32;
@@ -331,6 +332,29 @@ pub fn read_i32(input: &mut Buffer, reader: Reader) -> I32Part {
     }
 }
 
+// An i64 that was read, and the reader after it.
+pub struct I64Part {
+    pub value: i64,
+    pub reader: Reader,
+}
+
+// The next token as an i64; the reader fails where it is none.
+pub fn read_i64(input: &mut Buffer, reader: Reader) -> I64Part {
+    let token = read_token(input, reader);
+    let number = token.number;
+    let after = token.reader;
+    match number.as_i64() {
+        ReadI64::Value(x) => I64Part {
+            value: x,
+            reader: after,
+        },
+        ReadI64::Unreadable => I64Part {
+            value: 0,
+            reader: after.fail(Reason::Number),
+        },
+    }
+}
+
 // An f64 that was read, and the reader after it.
 pub struct F64Part {
     pub value: f64,
@@ -440,6 +464,27 @@ pub fn read_i32s(input: &mut Buffer, reader: Reader, out: &mut [i32]) -> SlicePa
     let mut i: usize = 0;
     while i < n {
         let part = read_i32(input, after);
+        let value = part.value;
+        out[i] = value;
+        after = part.reader;
+        i += 1;
+    }
+    SlicePart {
+        length: n,
+        reader: after,
+    }
+}
+
+// A slice of i64 into the front of out. At the loop's head i elements are there.
+pub fn read_i64s(input: &mut Buffer, reader: Reader, out: &mut [i64]) -> SlicePart
+    ensures { λ r. ⌜ Counts (r .length) (now (out .exit)) ⌝ }
+{
+    let head = read_length(input, reader, out.len());
+    let n = head.length;
+    let mut after = head.reader;
+    let mut i: usize = 0;
+    while i < n {
+        let part = read_i64(input, after);
         let value = part.value;
         out[i] = value;
         after = part.reader;

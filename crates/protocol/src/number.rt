@@ -67,6 +67,11 @@ pub enum ReadI32 {
     Unreadable,
 }
 
+pub enum ReadI64 {
+    Value(i64),
+    Unreadable,
+}
+
 impl Number {
     // The state before the first byte of a token.
     pub fn new() -> Number
@@ -238,6 +243,27 @@ impl Number {
         }
         ReadI32::Value(value as i32)
     }
+
+    // The token as an i64.
+    pub fn as_i64(self) -> ReadI64
+        ensures { λ r. ⌜ r ≡ State.i64In self ⌝ }
+    {
+        let value = self.value;
+        let negative = self.negative;
+        if !self.is_integer() {
+            return ReadI64::Unreadable;
+        }
+        if negative {
+            if value > 9223372036854775808 {
+                return ReadI64::Unreadable;
+            }
+            return ReadI64::Value(negated_wide(value));
+        }
+        if value > 9223372036854775807 {
+            return ReadI64::Unreadable;
+        }
+        ReadI64::Value(value as i64)
+    }
 }
 
 // −value.
@@ -246,6 +272,18 @@ fn negated(value: u64) -> i32
     ensures { λ r. ⌜ r ≡ State.withSign true value ⌝ }
 {
     (0 - value as i64) as i32
+}
+
+// −value at 64 bits, where 2^63 has no positive counterpart: one is taken off last.
+fn negated_wide(value: u64) -> i64
+    requires { ⌜ value ≤ 2 ^ 63 ⌝ }
+    ensures { λ r. ⌜ r ≡ State.withSign true value ⌝ }
+{
+    if value == 0 {
+        return 0;
+    }
+    let less = (value - 1) as i64;
+    0 - less - 1
 }
 
 // The same number as an i64.

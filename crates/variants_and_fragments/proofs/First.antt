@@ -59,11 +59,11 @@ from-all p i (suc k) h j a b = go (p i) refl h (λ l. from-all p (suc i) k l j)
     go false e l rec = absurd (omega arith)
     go true e l rec = elim (ℕ-discrete i j) [ yes q ↦ rw (← q) e | no q ↦ rec (omega arith) (omega arith) (omega arith) ]
 
--- the end is reached only where no place fails
 -- where a test holds at each number, none fails
 pub all-from : (p : ℕ → Bool) (i k : ℕ) → ((j : ℕ) → i ≤ j → j < i + k → p j ≡ true) → i + k ≤ firstFailFrom p i k
 all-from p i k good = omega (arith, from-is p i k (i + k) (omega arith) (omega arith) good (λ l. absurd (omega arith)))
 
+-- the end is reached only where no place fails
 pub first-all : (p : ℕ → Bool) (n : ℕ) → n ≤ firstFail p n → (j : ℕ) → j < n → p j ≡ true
 unfolding firstFail
 first-all p n h j l = from-all p 0 n (omega arith) j (omega arith) (omega arith)

@@ -93,21 +93,32 @@ module _ {X Y : Type 0} (next : X → Outcome Y) where
   then-then (refused n p) first = refl
   then-then (done z) first = refl
 
--- ---- after the check of the case
-module _ {Y : Type 0} (w : List ℤ) (b : List ℕ) (next : Sizes → Outcome Y) where
-  -- where the check refuses, so does the operation
-  pub case-stops : (x : Refusal) → check.outcomeOf (NotAccepted x) ≡ checkCaseOutcome w b → refusal x ≡ andThen (checkCaseOutcome w b) next
+-- ---- after a check, which answers sizes or a refusal
+module _ {Y : Type 0} (o : Outcome Sizes) (next : Sizes → Outcome Y) where
+  -- where it refuses, so does the operation
+  pub check-stops : (x : Refusal) → check.outcomeOf (NotAccepted x) ≡ o → refusal x ≡ andThen o next
   unfolding check.outcomeOf andThen
-  case-stops x e = rw (← e)
+  check-stops x e = rw (← e)
 
   -- past it
-  pub case-past : (s : Sizes) → check.outcomeOf (Accepted s) ≡ checkCaseOutcome w b → next s ≡ andThen (checkCaseOutcome w b) next
+  pub check-past : (s : Sizes) → check.outcomeOf (Accepted s) ≡ o → next s ≡ andThen o next
   unfolding check.outcomeOf andThen
-  case-past s e = rw (← e)
+  check-past s e = rw (← e)
+
+pub check-done : (o : Outcome Sizes) (s : Sizes) → check.outcomeOf (Accepted s) ≡ o → o ≡ done s
+unfolding check.outcomeOf
+check-done o s e = sym e
+
+-- the same of the check of the case
+module _ {Y : Type 0} (w : List ℤ) (b : List ℕ) (next : Sizes → Outcome Y) where
+  pub case-stops : (x : Refusal) → check.outcomeOf (NotAccepted x) ≡ checkCaseOutcome w b → refusal x ≡ andThen (checkCaseOutcome w b) next
+  case-stops = check-stops (checkCaseOutcome w b) next
+
+  pub case-past : (s : Sizes) → check.outcomeOf (Accepted s) ≡ checkCaseOutcome w b → next s ≡ andThen (checkCaseOutcome w b) next
+  case-past = check-past (checkCaseOutcome w b) next
 
 pub is-done : (w : List ℤ) (b : List ℕ) (s : Sizes) → check.outcomeOf (Accepted s) ≡ checkCaseOutcome w b → checkCaseOutcome w b ≡ done s
-unfolding check.outcomeOf
-is-done w b s e = sym e
+is-done w b = check-done (checkCaseOutcome w b)
 
 -- ---- what an operation promises
 module _ {X Slices : Type 0} {outcome : Outcome X} {new before : Slices} where

@@ -15,7 +15,7 @@ use lib.Dec.{eqb}
 use Rattle.variants_and_fragments.specs.declared.Sizes.{Sizes}
 use Rattle.variants_and_fragments.specs.Chain.{firstCallAt, nextCallAt, linkOk, chainFrom, chainOf, memb, reached, goodChain}
 use Rattle.variants_and_fragments.specs.Inner.Layout.{Sized}
-use Rattle.variants_and_fragments.specs.Inner.Chain.{ firstRecordAt, Walked, flag, Marked}
+use Rattle.variants_and_fragments.specs.Inner.Chain.{firstRecordAt, Walked, flag, Marked}
 use Rattle.variants_and_fragments.proofs.Chain.{link-top, record-top, record-chain}
 
 -- ---- chainFrom

@@ -43,7 +43,7 @@ unfoldable pub isReached : List ℤ → Sizes → ℕ → Bool
 unfolding memb reached
 isReached w s r = memb r (reached w s (s .f))
 
--- records that no fragment reaches are not checked: those of absent fragments, and the unused tail
+-- records that no fragment reaches are not checked: those that departed fragments left, and the unused tail
 unfoldable pub reachedCallOk : List ℤ → Sizes → ℕ → Bool
 reachedCallOk w s r = not (isReached w s r) || callOk w s r
 

@@ -1,6 +1,6 @@
 -- 01, section 2, as amended by request 1: words and allele bytes made of a case, from which `decode` gives back every case of at most three
--- alleles per variant whose absent fragments have no calls (`decode-encode` of proofs/Encoded.antt). Every record is used. Records are numbered fragment after fragment, and a fragment's chain goes through consecutive
--- records. Samples make their words here; that the check accepts them is shown of these samples, and not in general. Assumes nothing.
+-- alleles per variant whose absent fragments have no calls (`decode-encode` of proofs/Encoded.antt). Every record is used.
+-- Records are numbered fragment after fragment, and a fragment's chain goes through consecutive records. Samples make their words here; that the check accepts them is shown of these samples, and not in general. Assumes nothing.
 use mathlib.Core.Bool.{cond}
 use mathlib.Core.List.{List, [], _∷_, _++_, map}
 use Prim.Native.Nat.{ℕ, suc, _+_}

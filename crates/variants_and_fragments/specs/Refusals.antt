@@ -1,4 +1,4 @@
--- 01, "Refusals by number and place": a refusal's number and place, and the outcome of an operation in these terms.
+-- 01, "Refusals by number and place", and request 1, which adds 13 and 14: a refusal's number and place, and the outcome of an operation in these terms.
 -- Assumes nothing.
 use mathlib.Core.Path.{_≡_}
 use mathlib.Core.Bool.{Bool, true, false, cond}

@@ -144,7 +144,7 @@ fn mark_chain(words: &[i32], s: Sizes, f: usize, seen: &mut [u8])
         if r == 0 {
             return;
         }
-        if seen[r] != 0 {
+        if 0 < seen[r] {
             return;
         }
         seen[r] = 1;

@@ -1,4 +1,4 @@
-// The check of the head: number 1 of document 01's table.
+// The check of the head: number 1 of document 01's table, as amended by request 1.
 ghost use mathlib.Core.Path.{_≡_};
 ghost use Rattle.variants_and_fragments.specs.Inner.Head.{headFault};
 use crate::layout::HEAD_WORDS;

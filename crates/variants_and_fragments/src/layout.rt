@@ -1,4 +1,5 @@
-// The layout of a case, the one file that knows where a word stands: the numbers of section 2, the readings of a word, a reader for each field.
+// The layout of a case, the one file that knows where a word stands: the numbers of section 2 as amended by request 1, the readings of a word, a
+// reader for each field, and a setter for those that arrivals and departures write.
 ghost use mathlib.Core.Path.{_≡_};
 ghost use Prim.Native.Nat.{_+_, _<_, _≤_};
 ghost use lib.ListN.{length, set};
@@ -16,7 +17,7 @@ use crate::Sizes;
 // What a word that passes no range reads as.
 pub const NONE: usize = 4294967296;
 
-// The numbers of section 2: words of the head and of each record.
+// Words of the head and of each record.
 pub const HEAD_WORDS: usize = 5;
 
 pub const VARIANT_WORDS: usize = 8;
@@ -274,7 +275,7 @@ fn first_value(words: &[i32], s: Sizes, f: usize) -> i32
     word_at(words, fragment_at(s, f) + FIRST)
 }
 
-// Fragment f is present: its first call is not −1.
+// Fragment f is present: its first call is not negative.
 pub fn is_present(words: &[i32], s: Sizes, f: usize) -> bool
     requires { ⌜ Sized (now words) s ⌝ }
     requires { ⌜ f < s .f ⌝ }
@@ -304,7 +305,7 @@ pub fn record_of(s: Sizes, t: usize) -> usize
     t
 }
 
-// Fragment f's first call as its word has it: 0, a record, or NONE.
+// Fragment f's first call as a number: 0, a record, used or not, or NONE.
 fn first_word(words: &[i32], s: Sizes, f: usize) -> usize
     requires { ⌜ Sized (now words) s ⌝ }
     requires { ⌜ f < s .f ⌝ }
@@ -407,7 +408,7 @@ pub fn one_minus_qual_of(words: &[i32], s: Sizes, r: usize) -> i32
     call_word(words, s, r, ONE_MINUS_QUAL)
 }
 
-// The record after call r in its chain, or 0.
+// The next of call r as a number: 0, a record, used or not, or NONE.
 pub fn next_call(words: &[i32], s: Sizes, r: usize) -> usize
     requires { ⌜ Sized (now words) s ⌝ }
     requires { ⌜ (1 ≤ r) × (r ≤ s .c) ⌝ }

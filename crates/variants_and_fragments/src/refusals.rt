@@ -3,7 +3,7 @@ ghost use mathlib.Core.Path.{_≡_};
 ghost use Rattle.variants_and_fragments.specs.Refusals as refusals;
 use crate::Refusal;
 
-// A refusal's number in document 01's table.
+// A refusal's number in document 01's table; 13 and 14 are request 1's.
 pub fn number(r: Refusal) -> usize
     ensures { λ n. ⌜ n ≡ refusals.number r ⌝ }
 {

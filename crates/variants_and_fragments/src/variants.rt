@@ -1,4 +1,4 @@
-// The check of the variant records: number 2 of document 01's table.
+// The check of the variant records and of haplotypes: number 2 of document 01's table, as amended by request 1.
 ghost use mathlib.Core.Path.{_≡_};
 ghost use mathlib.Core.List.{[]};
 ghost use Prim.Native.Nat.{_<_};

@@ -5,7 +5,7 @@ use Prim.Native.Nat.{ℕ, _+_, _-_, _*_, _^_}
 use lib.Dec.{eqb, ltb}
 use lib.IntN.{ℤ, pos, negsuc, negℤ}
 use lib.Ieee.{binary64, ofBits}
-use lib.Signed.{leZ}
+use lib.Signed.{leZ, ltZ}
 use Rattle.protocol.specs.Text.{isDigit, Reading, none, integer}
 use Rattle.protocol.specs.declared.number.Number.{Number}
 use Rattle.protocol.specs.declared.number.ReadU8.{ReadU8}
@@ -20,6 +20,8 @@ use Rattle.protocol.specs.declared.number.ReadLength.{ReadLength}
 use Rattle.protocol.specs.declared.number.ReadLength.the-variants.{Value as Length·Value, Unreadable as Length·Unreadable}
 use Rattle.protocol.specs.declared.number.ReadI32.{ReadI32}
 use Rattle.protocol.specs.declared.number.ReadI32.the-variants.{Value as I32·Value, Unreadable as I32·Unreadable}
+use Rattle.protocol.specs.declared.number.ReadI64.{ReadI64}
+use Rattle.protocol.specs.declared.number.ReadI64.the-variants.{Value as I64·Value, Unreadable as I64·Unreadable}
 
 -- before the first byte
 abbrev pub start : Number
@@ -82,16 +84,20 @@ unfoldable pub withSign : Bool → ℕ → ℤ
 withSign true n = negℤ (pos n)
 withSign false n = pos n
 
--- sizes of an i32: up to 2^31 below 0, else less than that
-unfoldable pub i32Sizes : Bool → ℕ
-i32Sizes true = 2 ^ 31 + 1
-i32Sizes false = 2 ^ 31
+-- sizes of a signed type: up to p below 0, else less than that
+unfoldable pub signedSizes : ℕ → Bool → ℕ
+signedSizes p true = p + 1
+signedSizes p false = p
+
+-- a state's number with its sign, of such a size, else unreadable
+unfoldable pub integral : {A : Type 0} → ℕ → (ℤ → A) → A → Number → A
+integral p value unreadable s = cond (isInteger s && ltb (s .value) (signedSizes p (s .negative))) (value (withSign (s .negative) (s .value))) unreadable
 
 unfoldable pub i32In : Number → ReadI32
-i32In s =
-    cond (isInteger s && ltb (s .value) (i32Sizes (s .negative)))
-    (I32·Value (withSign (s .negative) (s .value)))
-    I32·Unreadable
+i32In = integral (2 ^ 31) I32·Value I32·Unreadable
+
+unfoldable pub i64In : Number → ReadI64
+i64In = integral (2 ^ 63) I64·Value I64·Unreadable
 
 -- The same types over a token's reading: its integer where it fits the type, else unreadable.
 
@@ -115,6 +121,12 @@ f64Of = naturalOf (2 ^ 64) (λ n. F64·Value (ofBits binary64 n)) F64·Unreadabl
 unfoldable pub lengthOf : Reading → ReadLength
 lengthOf = naturalOf (2 ^ 64) Length·Value Length·Unreadable
 
+unfoldable pub integralOf : {A : Type 0} → ℕ → (ℤ → A) → A → Reading → A
+integralOf p value unreadable none = unreadable
+integralOf p value unreadable (integer z) = cond (leZ (negℤ (pos p)) z && ltZ z (pos p)) (value z) unreadable
+
 unfoldable pub i32Of : Reading → ReadI32
-i32Of none = I32·Unreadable
-i32Of (integer z) = cond (leZ (negℤ (pos (2 ^ 31))) z && leZ z (pos (2 ^ 31 - 1))) (I32·Value z) I32·Unreadable
+i32Of = integralOf (2 ^ 31) I32·Value I32·Unreadable
+
+unfoldable pub i64Of : Reading → ReadI64
+i64Of = integralOf (2 ^ 63) I64·Value I64·Unreadable

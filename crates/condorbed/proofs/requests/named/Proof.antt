@@ -19,4 +19,6 @@ named-spec =
     (λ c. rw (c .match .keys7))
     (λ c. rw (c .match .keys8))
     (λ c. rw (c .match .keys9))
+    (λ c. rw (c .match .keys10))
+    (λ c. rw (c .match .keys11))
     (λ c. unknown (c .before .args .word) (c .match .rest)))

@@ -4,6 +4,7 @@ use mathlib.Core.Path.{_≡_, refl}
 use Prim.Native.Nat.{_-_}
 use lib.ListN.{length, length-set}
 use Rattle.variants_and_fragments.proofs.Reach.{Reaching, reach-start, reach-end, reach-hit, reach-out, reach-on}
+use native.Mathlib.Omega.{arith}
 use borrow.Author.Needs.{needs}
 use Rattle.variants_and_fragments.proofs.chains.mark_chain.Statement.{statement}
 use Rattle.variants_and_fragments.proofs.chains.mark_chain.Tie as tie
@@ -40,7 +41,7 @@ same-length-2 : tie.Need-same-length-2 Inv-loop μ-loop
 same-length-2 c = search needs
 
 returns-2 : tie.Need-returns-2 Inv-loop μ-loop
-returns-2 c = let l = c .before .before .before .before in reach-hit (st l .pre .0) (l .loop .inv .0) (c .if2 .taken)
+returns-2 c = let l = c .before .before .before .before in reach-hit (st l .pre .0) (l .loop .inv .0) (λ e. omega (arith, e, c .if2 .taken))
 
 slice-write-seen : tie.Need-slice-write-seen Inv-loop μ-loop
 slice-write-seen c = search needs
@@ -55,7 +56,7 @@ loop-again : tie.Need-loop-again Inv-loop μ-loop
 loop-again c =
     let kept = c .before in
     let l = kept .before .before .before .before in
-    (reach-on (st l .pre .0) (l .loop .inv .0) (kept .before .before .before .loop-test .taken) (kept .before .before .if1 .left) (kept .if2 .left) _ (c .next-record .ensures), simp length-set (l .loop .inv .1))
+    (reach-on (st l .pre .0) (l .loop .inv .0) (kept .before .before .before .loop-test .taken) (kept .before .before .if1 .left) (omega (arith, kept .if2 .left)) _ (c .next-record .ensures), simp length-set (l .loop .inv .1))
 
 same-length-3 : tie.Need-same-length-3 Inv-loop μ-loop
 same-length-3 c = search needs

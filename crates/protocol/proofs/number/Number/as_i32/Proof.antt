@@ -7,9 +7,9 @@ use mir.Syntax.{w32}
 use mir.Facts.{toZ-ofZ, toZ-pos}
 use borrow.Author.Tests.{not-true, not-false}
 use borrow.Author.Needs.{needs}
-use Rattle.protocol.specs.Inner.State.{isInteger, i32Sizes, withSign}
+use Rattle.protocol.specs.Inner.State.{isInteger, integral, signedSizes, i32In, withSign}
 use Rattle.protocol.specs.declared.number.ReadI32.the-variants.{Value}
-use Rattle.protocol.proofs.Readings.{i32-none, i32-value, i32-large}
+use Rattle.protocol.proofs.Readings.{integral-none, integral-value, integral-large}
 use Rattle.protocol.proofs.number.Number.as_i32.Statement.{statement}
 use Rattle.protocol.proofs.number.Number.as_i32.Tie as tie
 
@@ -24,38 +24,39 @@ is-integer-requires : tie.Need-is-integer-requires
 is-integer-requires c κs = search needs
 
 returns : tie.Need-returns
-returns c = i32-none (st (c .before) .args .self) (sym (c .before .is-integer .ensures) ∙ not-true _ (c .if1 .taken))
+unfolding i32In
+returns c = integral-none _ _ _ (st (c .before) .args .self) (sym (c .before .is-integer .ensures) ∙ not-true _ (c .if1 .taken))
 
 returns-2 : tie.Need-returns-2
-unfolding i32Sizes
+unfolding i32In signedSizes
 returns-2 c =
-    let e = c .before .before in i32-large (st (e .before) .args .self) true (c .before .if2 .taken) (omega arith)
+    let e = c .before .before in integral-large _ _ _ (st (e .before) .args .self) true (c .before .if2 .taken) (omega arith)
 
 negated-requires : tie.Need-negated-requires
 negated-requires c κs = search needs
 
 returns-3 : tie.Need-returns-3
-unfolding i32Sizes
+unfolding i32In signedSizes
 returns-3 c =
     let e = c .before .before .before in
     ap Value (toZ-ofZ {w = w32} (record { sfits = c .negated .ok }) ∙ c .negated .ensures)
-    ∙ i32-value (st (e .before) .args .self) true (c .before .before .if2 .taken) (whole e) (omega arith)
+    ∙ integral-value _ _ _ (st (e .before) .args .self) true (c .before .before .if2 .taken) (whole e) (omega arith)
 
 returns-4 : tie.Need-returns-4
-unfolding i32Sizes
+unfolding i32In signedSizes
 returns-4 c =
-    let e = c .before .before in i32-large (st (e .before) .args .self) false (c .before .if2 .left) (omega arith)
+    let e = c .before .before in integral-large _ _ _ (st (e .before) .args .self) false (c .before .if2 .left) (omega arith)
 
 cast-t8 : tie.Need-cast-t8
 cast-t8 c = search needs
 
 returns-5 : tie.Need-returns-5
-unfolding i32Sizes withSign
+unfolding i32In signedSizes withSign
 returns-5 c =
     let e = c .before .before in
     let s = st (e .before) in
     let small : s .args .self .value < 2 ^ 31 = omega arith in
-    ap Value (toZ-pos w32 small) ∙ i32-value (s .args .self) false (c .before .if2 .left) (whole e) small
+    ap Value (toZ-pos w32 small) ∙ integral-value _ _ _ (s .args .self) false (c .before .if2 .left) (whole e) small
 
 pub as-i32-spec : {M : Type 1} → statement M
 as-i32-spec =
