@@ -14,7 +14,7 @@ use lib.Seq.{getD-set-same, getD-set-other}
 use Rattle.variants_and_fragments.specs.declared.Sizes.{Sizes}
 use Rattle.variants_and_fragments.specs.Refusals.{done}
 use Rattle.variants_and_fragments.specs.Words.{word, within, none, natOf}
-use Rattle.variants_and_fragments.specs.Layout.{usedField, firstField, strandField, fragmentAt, fragmentWord, callAt}
+use Rattle.variants_and_fragments.specs.Layout.{sizesOf, usedField, firstField, strandField, fragmentAt, fragmentWord, callAt}
 use Rattle.variants_and_fragments.specs.Chain.{firstCallAt, strandAt, chainOf, memb, goodChain}
 use Rattle.variants_and_fragments.specs.Check.{checkCaseAndHaplotypesOutcome}
 use Rattle.variants_and_fragments.specs.Decode.{fragmentFrom, decode}
@@ -25,7 +25,7 @@ use Rattle.variants_and_fragments.proofs.Chain.{none-chain}
 use Rattle.variants_and_fragments.proofs.Accepted.{Passed, passed, checked-in}
 use Rattle.late_reads.specs.Values.{exchanged}
 use Rattle.late_reads.specs.Arriving.{departedWords}
-use Rattle.late_reads.proofs.OneChanged.{Keeps, Changed}
+use Rattle.late_reads.proofs.OneChanged.{Keeps, Changed, sizes-after}
 use Rattle.late_reads.proofs.AcceptedAfter.{accepted-changed}
 use Rattle.late_reads.proofs.DecodedAfter.{decoded-changed}
 
@@ -79,6 +79,9 @@ module _ {w : List ℤ} {s : Sizes} (k : CaseIn w s) (f : ℕ) (l : f < s .f) wh
 module _ (w : List ℤ) (b h : List ℕ) (s : Sizes) (ok : checkCaseAndHaplotypesOutcome w b h ≡ done s) (f : ℕ) (l : f < s .f) where
   in-case : CaseIn w s
   in-case = checked-in w b h s ok
+
+  pub sizes-departure : sizesOf (departedWords w s f) ≡ s
+  sizes-departure = sizes-after in-case (departed-changed in-case f l)
 
   pub accepted-departure : checkCaseAndHaplotypesOutcome (departedWords w s f) b h ≡ done s
   accepted-departure =
