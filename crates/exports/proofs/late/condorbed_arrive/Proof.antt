@@ -1,34 +1,37 @@
+-- `condorbed_arrive` meets its contract: the operation's own promise, of its numbers.
+-- Assumes nothing.
+use mir.Syntax.{w32, w64}
+use mir.Val.{SFits}
+use mir.Facts.{toZ-ofZ}
+use Rattle.late_reads.specs.LateReads.{outcomeOf}
+use Rattle.exports.proofs.Promised.{arrived-at}
+use Rattle.exports.proofs.Numbers.{exported, late-numbers}
 use borrow.Author.Needs.{needs}
 use Rattle.exports.proofs.late.condorbed_arrive.Statement.{statement}
 use Rattle.exports.proofs.late.condorbed_arrive.Tie as tie
-use Rattle.exports.proofs.late.condorbed_arrive.Reads as reads
-use Rattle.exports.proofs.late.condorbed_arrive.Lts as lts
-use Rattle.exports.proofs.late.late_answer.Reads as late-answer-reads
-use Rattle.late_reads.proofs.arrive.Reads as arrive-reads
 
--- src/late.rt:51:17
 arrive-requires : tie.Need-arrive-requires
 arrive-requires c κs = search needs
 
--- src/late.rt:51:5
 late-answer-requires : tie.Need-late-answer-requires
 late-answer-requires c κs = search needs
 
--- src/late.rt:36:1
 same-length : tie.Need-same-length
 same-length c = search needs
 
--- src/late.rt:36:1
 same-length-2 : tie.Need-same-length-2
 same-length-2 c = search needs
 
--- src/late.rt:36:1
 same-length-3 : tie.Need-same-length-3
 same-length-3 c = search needs
 
--- src/late.rt:36:1
 returns : tie.Need-returns
-returns c = ?
+returns c =
+    let d = c .before .before .before .before in
+    let st = d .before .before .before .before .before .before .before in
+    let f : SFits w64 (st .args .total) = search needs in
+    let g : SFits w32 (st .args .strand) = search needs in
+    exported _ {o = outcomeOf (d .arrive .result)} (arrived-at _ _ _ _ _ _ (toZ-ofZ f) _ _ (toZ-ofZ g) (d .arrive .ensures)) (rw (c .late-answer .ensures) (late-numbers (d .arrive .result)))
 
 pub condorbed-arrive-spec : {M : Type 1} → statement M
 condorbed-arrive-spec =

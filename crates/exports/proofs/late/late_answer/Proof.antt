@@ -1,34 +1,37 @@
+-- `late_answer` meets its contract: done or refused, the numbers of the outcome.
+-- Assumes nothing.
+use mathlib.Core.Path.{ap}
+use mir.Syntax.{w64}
+use mir.Val.{SFits}
+use mir.Facts.{toZ-ofZ}
+use Rattle.late_reads.specs.LateReads.{outcomeOf}
+use Rattle.exports.specs.Answers.{lateNumbers}
 use borrow.Author.Needs.{needs}
 use Rattle.exports.proofs.late.late_answer.Statement.{statement}
 use Rattle.exports.proofs.late.late_answer.Tie as tie
-use Rattle.exports.proofs.late.late_answer.Reads as reads
-use Rattle.exports.proofs.late.late_answer.Lts as lts
-use Rattle.variants_and_fragments.proofs.number.Reads as number-reads
-use Rattle.variants_and_fragments.proofs.place.Reads as place-reads
 
--- src/late.rt:20:28
 enum-known-answer : tie.Need-enum-known-answer
 enum-known-answer c = search needs
 
--- src/late.rt:26:26
 enum-known-answer-2 : tie.Need-enum-known-answer-2
 enum-known-answer-2 c = search needs
 
--- src/late.rt:27:21
 number-requires : tie.Need-number-requires
 number-requires c κs = search needs
 
--- src/late.rt:28:20
 place-requires : tie.Need-place-requires
 place-requires c κs = search needs
 
--- src/late.rt:16:1
 returns : tie.Need-returns
-returns c = ?
+unfolding outcomeOf lateNumbers
+returns c =
+    let a = c .before .before .answer .given in
+    let f : SFits w64 (a .0 .0 .0) = search needs in
+    rw (a .1, toZ-ofZ f)
 
--- src/late.rt:16:1
 returns-2 : tie.Need-returns-2
-returns-2 c = ?
+unfolding outcomeOf lateNumbers
+returns-2 c = rw (c .before .before .before .answer2 .given .1, c .before .number .ensures, c .place .ensures)
 
 pub late-answer-spec : {M : Type 1} → statement M
 late-answer-spec =
