@@ -2,17 +2,16 @@
 -- case is accepted, and no operation is refused with 10 at place 0. One operation at a time: past its tests the words decode to the case with
 -- one fragment exchanged, and there `Updated` has the values. Assumes nothing.
 use mathlib.Core.Path.{_≡_, refl, sym, ap, _∙_, subst}
-use mathlib.Core.Bool.{Bool, true, false}
+use mathlib.Core.Bool.{Bool, true, false, _&&_}
 use mathlib.Core.List.{List, []}
 use Prim.Native.Nat.{ℕ, _+_, _*_, _≤_, _<_}
 use native.Mathlib.Omega.{arith}
-use native.Mathlib.Decide.{decLt}
-use borrow.Author.Tests.{eqb-false}
-use lib.Dec.{eqb}
+use borrow.Author.Tests.{eqb-false, ltb-true}
+use lib.Dec.{eqb, ltb}
 use lib.IntN.{ℤ}
-use lib.ListN.{length, List·getD-eq-default}
+use lib.ListN.{length}
 use Rattle.variants_and_fragments.specs.declared.Sizes.{Sizes}
-use Rattle.variants_and_fragments.specs.Case.{Case, Fragment, noFragment, fragmentOf}
+use Rattle.variants_and_fragments.specs.Case.{Case, fragmentOf}
 use Rattle.variants_and_fragments.specs.Decode.{decode}
 use Rattle.variants_and_fragments.specs.First.{firstFail}
 use Rattle.variants_and_fragments.specs.Layout.{sizesOf}
@@ -20,23 +19,23 @@ use Rattle.variants_and_fragments.specs.Refusals.{Outcome, refused, done, unles
 use Rattle.variants_and_fragments.specs.Inner.Accepted.{CaseIn}
 use Rattle.variants_and_fragments.specs.Inner.Case.{GoodCase}
 use Rattle.variants_and_fragments.proofs.Accepted.{checked-in, checked-case}
-use Rattle.variants_and_fragments.proofs.Bools.{true-false}
-use Rattle.variants_and_fragments.proofs.Decoded.{variant-count, fragment-count, variants-are, fragments-are}
+use Rattle.variants_and_fragments.proofs.Bools.{both, true-false}
+use Rattle.variants_and_fragments.proofs.Decoded.{variant-count, fragment-count, variants-are, fragments-are, strand-is}
 use Rattle.variants_and_fragments.proofs.GoodCases.{good-case, fragment-in}
 use Rattle.variants_and_fragments.proofs.Outcomes.{not-done, unless-past, then-past}
 use Rattle.genotype_probs.specs.declared.Rates.{Rates}
 use Rattle.genotype_probs.specs.Rates.{rateTest}
 use Rattle.genotype_probs.specs.Inner.Rates.{ratesFault}
-use Rattle.late_reads.specs.Values.{inRange}
+use Rattle.late_reads.specs.Values.{inRange, exchanged}
 use Rattle.late_reads.specs.Arriving.{wholeCalls, arrivingRead, arrivedWords, departedWords}
 use Rattle.late_reads.specs.LateReads.{LateInput, LateAnswer, unsettled, keptOutcome, arrivingOutcome, arrivedValues, arriveOutcome, arriveWritten, departedValues, departOutcome, departWritten}
 use Rattle.late_reads.specs.Inner.Ready.{Kept, Arriving}
 use Rattle.late_reads.proofs.Arrivals.{sizes-arrival, accepted-arrival, decoded-arrival}
 use Rattle.late_reads.proofs.Departures.{sizes-departure, accepted-departure, decoded-departure}
 use Rattle.late_reads.proofs.OneChanged.{usedAs}
-use Rattle.late_reads.proofs.KeptCase.{kept-past}
+use Rattle.late_reads.proofs.KeptCase.{kept-checked, kept-past}
 use Rattle.late_reads.proofs.ArrivalTests.{tests-past, tests-are, present-is}
-use Rattle.afresh.specs.Lists.{Stand, standing, inputOf, Leaves, none, arrives, departs, FreshStand, KeepsFresh}
+use Rattle.afresh.specs.Lists.{Stand, standing, inputOf, Leaves, none, arrives, departs, FreshStand, ExchangesOne, KeepsFresh}
 use Rattle.afresh.proofs.Updated.{fresh-arrival, fresh-departure}
 use Rattle.afresh.proofs.Ranges.{fresh-in-range}
 
@@ -136,15 +135,12 @@ module _ {bases phase haps : List ℕ} {rates : Rates} {x : Stand} (here : Fresh
           rw (n-is, f-is) (stand-in-range arrival-fresh rated)
 
     -- ---- a departure
-    module _ (f : ℕ) (there : fragmentOf case f .present ≡ true) where
-      departing : f < length (case .fragments)
-      departing = elim (decLt f (length (case .fragments))) [
-        | yes l ↦ l
-        | no l ↦ true-false there (ap (λ (y : Fragment). y .present) (List·getD-eq-default (case .fragments) noFragment (omega arith)))
-      ]
-
+    module _ (f : ℕ) (there : (ltb f (s .f) && fragmentOf case f .present) ≡ true) where
       departing-below : f < z .f
-      departing-below = omega (arith, departing, fragments-are in-case bases)
+      departing-below = subst (λ (t : Sizes). f < t .f) sizes (ltb-true f (s .f) (both (ltb f (s .f)) (fragmentOf case f .present) there .0))
+
+      departing : f < length (case .fragments)
+      departing = omega (arith, departing-below, fragments-are in-case bases)
 
       departure-fresh : FreshStand bases phase haps rates (standing (departWritten input f) (unsettled (departedValues input f)))
       unfolding departWritten departedValues
@@ -209,6 +205,40 @@ module _ {bases phase haps : List ℕ} {rates : Rates} {x : Stand} (here : Fresh
       then-not _ _ kept-not (λ s ok.
       other-not _ 13 _ _ (λ q. omega arith) (λ there.
       unless-not _ 10 0 _ (λ off _ _. true-false (departure-ranged here ok f there right) off) (λ _ h. not-done (sym h))))
+
+-- ---- one fragment is exchanged
+module _ (bases phase haps : List ℕ) (x : Stand) (answer : LateAnswer) where
+  arrival-exchanges : (f : ℕ) (strand : ℤ) (calls : List ℤ) → arriveOutcome (inputOf bases phase haps x) f strand calls ≡ done answer
+      → decode (arriveWritten (inputOf bases phase haps x) f strand calls .words) bases ≡ exchanged (decode (x .words) bases) f (arrivingRead strand calls)
+  unfolding arriveOutcome arriveWritten
+  arrival-exchanges f strand calls ok =
+      let a = then-past _ _ answer ok in
+      let b = then-past _ _ answer (a .1 .1) in
+      let s = a .0 in
+      let k = kept-past (inputOf bases phase haps x) s (a .1 .0) .ready .case-in in
+      let tested = tests-past (x .words) s (b .0) f strand calls (tests-are (inputOf bases phase haps x) s k f strand calls ∙ b .1 .0) in
+      subst (λ (z : Sizes). decode (arrivedWords (x .words) z f strand calls) bases ≡ exchanged (decode (x .words) bases) f (arrivingRead strand calls)) (k .shape)
+      (decoded-arrival (x .words) bases haps s (kept-checked (inputOf bases phase haps x) s (a .1 .0)) f strand calls (tested .1))
+
+  departure-exchanges : (f : ℕ) → departOutcome (inputOf bases phase haps x) f ≡ done answer
+      → decode (departWritten (inputOf bases phase haps x) f .words) bases
+        ≡ exchanged (decode (x .words) bases) f (record { present = false; strand = fragmentOf (decode (x .words) bases) f .strand; calls = [] })
+  unfolding departOutcome departWritten
+  departure-exchanges f ok =
+      let a = then-past _ _ answer ok in
+      let b = unless-past _ 13 _ _ answer (a .1 .1) in
+      let s = a .0 in
+      let k = kept-past (inputOf bases phase haps x) s (a .1 .0) .ready .case-in in
+      let below = ltb-true f (s .f) (both (ltb f (s .f)) (fragmentOf (decode (x .words) bases) f .present) (b .0) .0) in
+      let e = decoded-departure (x .words) bases haps s (kept-checked (inputOf bases phase haps x) s (a .1 .0)) f below in
+      subst (λ (z : Sizes). decode (departedWords (x .words) z f) bases ≡ exchanged (decode (x .words) bases) f (record { present = false; strand = fragmentOf (decode (x .words) bases) f .strand; calls = [] })) (k .shape)
+      (rw (strand-is k bases f below) e)
+
+pub exchanges-one : (bases phase haps : List ℕ) → ExchangesOne bases phase haps
+exchanges-one bases phase haps = record {
+  arrival = λ x f strand calls answer. arrival-exchanges bases phase haps x answer f strand calls;
+  departure = λ x f answer. departure-exchanges bases phase haps x answer f;
+}
 
 -- ---- the theorem
 keeps : {bases phase haps : List ℕ} (rates : Rates) {x y : Stand} → Leaves bases phase haps x y → FreshStand bases phase haps rates x → FreshStand bases phase haps rates y

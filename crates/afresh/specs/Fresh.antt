@@ -21,7 +21,7 @@ sweepsOf rates case phase = sweepCaseOf rates (phasedFlags case phase) case
 abbrev pub countWordAt : ℕ → ℕ
 countWordAt e = 13 * (e / 10) + (2 + e % 10)
 
--- x holds what the case has, under a given phase, at these haplotypes and rates
+-- x holds what the case has (elements that are there: an operation asks for 2 F likelihoods and 10 N counts), under a given phase, at these haplotypes and rates
 pub record Fresh (rates : Rates) (case : Case) (phase haps : List ℕ) (x : Values) : Type 0 where
   -- section 6: 2 likelihoods per fragment, as a run writes them
   pub likelihoods : (e : ℕ) → e < 2 * length (case .fragments)
