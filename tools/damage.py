@@ -5,8 +5,9 @@ from layout import (ARRIVING, CALL, FRAGMENT, HEAD, LOWEST, LOWEST_LENT, MAX_ALL
                     MAX_VARIANTS, VARIANT, Layout)
 from protocol import LatePart, Request
 
-BAD_WORDS = [0, 1, -1, 2, MAX_ALLELES, MAX_ALLELES + 1, MAX_LENGTH + 1, MAX_VARIANTS + 1, LOWEST - 1, 2147483647,
-             -2147483648]
+LARGEST = 2147483647
+BAD_WORDS = [0, 1, -1, 2, MAX_ALLELES, MAX_ALLELES + 1, MAX_LENGTH + 1, MAX_VARIANTS + 1, LOWEST - 1, LARGEST,
+             -LARGEST - 1]
 
 
 def set_word(rng, request, at):
@@ -42,6 +43,11 @@ def call(rng, request):
         set_word(rng, request, at.call(rng.randint(1, at.c)) + rng.randrange(CALL.words))
 
 
+def past(at):
+    """The number after the last record, where a word holds it."""
+    return min(at.c + 1, LARGEST)
+
+
 def link(rng, request):
     """A first or a next that names some other record: shared, in the tail, back, not rising; or none: -2, -1."""
     at = layout(request)
@@ -50,14 +56,14 @@ def link(rng, request):
     places = [at.call(rng.randint(1, at.c)) + CALL.next, at.fragment(rng.randrange(at.f)) + FRAGMENT.first]
     place = rng.choice(places)
     if 0 <= place < len(request.words):
-        request.words[place] = rng.choice([-2, -1] + [rng.randint(0, at.c + 1) for _ in range(8)])
+        request.words[place] = rng.choice([-2, -1] + [rng.randint(0, past(at)) for _ in range(8)])
 
 
 def used(rng, request):
     """Another number of used records: the tail grows or goes, chains run into it."""
     at = layout(request)
     if len(request.words) >= HEAD.words:
-        request.words[HEAD.used] = rng.choice([-1, at.c + 1, at.c, 0, rng.randint(0, max(at.c, 0))])
+        request.words[HEAD.used] = rng.choice([-1, past(at), at.c, 0, rng.randint(0, max(at.c, 0))])
 
 
 def length(rng, values, added):
