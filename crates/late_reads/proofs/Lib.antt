@@ -15,3 +15,4 @@ pub mod AcceptedAfter
 pub mod DecodedAfter
 pub mod Departures
 pub mod Arrivals
+pub mod Moved

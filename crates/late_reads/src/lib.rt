@@ -15,6 +15,7 @@ use crate::kept::check_kept;
 use crate::ranges::total_ok;
 use crate::reads::arriving_likelihoods;
 use crate::reads::mixed;
+use crate::reads::moved;
 use crate::reads::put_likelihoods;
 use crate::words::lay_arrival;
 use steps::LogProb;
@@ -65,7 +66,7 @@ fn arrive_kept(
     let read = arriving_likelihoods(words, s, phase, haplotypes, arrival, calls);
     let first = read.first;
     let second = read.second;
-    let sum = LogProb(total.0 + mixed(&t, first, second).0);
+    let sum = moved(total, mixed(&t, first, second), 1);
     if !total_ok(sum) {
         return Updated::Refused(Refusal::Short(0));
     }
@@ -138,7 +139,7 @@ fn depart_kept(
     let t = table();
     let first = LogProb(likelihoods[2 * f]);
     let second = LogProb(likelihoods[2 * f + 1]);
-    let rest = LogProb(total.0 - mixed(&t, first, second).0);
+    let rest = moved(total, mixed(&t, first, second), -1);
     if !total_ok(rest) {
         return Updated::Refused(Refusal::Short(0));
     }

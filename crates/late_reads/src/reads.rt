@@ -1,7 +1,7 @@
 // The likelihoods of an arriving read, and a read's share of the phased total.
 ghost use mathlib.Core.Path.{_≡_};
 ghost use Prim.Native.Nat.{_+_, _*_, _^_, _<_, _≤_};
-ghost use lib.IntN.{natAbs};
+ghost use lib.IntN.{natAbs, _+ℤ_, _*ℤ_};
 ghost use lib.ListN.{length};
 ghost use Rattle.steps.specs.Logs.{mixOf};
 ghost use Rattle.steps.specs.Table.{knots};
@@ -84,6 +84,14 @@ pub fn mixed(t: &[u16; 1665], first: LogProb, second: LogProb) -> LogProb
     ensures { λ r. ⌜ (r .0 ≡ mixOf (first .0) (second .0)) × (natAbs (r .0) ≤ 2 ^ 41) ⌝ }
 {
     LogProb(first.0 - 4096).ln_add_exp(t, LogProb(second.0 - 4096))
+}
+
+// The phased total with d times a read's share more: d is 1 where the read arrives and −1 where it departs.
+pub fn moved(total: LogProb, share: LogProb, d: i64) -> LogProb
+    requires { ⌜ (natAbs (total .0) ≤ 2 ^ 40) × (natAbs (share .0) ≤ 2 ^ 41) × (natAbs d ≤ 1) ⌝ }
+    ensures { λ r. ⌜ r .0 ≡ total .0 +ℤ (d *ℤ share .0) ⌝ }
+{
+    LogProb(total.0 + d * share.0)
 }
 
 // Sets the likelihoods of fragment f.

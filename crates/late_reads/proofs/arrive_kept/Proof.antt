@@ -16,6 +16,7 @@ use Rattle.likelihoods.proofs.RunningSums.{added-fits, added-read}
 use Rattle.late_reads.specs.Arriving.{arrivingRead}
 use Rattle.late_reads.specs.Values.{lowestTotal, likelihoodOn, arrived}
 use Rattle.late_reads.specs.Inner.Ready.{fixedAt}
+use Rattle.late_reads.proofs.Moved.{times-one}
 use Rattle.late_reads.proofs.Ranged.{total-small, counts-in, refuses-total, refuses-counts, updates, same-slices, same-mix, same-put, arrival}
 use Rattle.late_reads.proofs.arrive_kept.Statement.{statement}
 use Rattle.late_reads.proofs.arrive_kept.Tie as tie
@@ -50,26 +51,23 @@ share-is m =
 abbrev sum : tie.Start → ℤ
 sum s = s .args .total .0 +ℤ share s
 
-small : (m : tie.After-mixed) → natAbs (start m .args .total .0) + natAbs (share (start m)) < 2 ^ 63
-small m = omega (arith, total-small (start m .pre .0), ap natAbs (share-is m), m .mixed .ensures .1)
+abbrev shared : tie.After-moved → tie.After-mixed
+shared c = c .before
 
-abbrev shared : tie.After-struct-told2 → tie.After-mixed
-shared c = c .before .before .before .before
-
-add-t20 : tie.Need-add-t20
-add-t20 c = let m = shared c in added-fits (start m .args .total .0) (m .mixed .result .0) (share (start m)) (share-is m) (small m)
+moved-requires : tie.Need-moved-requires
+moved-requires c κs = (total-small (start c .pre .0), c .mixed .ensures .1, omega arith)
 
 total-ok-requires : tie.Need-total-ok-requires
 total-ok-requires c κs = search needs
 
-sum-is : (m : tie.After-mixed) → toZ w64 (ofZ w64 (toZ w64 (ofZ w64 (start m .args .total .0)) +ℤ toZ w64 (ofZ w64 (m .mixed .result .0)))) ≡ sum (start m)
-sum-is m = added-read (start m .args .total .0) (m .mixed .result .0) (share (start m)) (share-is m) (small m)
+sum-is : (m : tie.After-moved) → m .moved .result .0 ≡ sum (start (shared m))
+sum-is m = m .moved .ensures ∙ ap (λ (z : ℤ). start (shared m) .args .total .0 +ℤ z) (times-one (shared m .mixed .result .0) ∙ share-is (shared m))
 
 abbrev entry : tie.After-total-ok → tie.Start
 entry t = start (shared (t .before))
 
 total-fits : (t : tie.After-total-ok) → t .total-ok .result ≡ within lowestTotal (pos 0) (sum (entry t))
-total-fits t = t .total-ok .ensures ∙ ap (within lowestTotal (pos 0)) (sum-is (shared (t .before)))
+total-fits t = t .total-ok .ensures ∙ ap (within lowestTotal (pos 0)) (sum-is (t .before))
 
 same-length : tie.Need-same-length
 same-length c = search needs
@@ -142,9 +140,9 @@ returns-3 c =
     let k = put .before .before in
     let a = k .before in
     let e = total-kept a in
-    let m = shared (e .before .before) in
-    let s = start m in
-    let l = weighed m .arriving-likelihoods .ensures in
+    let m = e .before .before in
+    let s = start (shared m) in
+    let l = weighed (shared m) .arriving-likelihoods .ensures in
     updates (arrival (s .pre .0) (s .pre .1)) _ (sum-is m) (total-good e) (sym (a .arriving-fits .ensures) ∙ not-false (a .arriving-fits .result) (k .if2 .left))
     (same-slices (laid .lay-arrival .ensures) (put .put-likelihoods .ensures ∙ same-put (now (s .args .likelihoods)) (s .args .arrival .fragment) (l .0 .0) (l .1 .0)) (counted .count-arriving .ensures))
 
@@ -155,7 +153,7 @@ arrive-kept-spec =
     table-requires
     arriving-likelihoods-requires
     mixed-requires
-    add-t20
+    moved-requires
     total-ok-requires
     same-length
     returns

@@ -7,15 +7,16 @@ use native.Mathlib.Omega.{arith}
 use borrow.Author.Needs.{needs}
 use borrow.Author.Tests.{not-true, not-false}
 use denote.Ref.{now}
-use lib.IntN.{ℤ, pos, natAbs, _-ℤ_}
+use lib.IntN.{ℤ, pos, negℤ, natAbs, _+ℤ_, _-ℤ_}
 use lib.ListN.{getD}
 use mir.Syntax.{w64}
 use mir.Val.{toZ, ofZ}
 use Rattle.steps.specs.Logs.{mixOf}
-use Rattle.steps.proofs.Signed.{read-small, minus-fits, minus-read}
+use Rattle.steps.proofs.Signed.{read-small}
 use Rattle.variants_and_fragments.specs.Words.{within}
 use Rattle.late_reads.specs.Arriving.{departedWords}
 use Rattle.late_reads.specs.Values.{lowestTotal, departed}
+use Rattle.late_reads.proofs.Moved.{times-less}
 use Rattle.late_reads.proofs.Ranged.{total-small, likelihood-small, counts-in, refuses-total, refuses-counts, updates, same-slices, same-mix, departure}
 use Rattle.late_reads.proofs.depart_kept.Statement.{statement}
 use Rattle.late_reads.proofs.depart_kept.Tie as tie
@@ -80,26 +81,23 @@ share-is m = m .mixed .ensures .0 ∙ same-mix (first-read (start m)) (second-re
 abbrev rest : tie.Start → ℤ
 rest s = s .args .total .0 -ℤ share s
 
-small : (m : tie.After-mixed) → natAbs (start m .args .total .0) + natAbs (m .mixed .result .0) < 2 ^ 63
-small m = omega (arith, total-small (start m .pre .0), m .mixed .ensures .1)
+abbrev shared : tie.After-moved → tie.After-mixed
+shared c = c .before
 
-abbrev shared : tie.After-struct-told2 → tie.After-mixed
-shared c = c .before .before .before .before
-
-sub-t17 : tie.Need-sub-t17
-sub-t17 c = let m = shared c in minus-fits w64 (start m .args .total .0) (m .mixed .result .0) (small m)
+moved-requires : tie.Need-moved-requires
+moved-requires c κs = (total-small (start c .pre .0), c .mixed .ensures .1, omega arith)
 
 total-ok-requires : tie.Need-total-ok-requires
 total-ok-requires c κs = search needs
 
-rest-is : (m : tie.After-mixed) → toZ w64 (ofZ w64 (toZ w64 (ofZ w64 (start m .args .total .0)) -ℤ toZ w64 (ofZ w64 (m .mixed .result .0)))) ≡ rest (start m)
-rest-is m = minus-read w64 (start m .args .total .0) (m .mixed .result .0) (small m) ∙ ap (λ (z : ℤ). start m .args .total .0 -ℤ z) (share-is m)
+rest-is : (m : tie.After-moved) → m .moved .result .0 ≡ rest (start (shared m))
+rest-is m = m .moved .ensures ∙ ap (λ (z : ℤ). start (shared m) .args .total .0 +ℤ z) (times-less (shared m .mixed .result .0) ∙ ap negℤ (share-is (shared m)))
 
 abbrev entry : tie.After-total-ok → tie.Start
 entry t = start (shared (t .before))
 
 total-fits : (t : tie.After-total-ok) → t .total-ok .result ≡ within lowestTotal (pos 0) (rest (entry t))
-total-fits t = t .total-ok .ensures ∙ ap (within lowestTotal (pos 0)) (rest-is (shared (t .before)))
+total-fits t = t .total-ok .ensures ∙ ap (within lowestTotal (pos 0)) (rest-is (t .before))
 
 returns : tie.Need-returns
 returns c =
@@ -166,8 +164,8 @@ returns-3 c =
     let k = put .before .before in
     let a = k .before in
     let e = total-kept a in
-    let m = shared (e .before .before) in
-    let s = start m in
+    let m = e .before .before in
+    let s = start (shared m) in
     updates (departure (s .pre .0) (s .args .f) (s .pre .1 .0)) _ (rest-is m) (total-good e) (sym (a .departing-fits .ensures) ∙ not-false (a .departing-fits .result) (k .if2 .left))
     (same-slices (gone .put-first .ensures) (put .put-likelihoods .ensures) (counted .count-departing .ensures))
 
@@ -184,7 +182,7 @@ depart-kept-spec =
     mul-t18
     slice-copy-out-t17-2
     mixed-requires
-    sub-t17
+    moved-requires
     total-ok-requires
     returns
     departing-fits-requires
