@@ -222,7 +222,7 @@ module _ (bases phase haps : List ℕ) (x : Stand) (answer : LateAnswer) where
 
   departure-exchanges : (f : ℕ) → departOutcome (inputOf bases phase haps x) f ≡ done answer
       → decode (departWritten (inputOf bases phase haps x) f .words) bases
-        ≡ exchanged (decode (x .words) bases) f (record { present = false; strand = fragmentOf (decode (x .words) bases) f .strand; calls = [] })
+      ≡ exchanged (decode (x .words) bases) f (record { present = false; strand = fragmentOf (decode (x .words) bases) f .strand; calls = [] })
   unfolding departOutcome departWritten
   departure-exchanges f ok =
       let a = then-past _ _ answer ok in

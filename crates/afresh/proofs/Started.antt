@@ -69,7 +69,7 @@ module _ (rates : Rates) (case : Case) (phase : List ℕ) (good : GoodCase case)
   -- element e of the likelihoods
   likelihoods-same : (e : ℕ) → e < 2 * length (case .fragments)
       → likelihood phased (λ v. getD haps (2 * v + e % 2) 0) (getD (sweepsOf rates case phase .frags) (e / 2) [])
-        ≡ likelihood phased (λ v. getD other (2 * v + e % 2) 0) (getD (sweepsOf rates case phase .frags) (e / 2) [])
+      ≡ likelihood phased (λ v. getD other (2 * v + e % 2) 0) (getD (sweepsOf rates case phase .frags) (e / 2) [])
   likelihoods-same e h = rw (frag-is rates phased case (e / 2)) (read-same (fragmentOf case (e / 2)) (fragment-in good (e / 2) (omega arith)) (e % 2) (omega arith))
 
   -- v's pair

@@ -52,7 +52,7 @@ pub record ExchangesOne (bases phase haps : List ℕ) : Type 0 where
   -- its strand as it was, and no calls
   pub departure : (x : Stand) (f : ℕ) (answer : LateAnswer) → departOutcome (inputOf bases phase haps x) f ≡ done answer
       → decode (departWritten (inputOf bases phase haps x) f .words) bases
-        ≡ exchanged (decode (x .words) bases) f (record { present = false; strand = fragmentOf (decode (x .words) bases) f .strand; calls = [] })
+      ≡ exchanged (decode (x .words) bases) f (record { present = false; strand = fragmentOf (decode (x .words) bases) f .strand; calls = [] })
 
 -- "Started from freshly computed values, after every list of accepted arrivals and departures alone the updated values equal those of the
 -- fragments then present taken afresh", under any rates; and at rates that 6 accepts the ranges hold by themselves

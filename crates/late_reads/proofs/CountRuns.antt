@@ -3,12 +3,11 @@
 -- Assumes nothing.
 use mathlib.Core.Path.{_≡_, ap, _∙_}
 use mathlib.Core.Bool.{Bool, true, false}
-use mathlib.Core.Logic.{_⊎_}
 use mathlib.Core.List.{List, [], _∷_}
 use Prim.Native.Nat.{ℕ, suc, _+_, _*_, _/_, _≤_, _<_}
 use native.Mathlib.Omega.{arith}
 use borrow.Author.Tests.{ne-eqb}
-use lib.IntN.{ℤ, pos, negsuc, +ℤ-idr}
+use lib.IntN.{ℤ, pos, negsuc, natAbs, +ℤ-idr}
 use lib.ListN.{length, getD}
 use Rattle.variants_and_fragments.specs.Case.{Fragment, Call}
 use Rattle.variants_and_fragments.specs.Inner.Accepted.{allb}
@@ -36,12 +35,9 @@ record FirstIn (n b : ℕ) (call : Call) (calls : List Call) : Type 0 where
 first-in : {n b : ℕ} {call : Call} {calls : List Call} → Rising n b (call ∷ calls) → FirstIn n b call calls
 first-in (more lo hi three r) = record { above = lo; variant-in = hi; allele-in = three; rest = r }
 
-abbrev One : ℤ → Type 0
-One d = (d ≡ pos 1) ⊎ (d ≡ negsuc 0)
-
 module _ {n : ℕ} {call : Call} {calls : List Call} {counts : List ℤ} (i : CallsLeft n (call ∷ calls) counts) (cutoff : ℤ) (x : Fragment) (two : x .strand ≤ 1) where
   -- the next one may be counted
-  left-countable : {d : ℤ} → One d → n ≤ 1024 → Countable counts (x .strand) d (countedCall cutoff x call)
+  left-countable : {d : ℤ} → natAbs d ≤ 1 → n ≤ 1024 → Countable counts (x .strand) d (countedCall cutoff x call)
   left-countable one top =
       let f = first-in (i .rises) in
       let a = f .above in
@@ -109,7 +105,7 @@ module _ {d cutoff : ℤ} {x : Fragment} {n : ℕ} {counts : List ℤ} {left : L
 
   -- a call more
   module _ {call : Call} {calls : List Call} (e : left ≡ call ∷ calls) (two : x .strand ≤ 1) where
-    pub fit-countable : One d → n ≤ 1024 → Countable counts (x .strand) d (countedCall cutoff x call)
+    pub fit-countable : natAbs d ≤ 1 → n ≤ 1024 → Countable counts (x .strand) d (countedCall cutoff x call)
     fit-countable = left-countable (rw e at (i .left)) cutoff x two
 
     pub fit-stop : callFits d (x .strand) (countedCall cutoff x call) counts ≡ false → false ≡ answer
@@ -126,7 +122,7 @@ module _ {d cutoff : ℤ} {x : Fragment} {n : ℕ} {left : List Call} {counts af
   add-end e = rw e at (i .same)
 
   module _ {call : Call} {calls : List Call} (e : left ≡ call ∷ calls) (two : x .strand ≤ 1) where
-    pub add-countable : One d → n ≤ 1024 → Countable counts (x .strand) d (countedCall cutoff x call)
+    pub add-countable : natAbs d ≤ 1 → n ≤ 1024 → Countable counts (x .strand) d (countedCall cutoff x call)
     add-countable = left-countable (rw e at (i .left)) cutoff x two
 
     pub add-on : (put : List ℤ) → put ≡ countCall d (x .strand) (countedCall cutoff x call) counts → Adding d cutoff x n calls put after

@@ -46,7 +46,7 @@ module _ {counts : List ℤ} {e : ℕ} {d : ℤ} (c : CountsIn counts e d) where
   small : natAbs (getD counts e (pos 0)) + natAbs d < 2 ^ hbits w32
   small =
       let z = count-small (getD counts e (pos 0)) (c .ranged) in
-      ⊎-elim (λ q. rw q (omega arith)) (λ q. rw q (omega arith)) (c .one)
+      omega (arith, c .one)
 
   pub sum-fits : SFits w32 (toZ w32 (ofZ w32 (getD counts e (pos 0))) +ℤ toZ w32 (ofZ w32 d))
   sum-fits = plus-fits w32 (getD counts e (pos 0)) d small

@@ -17,7 +17,7 @@ use Rattle.variants_and_fragments.specs.Words.{within}
 use Rattle.haplotype_assembly.specs.Phase.{phasedFlags}
 use Rattle.late_reads.specs.declared.Updated.{Updated}
 use Rattle.late_reads.specs.declared.Updated.the-variants.{Unsettled, Refused}
-use Rattle.late_reads.specs.Values.{Values, values, inRange, Fixed, arrived, departed}
+use Rattle.late_reads.specs.Values.{Values, inRange, Fixed, arrived, departed}
 use Rattle.late_reads.specs.Arriving.{arrivingWords, wholeCalls, arrivingRead, arrivingOk, arrivingRises, arrivedWords, departedWords}
 
 -- what both operations read: the case, the phase bytes, the haplotypes and the values

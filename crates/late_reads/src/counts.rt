@@ -2,7 +2,6 @@
 ghost use mathlib.Core.Path.{_≡_};
 ghost use mathlib.Core.Bool.{true};
 ghost use Prim.Native.Nat.{_+_, _*_, _<_, _≤_};
-ghost use lib.IntN.{pos, negsuc};
 ghost use lib.ListN.{length};
 ghost use Rattle.variants_and_fragments.specs.Layout.{cutoffAt};
 ghost use Rattle.variants_and_fragments.specs.Decode.{callFrom, fragmentFrom};

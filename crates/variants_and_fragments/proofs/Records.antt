@@ -15,7 +15,7 @@ use Rattle.variants_and_fragments.specs.declared.Sizes.{Sizes}
 use Rattle.variants_and_fragments.specs.Words.{word, within, below, none, natOf}
 use Rattle.variants_and_fragments.specs.First.{firstFail}
 use Rattle.variants_and_fragments.specs.Inner.First.{firstFalse}
-use Rattle.variants_and_fragments.specs.Layout.{headWords, maxVariants, maxFragments, maxCalls, maxAlleles, maxAlleleLength, lowestQuality, variantsField, fragmentsField, callsField, usedField, pos0Field, depthField, genotypeField, alleleCountField, variantField, alleleField, totalWords, sizesOf, cutoffAt, variantWord, callWord, lengthOk, pos0At, genotypeAt, alleleCountAt, lengthAt, priorPos0At, haplotypeOk, allOf, variantTests, variantOk, callVariantAt, calledAlleleAt, qualAt, oneMinusQualAt, callWordsOk, callOk}
+use Rattle.variants_and_fragments.specs.Layout.{headWords, maxVariants, maxFragments, maxCalls, maxAlleles, maxAlleleLength, lowestQuality, variantsField, fragmentsField, callsField, usedField, pos0Field, depthField, genotypeField, alleleCountField, variantField, alleleField, totalWords, sizesOf, cutoffAt, variantWord, callWord, lengthOk, pos0At, genotypeAt, alleleCountAt, lengthAt, priorPos0At, haplotypeOk, allOf, variantTests, variantOk, callVariantAt, qualAt, oneMinusQualAt, callWordsOk, callOk}
 use Rattle.variants_and_fragments.specs.Inner.Head.{headTests, headFault}
 use Rattle.variants_and_fragments.specs.Inner.Layout.{Sized, VariantIn, lengthTest}
 use Rattle.variants_and_fragments.specs.Inner.Alleles.{VariantsIn}

@@ -2,17 +2,14 @@
 -- each slice is written as the definition says. Assumes nothing.
 use mathlib.Core.Path.{_≡_, sym, ap, _∙_}
 use mathlib.Core.Bool.{true}
-use Prim.Native.Nat.{ℕ, _+_, _^_, _<_}
+use Prim.Native.Nat.{ℕ}
 use native.Mathlib.Omega.{arith}
 use borrow.Author.Needs.{needs}
 use borrow.Author.Tests.{not-true, not-false}
 use denote.Ref.{now}
-use lib.IntN.{ℤ, pos, natAbs, _+ℤ_}
-use mir.Syntax.{w64}
-use mir.Val.{toZ, ofZ}
+use lib.IntN.{ℤ, pos, _+ℤ_}
 use Rattle.steps.specs.Logs.{mixOf}
 use Rattle.variants_and_fragments.specs.Words.{within}
-use Rattle.likelihoods.proofs.RunningSums.{added-fits, added-read}
 use Rattle.late_reads.specs.Arriving.{arrivingRead}
 use Rattle.late_reads.specs.Values.{lowestTotal, likelihoodOn, arrived}
 use Rattle.late_reads.specs.Inner.Ready.{fixedAt}

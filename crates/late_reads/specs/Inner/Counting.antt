@@ -1,10 +1,9 @@
 -- The counts as the code updates them, call by call. Assumes nothing.
 use mathlib.Core.Path.{_≡_}
 use mathlib.Core.Bool.{Bool, true, cond, _&&_}
-use mathlib.Core.Logic.{_⊎_}
 use mathlib.Core.List.{List, [], _∷_}
 use Prim.Native.Nat.{ℕ, _+_, _*_, _≤_, _<_}
-use lib.IntN.{ℤ, pos, negsuc, _+ℤ_, _-ℤ_}
+use lib.IntN.{ℤ, pos, natAbs, _+ℤ_, _-ℤ_}
 use lib.ListN.{length, getD, set}
 use Rattle.variants_and_fragments.specs.Case.{Fragment, Call, usable}
 use Rattle.variants_and_fragments.specs.First.{holdsBelow}
@@ -40,11 +39,11 @@ unfoldable pub callFits : ℤ → ℕ → CountedCall → List ℤ → Bool
 callFits d strand call counts =
     cond (call .usable) (fitsAt d (allelePlace call) counts && fitsAt d (strandPlace strand call) counts) (fitsAt d (ambiguousPlace call) counts)
 
--- element e is there and in range, and d is 1 or −1
+-- element e is there and in range, and d is at most 1 either way
 pub record CountsIn (counts : List ℤ) (e : ℕ) (d : ℤ) : Type 0 where
   pub there : e < length counts
   pub ranged : within (pos 0) (pos maxCount) (getD counts e (pos 0)) ≡ true
-  pub one : (d ≡ pos 1) ⊎ (d ≡ negsuc 0)
+  pub one : natAbs d ≤ 1
 
 -- the ten counts of a call's variant are there and in range
 pub record Countable (counts : List ℤ) (strand : ℕ) (d : ℤ) (call : CountedCall) : Type 0 where

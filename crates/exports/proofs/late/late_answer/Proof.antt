@@ -1,6 +1,5 @@
 -- `late_answer` meets its contract: done or refused, the numbers of the outcome.
 -- Assumes nothing.
-use mathlib.Core.Path.{ap}
 use mir.Syntax.{w64}
 use mir.Val.{SFits}
 use mir.Facts.{toZ-ofZ}

@@ -1,7 +1,6 @@
 -- `arriving_fits` asks each arriving call. At the loop's head those before i fit, so that the rest decides.
 -- Assumes nothing.
-use mathlib.Core.Path.{_≡_, refl, sym, _∙_, ap}
-use mathlib.Core.Logic.{inl}
+use mathlib.Core.Path.{_≡_, sym, _∙_, ap}
 use Prim.Native.Nat.{_-_, _≤_}
 use native.Mathlib.Omega.{arith}
 use borrow.Author.Needs.{needs}
@@ -61,7 +60,7 @@ call-fits-requires c κs =
     let l = c .before .before in
     let s = st l in
     rw (c .arriving-call .ensures, strand-is (l .before))
-    (fit-countable (l .loop .inv .1) (arriving-more (now (s .args .calls)) (l .loop .i) (c .before .loop-test .taken)) (strand-in s) (inl refl) (s .pre .0 .sized .n-top))
+    (fit-countable (l .loop .inv .1) (arriving-more (now (s .args .calls)) (l .loop .i) (c .before .loop-test .taken)) (strand-in s) (omega arith) (s .pre .0 .sized .n-top))
 
 returns : tie.Need-returns Inv-loop μ-loop
 returns c =

@@ -1,7 +1,6 @@
 -- `count_arriving` counts the arriving calls one after the other. At the loop's head, with those from i on all are counted.
 -- Assumes nothing.
-use mathlib.Core.Path.{_≡_, refl, _∙_, ap}
-use mathlib.Core.Logic.{inl}
+use mathlib.Core.Path.{_≡_, _∙_, ap}
 use Prim.Native.Nat.{_-_, _≤_}
 use native.Mathlib.Omega.{arith}
 use borrow.Author.Needs.{needs}
@@ -59,7 +58,7 @@ count-call-requires c κs =
     let l = turn .before in
     let s = st l in
     rw (c .arriving-call .ensures, strand-is (l .before))
-    (add-countable (l .loop .inv .1) (arriving-more (now (s .args .calls)) (l .loop .i) (turn .loop-test .taken)) (strand-in s) (inl refl) (s .pre .0 .sized .n-top))
+    (add-countable (l .loop .inv .1) (arriving-more (now (s .args .calls)) (l .loop .i) (turn .loop-test .taken)) (strand-in s) (omega arith) (s .pre .0 .sized .n-top))
 
 loop-again : tie.Need-loop-again Inv-loop μ-loop
 loop-again c =

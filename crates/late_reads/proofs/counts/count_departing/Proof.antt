@@ -1,8 +1,7 @@
 -- `count_departing` takes the calls of the fragment's chain off one after the other. At the loop's head, with those from record r on all are off.
 -- Assumes nothing.
-use mathlib.Core.Path.{_≡_, refl, _∙_, ap}
+use mathlib.Core.Path.{_≡_, _∙_, ap}
 use mathlib.Core.List.{_∷_}
-use mathlib.Core.Logic.{inr}
 use Prim.Native.Nat.{_+_, _-_, _≤_}
 use native.Mathlib.Omega.{arith}
 use borrow.Author.Needs.{needs}
@@ -79,7 +78,7 @@ count-call-requires c κs =
     let l = e .before .before in
     let s = st l in
     rw (c .chain-call .ensures, strand-is (l .before .before))
-    (add-countable (l .loop .inv .2) (left-is e) (strand-in s) (inr refl) (s .pre .0 .sized .n-top))
+    (add-countable (l .loop .inv .2) (left-is e) (strand-in s) (omega arith) (s .pre .0 .sized .n-top))
 
 next-record-requires : tie.Need-next-record-requires Inv-loop μ-loop
 next-record-requires c κs =

@@ -1,8 +1,7 @@
 -- `departing_fits` asks each call of the fragment's chain. At the loop's head k of them fit and r is the next record, so that the rest decides.
 -- Assumes nothing.
-use mathlib.Core.Path.{_≡_, refl, sym, _∙_}
+use mathlib.Core.Path.{_≡_, sym, _∙_}
 use mathlib.Core.List.{_∷_}
-use mathlib.Core.Logic.{inr}
 use Prim.Native.Nat.{_+_, _-_, _≤_}
 use native.Mathlib.Omega.{arith}
 use borrow.Author.Needs.{needs}
@@ -78,7 +77,7 @@ call-fits-requires c κs =
     let l = c .before .before .before in
     let s = st l in
     rw (c .chain-call .ensures, strand-is (l .before .before))
-    (fit-countable (l .loop .inv .2) (left-is (c .before)) (strand-in s) (inr refl) (s .pre .0 .sized .n-top))
+    (fit-countable (l .loop .inv .2) (left-is (c .before)) (strand-in s) (omega arith) (s .pre .0 .sized .n-top))
 
 returns-2 : tie.Need-returns-2 Inv-loop μ-loop
 returns-2 c =

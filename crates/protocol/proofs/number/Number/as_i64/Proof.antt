@@ -7,7 +7,7 @@ use mir.Syntax.{w64}
 use mir.Facts.{toZ-ofZ, toZ-pos}
 use borrow.Author.Tests.{not-true, not-false}
 use borrow.Author.Needs.{needs}
-use Rattle.protocol.specs.Inner.State.{isInteger, integral, signedSizes, i64In, withSign}
+use Rattle.protocol.specs.Inner.State.{isInteger, signedSizes, i64In, withSign}
 use Rattle.protocol.specs.declared.number.ReadI64.the-variants.{Value}
 use Rattle.protocol.proofs.Readings.{integral-none, integral-value, integral-large}
 use Rattle.protocol.proofs.number.Number.as_i64.Statement.{statement}
