@@ -93,7 +93,8 @@ class Module:
         self.definitions[name] = (start, end, used)
         if kind == "data":
             for line in self.lines[at + 1:end]:
-                for constructor in code(line).split(" : ")[0].split():
+                before, colon, _ = code(line).partition(" : ")
+                for constructor in before.split() if colon and "→" not in before else []:
                     self.definitions.setdefault(constructor, (start, end, {name}))
 
     def is_gap(self, at):

@@ -17,7 +17,7 @@ use Rattle.genotype_probs.specs.declared.Rates.{Rates}
 use Rattle.haplotype_assembly.specs.Phase.{phasedFlags}
 use Rattle.sweeps.specs.Sweeps.{likelihood}
 use Rattle.late_reads.specs.Values.{Fixed, likelihoodOn, readCount, exchanged}
-use Rattle.afresh.specs.Fresh.{fixedOf}
+use Rattle.late_reads.specs.LateReads.{fixedBy}
 use Rattle.afresh.proofs.Parts.{share, priorsTotal}
 
 -- ---- sums
@@ -61,7 +61,7 @@ module _ (fixed : Fixed) (x : Fragment) (none : x .calls ≡ []) where
 
 -- ---- what goes by the variants and the cutoff
 module _ (case : Case) (f : ℕ) (y : Fragment) (phase haps : List ℕ) where
-  pub same-fixed : fixedOf (exchanged case f y) phase haps ≡ fixedOf case phase haps
+  pub same-fixed : fixedBy (exchanged case f y) phase haps ≡ fixedBy case phase haps
   unfolding exchanged phasedFlags
   same-fixed = refl
 

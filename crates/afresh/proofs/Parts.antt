@@ -21,7 +21,8 @@ use Rattle.sweeps.proofs.Basics.{lik-cong}
 use Rattle.likelihoods.specs.SweepCaseOf.{sweepCaseOf}
 use Rattle.likelihoods.proofs.SweepCases.{frag-is}
 use Rattle.late_reads.specs.Values.{Values, values, Fixed, likelihoodOn, readCount}
-use Rattle.afresh.specs.Fresh.{sweepsOf, Fresh, fixedOf}
+use Rattle.late_reads.specs.LateReads.{fixedBy}
+use Rattle.afresh.specs.Fresh.{sweepsOf, Fresh}
 use Rattle.afresh.proofs.Counts.{counts-are}
 
 -- a read's share of the total: its two likelihoods mixed
@@ -36,7 +37,7 @@ pub record Parts (fixed : Fixed) (priors : ℤ) (n : ℕ) (fragments : List Frag
 
 module _ (rates : Rates) (case : Case) (phase haps : List ℕ) where
   abbrev fixed : Fixed
-  fixed = fixedOf case phase haps
+  fixed = fixedBy case phase haps
 
   -- what the phased variants have in the total
   unfoldable pub priorsTotal : ℤ

@@ -37,7 +37,8 @@ use Rattle.sweeps.specs.Sweeps.{likelihood}
 use Rattle.likelihoods.specs.Inner.Likelihoods.{callShare}
 use Rattle.likelihoods.proofs.SweepCases.{likelihood-sum, cond-down, share-down, frags-length, likelihood-in}
 use Rattle.late_reads.specs.Values.{Values, Fixed, likelihoodOn, counted, readCount, lowestTotal, maxCount, inRange}
-use Rattle.afresh.specs.Fresh.{sweepsOf, Fresh, fixedOf}
+use Rattle.late_reads.specs.LateReads.{fixedBy}
+use Rattle.afresh.specs.Fresh.{sweepsOf, Fresh}
 use Rattle.afresh.proofs.Parts.{share, priorsTotal, in-parts}
 
 -- ---- tests
@@ -142,7 +143,7 @@ sum-to-down m (suc n) f h = down-more (m * n + m) (m * suc n) _ (omega arith) (d
 -- ---- of a good case, at accepted rates
 module _ (rates : Rates) (case : Case) (phase haps : List ℕ) (good : GoodCase case) (good-rates : ratesFault rates ≡ 7) where
   abbrev fixed : Fixed
-  fixed = fixedOf case phase haps
+  fixed = fixedBy case phase haps
 
   prior-in : (v i j : ℕ) → DownTo 1052672 (getPrior rates (variantOf case v) i j)
   unfolding getPrior

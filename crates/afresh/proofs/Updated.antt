@@ -18,7 +18,8 @@ use Rattle.variants_and_fragments.specs.Sums.{sumOver, countOver}
 use Rattle.variants_and_fragments.proofs.Written.{written-length, written-at}
 use Rattle.genotype_probs.specs.declared.Rates.{Rates}
 use Rattle.late_reads.specs.Values.{Values, Fixed, likelihoodOn, readCount, putLikelihoods, arrived, departed, exchanged}
-use Rattle.afresh.specs.Fresh.{Fresh, fixedOf}
+use Rattle.late_reads.specs.LateReads.{fixedBy}
+use Rattle.afresh.specs.Fresh.{Fresh}
 use Rattle.afresh.proofs.Parts.{share, Parts, priorsTotal, in-parts, of-parts}
 use Rattle.afresh.proofs.Exchanged.{count-set, sum-set, no-likelihood, no-count, no-share, same-fixed, same-priors}
 
@@ -117,7 +118,7 @@ module _
 -- ---- of a case
 module _ (rates : Rates) (case : Case) (phase haps : List ℕ) (x : Values) (f : ℕ) (y : Fragment) where
   -- with y at f the parts are those of the fragments with y at f
-  of-exchanged : {z : Values} → Parts (fixedOf case phase haps) (priorsTotal rates case phase haps) (length (case .variants)) (set (case .fragments) f y) z
+  of-exchanged : {z : Values} → Parts (fixedBy case phase haps) (priorsTotal rates case phase haps) (length (case .variants)) (set (case .fragments) f y) z
       → Fresh rates (exchanged case f y) phase haps z
   unfolding exchanged
   of-exchanged parts = of-parts rates (exchanged case f y) phase haps (rw (same-fixed case f y phase haps, same-priors case f y phase haps rates) parts)
@@ -129,12 +130,12 @@ module _ (rates : Rates) (case : Case) (phase haps : List ℕ) (x : Values) (f :
       (room : 2 * length (case .fragments) ≤ length (x .likelihoods))
       (long : 10 * length (case .variants) ≤ length (x .counts)) where
     -- read y arrives at a number whose fragment has no calls
-    pub fresh-arrival : fragmentOf case f .calls ≡ [] → Fresh rates (exchanged case f y) phase haps (arrived (fixedOf case phase haps) (length (case .variants)) f y x)
-    fresh-arrival none = of-exchanged (arrival (fixedOf case phase haps) f y inside room (in-parts rates case phase haps fresh) long none)
+    pub fresh-arrival : fragmentOf case f .calls ≡ [] → Fresh rates (exchanged case f y) phase haps (arrived (fixedBy case phase haps) (length (case .variants)) f y x)
+    fresh-arrival none = of-exchanged (arrival (fixedBy case phase haps) f y inside room (in-parts rates case phase haps fresh) long none)
 
     -- the fragment at f departs: y, without calls, is there instead
     pub fresh-departure : y .calls ≡ [] → Fresh rates (exchanged case f y) phase haps (departed (case .cutoff) (length (case .variants)) f (fragmentOf case f) x)
-    fresh-departure none = of-exchanged (departure (fixedOf case phase haps) f y inside room (in-parts rates case phase haps fresh) long none)
+    fresh-departure none = of-exchanged (departure (fixedBy case phase haps) f y inside room (in-parts rates case phase haps fresh) long none)
 
 -- ---- no list gets longer or shorter, so that there is room for the next one
 module _ (fixed : Fixed) (n f : ℕ) (y : Fragment) (x : Values) where

@@ -11,7 +11,7 @@ use Rattle.haplotype_assembly.specs.Phase.{phasedFlags}
 use Rattle.sweeps.specs.Sweeps.{SweepCase, likelihood, phasedTotal}
 use Rattle.likelihoods.specs.SweepCaseOf.{sweepCaseOf}
 use Rattle.no_haplotypes.specs.NoHaplotypes.{answerAt}
-use Rattle.late_reads.specs.Values.{Values, Fixed}
+use Rattle.late_reads.specs.Values.{Values}
 
 -- the case of the sweeps under the given phase
 abbrev pub sweepsOf : Rates → Case → List ℕ → SweepCase
@@ -30,7 +30,3 @@ pub record Fresh (rates : Rates) (case : Case) (phase haps : List ℕ) (x : Valu
   pub counts : (e : ℕ) → e < 10 * length (case .variants) → getD (x .counts) e (pos 0) ≡ answerAt rates case (countWordAt e)
   -- section 6: the phased total
   pub total : x .total ≡ phasedTotal (sweepsOf rates case phase) haps
-
--- what does not change while reads come and go
-abbrev pub fixedOf : Case → List ℕ → List ℕ → Fixed
-fixedOf case phase haps = record { cutoff = case .cutoff; phased = phasedFlags case phase; haps = haps }

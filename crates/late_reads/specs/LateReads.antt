@@ -34,8 +34,12 @@ lateInput words bases phase haplotypes kept = record { words = words; bases = ba
 abbrev pub caseOf : LateInput → Case
 caseOf input = decode (input .words) (input .bases)
 
+-- what stays while reads come and go, of a case under a phase, at these haplotypes
+abbrev pub fixedBy : Case → List ℕ → List ℕ → Fixed
+fixedBy case phase haps = record { cutoff = case .cutoff; phased = phasedFlags case phase; haps = haps }
+
 abbrev pub fixedOf : LateInput → Fixed
-fixedOf input = record { cutoff = caseOf input .cutoff; phased = phasedFlags (caseOf input) (input .phase); haps = input .haplotypes }
+fixedOf input = fixedBy (caseOf input) (input .phase) (input .haplotypes)
 
 -- "An accepted arrival or departure answers unsettled", and the new total
 pub record LateAnswer : Type 0 where
