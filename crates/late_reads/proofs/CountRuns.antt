@@ -122,7 +122,7 @@ module _ {d cutoff : ℤ} {x : Fragment} {n : ℕ} {left : List Call} {counts af
   add-end e = rw e at (i .same)
 
   module _ {call : Call} {calls : List Call} (e : left ≡ call ∷ calls) (two : x .strand ≤ 1) where
-    pub add-countable : natAbs d ≤ 1 → n ≤ 1024 → Countable counts (x .strand) d (countedCall cutoff x call)
+    pub add-countable : {c : ℤ} → natAbs c ≤ 1 → n ≤ 1024 → Countable counts (x .strand) c (countedCall cutoff x call)
     add-countable = left-countable (rw e at (i .left)) cutoff x two
 
     pub add-on : (put : List ℤ) → put ≡ countCall d (x .strand) (countedCall cutoff x call) counts → Adding d cutoff x n calls put after
