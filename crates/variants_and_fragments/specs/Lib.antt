@@ -11,4 +11,5 @@ pub mod Written
 pub mod Decode
 pub mod Encode
 pub mod Pileup
+pub mod Visits
 pub mod Inner

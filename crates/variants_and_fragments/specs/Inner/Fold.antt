@@ -1,9 +1,8 @@
--- What a walk along a chain gathers, for any accumulator.
+-- What a walk gathers, for any accumulator.
 -- Assumes nothing.
 use mathlib.Core.List.{List, [], _∷_}
-use Prim.Native.Nat.{ℕ}
 
--- the records rs, one at a time from the left
-unfoldable pub fold : {A : Type 0} → (A → ℕ → A) → A → List ℕ → A
+-- those of a list, one at a time from the left
+unfoldable pub fold : {A X : Type 0} → (A → X → A) → A → List X → A
 fold step a [] = a
-fold step a (r ∷ rs) = fold step (step a r) rs
+fold step a (x ∷ xs) = fold step (step a x) xs
