@@ -4,6 +4,7 @@ use mathlib.Core.Path.{_≡_, refl, ap}
 use mathlib.Core.Bool.{Bool, true, false, not, cond, _&&_}
 use mathlib.Core.List.{List, [], _∷_, map}
 use Prim.Native.Nat.{ℕ, zero, suc, _+_, _≤_, _<_}
+use native.Mathlib.Nat.{le-refl}
 use native.Mathlib.Omega.{arith}
 use borrow.Author.Tests.{le-leb, leb-true}
 use lib.Dec.{leb}
@@ -13,20 +14,20 @@ use mir.Syntax.{w32}
 use mir.Val.{SFits}
 use Rattle.variants_and_fragments.specs.declared.Sizes.{Sizes}
 use Rattle.variants_and_fragments.specs.Sums.{countOver}
-use Rattle.variants_and_fragments.specs.Case.{Case, Call, alleleOf, variantOf, fragmentOf, noFragment}
-use Rattle.variants_and_fragments.specs.Inner.Case.{noCall, risingFrom, All, end, also, GoodAllele, GoodVariant, GoodCall, GoodFragment, GoodCase, SmallNumbers}
+use Rattle.variants_and_fragments.specs.Case.{Case, alleleOf, variantOf, fragmentOf, noFragment}
+use Rattle.variants_and_fragments.specs.Inner.Case.{noCall, risingFrom, GoodAllele, GoodVariant, GoodCall, GoodFragment, GoodCase, SmallNumbers}
 use Rattle.variants_and_fragments.specs.Refusals.{done}
-use Rattle.variants_and_fragments.specs.Layout.{firstField, fragmentWord, pos0Field, depthField, variantAt, alleleCountAt, lengthAt, cutoffAt, callVariantAt, callOk}
+use Rattle.variants_and_fragments.specs.Layout.{firstField, fragmentWord, pos0Field, depthField, variantAt, alleleCountAt, lengthAt, cutoffAt, callVariantAt}
 use Rattle.variants_and_fragments.specs.Inner.Layout.{VariantIn}
 use Rattle.variants_and_fragments.specs.Chain.{firstCallAt, presentAt, nextCallAt, isRecord, linkOk, chainFrom, chainOf, memb, goodChain}
-use Rattle.variants_and_fragments.specs.Inner.Accepted.{allb, CallIn, CaseIn, BasesIn}
+use Rattle.variants_and_fragments.specs.Inner.Accepted.{CallIn, CaseIn, BasesIn}
 use Rattle.variants_and_fragments.proofs.Bools.{both}
-use Rattle.variants_and_fragments.proofs.Records.{pos0-up, call-facts}
+use Rattle.variants_and_fragments.proofs.Records.{pos0-up}
 use Rattle.variants_and_fragments.proofs.Accepted.{case-in, bases-in}
 use Rattle.variants_and_fragments.specs.Check.{checkCaseOutcome}
-use Rattle.variants_and_fragments.specs.Inner.ChainCalls.{callId, callsFrom}
+use Rattle.variants_and_fragments.specs.Visits.{visit, visitsFrom}
 use Rattle.variants_and_fragments.specs.Decode.{tabulateFrom, tabulate, alleleStart, callFrom, fragmentFrom, decode}
-use Rattle.variants_and_fragments.proofs.Pigeon.{calls-top}
+use Rattle.variants_and_fragments.proofs.Visits.{visits-top, chain-all}
 use Rattle.variants_and_fragments.proofs.Readings.{nat-top, quality-down, absent-none}
 use Rattle.variants_and_fragments.proofs.Chain.{next-rises, none-chain}
 use Rattle.variants_and_fragments.proofs.Alls.{all-at, all-tabulate}
@@ -51,16 +52,11 @@ rise-from w s (suc k) r b past g h = go (isRecord s r) refl g (rise-from w s k (
         let low : b ≤ callVariantAt w s r = h (leb-true 1 r (both (leb 1 r) (leb r (s .used)) e .0)) in
         rw (le-leb b (callVariantAt w s r) low) (rec (suc (callVariantAt w s r)) (r ∷ past) (y .1) (next-rises w s r (y .0)))
 
-chain-calls : (w : List ℤ) (s : Sizes) (P : Call → Type 0) → ((r : ℕ) → CallIn w s r → P (callFrom w s r)) → (rs : List ℕ) → allb (callOk w s) rs ≡ true → All P (map (callFrom w s) rs)
-unfolding allb
-chain-calls w s P h [] a = end
-chain-calls w s P h (r ∷ rs) a = let b = both (callOk w s r) (allb (callOk w s) rs) a in also (h r (call-facts w s r (b .0))) (chain-calls w s P h rs (b .1))
-
--- the calls of all fragments together are those of their chains
-count-chains : (w : List ℤ) (s : Sizes) (n f : ℕ) → countOver (tabulateFrom (fragmentFrom w s) f n) (λ fragment. length (fragment .calls)) ≡ length (callsFrom w s n f)
-unfolding tabulateFrom countOver callsFrom fragmentFrom
+-- the calls of all fragments together are those that the walk visits
+count-chains : (w : List ℤ) (s : Sizes) (n f : ℕ) → countOver (tabulateFrom (fragmentFrom w s) f n) (λ fragment. length (fragment .calls)) ≡ length (visitsFrom w s f n)
+unfolding tabulateFrom countOver visitsFrom fragmentFrom
 count-chains w s zero f = refl
-count-chains w s (suc n) f = rw (length-append, length-map (chainOf w s f) (callFrom w s), length-map (chainOf w s f) (callId f), count-chains w s n (suc f))
+count-chains w s (suc n) f = rw (length-append, length-map (chainOf w s f) (callFrom w s), length-map (chainOf w s f) (visit f), count-chains w s n (suc f))
 
 -- ---- an accepted case
 length-top : {w : List ℤ} {v : ℕ} → VariantIn w v → (j : ℕ) → j < 3 → lengthAt w v j ≤ 64
@@ -119,7 +115,7 @@ module _ {w : List ℤ} {b : List ℕ} {s : Sizes} (k : CaseIn w s) (i : BasesIn
       record {
         absent = absent-empty f;
         strand-in = c .strand-in;
-        calls-in = chain-calls w s (GoodCall (decode w b .variants)) call-good (chainOf w s f) (c .calls);
+        calls-in = chain-all w s (callFrom w s) (GoodCall (decode w b .variants)) call-good (chainOf w s f) (c .calls);
         rises = rise-from w s (s .c) (firstCallAt w s f) 0 _ (c .right) (λ l. omega arith);
       }
 
@@ -131,7 +127,7 @@ module _ {w : List ℤ} {b : List ℕ} {s : Sizes} (k : CaseIn w s) (i : BasesIn
   case-good = record {
     variants-top = omega (arith, variants-are k b, k .sized .n-top);
     fragments-top = omega (arith, fragments-are k b, k .sized .f-top);
-    calls-top = rw fragments-list (omega (arith, count-chains w s (s .f) 0, calls-top w s k, k .sized .used-top, k .sized .c-top));
+    calls-top = rw fragments-list (omega (arith, count-chains w s (s .f) 0, visits-top w s k (s .f) (le-refl _), k .sized .used-top, k .sized .c-top));
     cutoff-in = rw (cutoff-is w b) (quality-down (cutoffAt w) (k .cutoff-in));
     variants-in = λ v h. variant-good v (omega (arith, variants-are k b));
     pos0-rises = λ v h. pos0-on v (omega (arith, variants-are k b));

@@ -1,6 +1,7 @@
 pub mod Readings
 pub mod Walks
 pub mod Pigeon
+pub mod Visits
 pub mod Reach
 pub mod Decoded
 pub mod Alls

@@ -1,14 +1,14 @@
--- The chains of an accepted case share no record, so that they have at most C records together: these are distinct numbers of 1..C.
+-- The chains of an accepted case share no record: the records reached are distinct numbers of 1..used, and a list of such has no more than that.
 -- Assumes nothing.
-use mathlib.Core.Path.{_≡_, refl, sym, _∙_, ap}
+use mathlib.Core.Path.{_≡_, refl, sym, _∙_}
 use mathlib.Core.Bool.{Bool, true, false, not, cond, _&&_, _||_}
-use mathlib.Core.List.{List, [], _∷_, _++_, map}
-use Prim.Native.Nat.{ℕ, zero, suc, _+_, _≤_, _<_}
+use mathlib.Core.List.{List, [], _∷_, _++_}
+use Prim.Native.Nat.{ℕ, zero, suc, _≤_, _<_}
 use native.Mathlib.Nat.{le-refl}
 use native.Mathlib.Omega.{arith}
 use native.Mathlib.Decide.{decLt, ℕ-discrete}
 use borrow.Author.Tests.{eq-eqb, ne-eqb}
-use lib.ListN.{length, length-append, length-map}
+use lib.ListN.{length}
 use lib.IntN.{ℤ}
 use lib.Dec.{eqb}
 use Rattle.variants_and_fragments.specs.declared.Sizes.{Sizes}
@@ -17,7 +17,6 @@ use Rattle.variants_and_fragments.specs.Inner.Accepted.{CaseIn}
 use Rattle.variants_and_fragments.proofs.Bools.{both, or-off, or-right, not-on, true-false}
 use Rattle.variants_and_fragments.proofs.Chain.{record-bounds}
 use Rattle.variants_and_fragments.proofs.Walks.{memb-middle}
-use Rattle.variants_and_fragments.specs.Inner.ChainCalls.{callId, callsFrom}
 
 -- no number comes twice
 unfoldable pub distinct : List ℕ → Bool
@@ -127,28 +126,12 @@ chain-within w s (suc k) r l h = go (isRecord s r) refl (chain-within w s k (nex
     go false e rec = h
     go true e rec = let b = record-bounds s r e in more (b .0) (b .1) rec
 
-reached-ok : (w : List ℤ) (s : Sizes) → CaseIn w s → (f : ℕ) → f ≤ s .f → (distinct (reached w s f) ≡ true) × Within (s .used) (reached w s f)
+pub reached-ok : (w : List ℤ) (s : Sizes) → CaseIn w s → (f : ℕ) → f ≤ s .f → (distinct (reached w s f) ≡ true) × Within (s .used) (reached w s f)
 unfolding reached chainOf distinct
 reached-ok w s k zero l = (refl, none)
 reached-ok w s k (suc f) l =
     let i = reached-ok w s k f (omega arith) in
     (good-distinct w s (chainOf w s f) (reached w s f) (k .frags f (omega arith) .right) (i .0), chain-within w s (s .c) (firstCallAt w s f) (reached w s f) (i .1))
-
--- how many records the chains of the fragments below f have together
-pub chainLengths : List ℤ → Sizes → ℕ → ℕ
-chainLengths w s zero = 0
-chainLengths w s (suc f) = length (chainOf w s f) + chainLengths w s f
-
-reached-length : (w : List ℤ) (s : Sizes) (f : ℕ) → length (reached w s f) ≡ chainLengths w s f
-unfolding reached chainLengths
-reached-length w s zero = refl
-reached-length w s (suc f) = length-append (chainOf w s f) (reached w s f) ∙ ap (λ (n : ℕ). length (chainOf w s f) + n) (reached-length w s f)
-
--- the calls of all chains are at most the records used
-pub chains-top : (w : List ℤ) (s : Sizes) → CaseIn w s → (f : ℕ) → f ≤ s .f → chainLengths w s f ≤ s .used
-chains-top w s k f l =
-    let r = reached-ok w s k f l in
-    omega (arith, pigeon (s .used) (reached w s f) (r .0) (r .1), reached-length w s f)
 
 -- ---- a record lies in one chain at most
 pub memb-append : (x : ℕ) (rs l : List ℕ) → memb x (rs ++ l) ≡ (memb x rs || memb x l)
@@ -194,19 +177,3 @@ one-chain w s k r f g l m h i = elim (decLt f g) [
   | yes a ↦ absurd (later-chain w s k r f g a m h i)
   | no a ↦ elim (decLt g f) [ yes b ↦ absurd (later-chain w s k r g f b l i h) | no b ↦ omega arith ]
 ]
-
--- ---- the same of the calls listed fragment by fragment
-count-calls : (w : List ℤ) (s : Sizes) (j f : ℕ) → length (reached w s (f + j)) ≡ length (reached w s f) + length (callsFrom w s j f)
-unfolding callsFrom reached
-count-calls w s zero f = let e : f + 0 ≡ f = omega arith in rw e (omega arith)
-count-calls w s (suc j) f =
-    let e : f + suc j ≡ suc f + j = omega arith in
-    rw e (count-calls w s j (suc f) ∙ rw (length-append (chainOf w s f) (reached w s f), length-append (map (callId f) (chainOf w s f)) (callsFrom w s j (suc f)), length-map) (omega arith))
-
-pub calls-top : (w : List ℤ) (s : Sizes) → CaseIn w s → length (callsFrom w s (s .f) 0) ≤ s .used
-unfolding reached
-calls-top w s k =
-    let r = reached-ok w s k (s .f) (le-refl _) in
-    let e : 0 + s .f ≡ s .f = omega arith in
-    let n : length (reached w s (s .f)) ≡ 0 + length (callsFrom w s (s .f) 0) = rw e at (count-calls w s (s .f) 0) in
-    omega (arith, pigeon (s .used) (reached w s (s .f)) (r .0) (r .1))

@@ -7,7 +7,6 @@ pub mod Head
 pub mod Chain
 pub mod Accepted
 pub mod Fold
-pub mod ChainCalls
 pub mod Alleles
 pub mod Written
 pub mod Pileup
