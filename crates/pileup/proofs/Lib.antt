@@ -5,7 +5,9 @@ pub mod CallReads
 pub mod ChainReads
 pub mod LentReader
 pub mod Keys
-pub mod Laying
+pub mod Collecting
+pub mod Visiting
+pub mod CaseRows
 pub mod RowFacts
 pub mod RowParts
 pub mod RowWalks

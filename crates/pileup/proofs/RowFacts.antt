@@ -1,24 +1,21 @@
 -- Each row of an accepted case is one of its fragments, at one of its variants, and in its ranges.
 -- Assumes nothing.
-use mathlib.Core.Path.{_≡_}
-use mathlib.Core.Bool.{true}
-use mathlib.Core.List.{List, [], _∷_, map}
+use mathlib.Core.List.{List, map}
 use Prim.Native.Nat.{ℕ, zero, suc, _+_, _≤_, _<_}
 use native.Mathlib.Omega.{arith}
 use lib.IntN.{ℤ}
 use Rattle.variants_and_fragments.specs.declared.Sizes.{Sizes}
 use Rattle.variants_and_fragments.specs.Case.{usable}
-use Rattle.variants_and_fragments.specs.Inner.Case.{All, end, also}
-use Rattle.variants_and_fragments.specs.Layout.{cutoffAt, callOk, callVariantAt}
+use Rattle.variants_and_fragments.specs.Inner.Case.{All, end}
+use Rattle.variants_and_fragments.specs.Layout.{cutoffAt, callVariantAt}
 use Rattle.variants_and_fragments.specs.Chain.{chainOf}
-use Rattle.variants_and_fragments.specs.Inner.Accepted.{allb, CallIn, CaseIn}
+use Rattle.variants_and_fragments.specs.Inner.Accepted.{CallIn, CaseIn}
 use Rattle.variants_and_fragments.specs.Decode.{tabulateFrom, callFrom, fragmentFrom}
 use Rattle.variants_and_fragments.specs.Pileup.{rowOf, usableCalls, rowsFrom}
 use Rattle.variants_and_fragments.proofs.Alls.{all-map, all-append}
-use Rattle.variants_and_fragments.proofs.Bools.{both}
 use Rattle.variants_and_fragments.proofs.Readings.{quality-down}
 use Rattle.variants_and_fragments.proofs.Only.{only-all}
-use Rattle.variants_and_fragments.proofs.Records.{call-facts}
+use Rattle.variants_and_fragments.proofs.Visits.{chain-all}
 use Rattle.pileup.specs.Inner.Packed.{RowIn}
 
 module _ {w : List ℤ} {s : Sizes} (k : CaseIn w s) where
@@ -32,15 +29,10 @@ module _ {w : List ℤ} {s : Sizes} (k : CaseIn w s) where
     one-minus-qual-in = quality-down _ (c .other-in);
   }
 
-  chain-in : (f : ℕ) → f < s .f → (rs : List ℕ) → allb (callOk w s) rs ≡ true → All (λ call. RowIn (s .n) (s .f) (rowOf f call)) (map (callFrom w s) rs)
-  unfolding allb
-  chain-in f h [] e = end
-  chain-in f h (r ∷ rs) e = let t = both (callOk w s r) (allb (callOk w s) rs) e in also (row-in f r h (call-facts w s r (t .0))) (chain-in f h rs (t .1))
-
   -- the rows of fragment f
   pub own-in : (f : ℕ) → f < s .f → All (RowIn (s .n) (s .f)) (map (rowOf f) (usableCalls (cutoffAt w) (fragmentFrom w s f)))
   unfolding usableCalls fragmentFrom
-  own-in f h = all-map (rowOf f) _ (only-all (usable (cutoffAt w) (fragmentFrom w s f)) (map (callFrom w s) (chainOf w s f)) (chain-in f h (chainOf w s f) (k .frags f h .calls)))
+  own-in f h = all-map (rowOf f) _ (only-all (usable (cutoffAt w) (fragmentFrom w s f)) (map (callFrom w s) (chainOf w s f)) (chain-all w s (callFrom w s) _ (λ r. row-in f r h) (chainOf w s f) (k .frags f h .calls)))
 
   -- those of j fragments from f on
   pub from-in : (j f : ℕ) → f + j ≤ s .f → All (RowIn (s .n) (s .f)) (rowsFrom (cutoffAt w) f (tabulateFrom (fragmentFrom w s) f j))

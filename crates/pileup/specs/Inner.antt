@@ -1,4 +1,5 @@
 pub mod Packed
 pub mod Reader
+pub mod Collected
 pub mod Rows
 pub mod Piles
