@@ -112,7 +112,7 @@ module _ {w : List ℤ} {b : List ℕ} {s : Sizes} (k : CaseIn w s) (i : BasesIn
   fragment-good f h =
       let c = k .frags f h in
       record {
-        absent = λ h. rw (absent-chain w s (k .sized) f h);
+        absent = λ gone. rw (absent-chain w s (k .sized) f gone);
         strand-in = c .strand-in;
         calls-in = chain-all w s (callFrom w s) (GoodCall (decode w b .variants)) call-good (chainOf w s f) (c .calls);
         rises = chain-rises c;
