@@ -41,3 +41,8 @@ or-right false b h = h
 pub not-on : (b : Bool) → not b ≡ true → b ≡ false
 not-on true h = true-false h refl
 not-on false h = refl
+
+-- what does not hold is false
+pub off : (b : Bool) → (b ≡ true → ⊥) → b ≡ false
+off true h = absurd (h refl)
+off false h = refl

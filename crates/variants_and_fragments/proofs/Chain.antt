@@ -12,12 +12,13 @@ use borrow.Author.Tests.{lt-ltb, le-leb, lt-leb, eq-eqb, ne-eqb, leb-true, ltb-t
 use Rattle.variants_and_fragments.specs.declared.Sizes.{Sizes}
 use Rattle.variants_and_fragments.specs.Words.{within}
 use Rattle.variants_and_fragments.specs.Layout.{maxCalls, firstField, strandField, nextField, fragmentWord, callWord, callVariantAt}
-use Rattle.variants_and_fragments.specs.Chain.{firstCallAt, strandAt, nextCallAt, chainFrom, chainOf, isRecord, memb, reached, linkOk, goodChain, fragmentOk}
+use Rattle.variants_and_fragments.specs.Chain.{firstCallAt, presentAt, strandAt, nextCallAt, chainFrom, chainOf, isRecord, memb, reached, linkOk, goodChain, fragmentOk}
 use Rattle.variants_and_fragments.specs.Inner.Layout.{Sized}
 use Rattle.variants_and_fragments.specs.Inner.Chain.{recordOf}
 use Rattle.variants_and_fragments.specs.Inner.Accepted.{allb}
 use Rattle.variants_and_fragments.proofs.Bools.{both, or-right, true-false}
 use Rattle.variants_and_fragments.proofs.Ranges.{upto-nat, within-top}
+use Rattle.variants_and_fragments.proofs.Readings.{absent-none}
 
 -- ---- a link
 module _ (w : List ℤ) (s : Sizes) (r : ℕ) where
@@ -120,6 +121,11 @@ pub none-chain : (w : List ℤ) (s : Sizes) (k t : ℕ) → s .used < t → chai
 unfolding chainFrom
 none-chain w s zero t h = refl
 none-chain w s (suc k) t h = rw (lt-leb t (s .used) h, and-false (leb 1 t))
+
+-- and none of an absent fragment, whose first call is no record
+pub absent-chain : (w : List ℤ) (s : Sizes) → Sized w s → (f : ℕ) → presentAt w s f ≡ false → chainOf w s f ≡ []
+unfolding chainOf
+absent-chain w s z f h = none-chain w s (s .c) (firstCallAt w s f) (omega (arith, absent-none (fragmentWord w s f firstField) h, z .used-top, z .c-top))
 
 -- each of a chain is a record
 chain-from-record : (w : List ℤ) (s : Sizes) (k r x : ℕ) → memb x (chainFrom w s k r) ≡ true → (1 ≤ x) × (x ≤ s .used)

@@ -84,6 +84,10 @@ module _ {w : List ℤ} {s : Sizes} (k : CaseIn w s) (b : List ℕ) where
   pub fragment-here : (f : ℕ) → f < s .f → fragmentOf (decode w b) f ≡ fragmentFrom w s f
   fragment-here f h = fragment-is w b f (subst (λ (t : Sizes). f < t .f) (k .shape) h) ∙ ap (λ (t : Sizes). fragmentFrom w t f) (sizes-are k)
 
+  pub fragments-list : decode w b .fragments ≡ tabulate (s .f) (fragmentFrom w s)
+  unfolding decode
+  fragments-list = ap (λ (t : Sizes). tabulate (t .f) (fragmentFrom w t)) (sizes-are k)
+
   pub pos0-is : (v : ℕ) → v < s .n → variantOf (decode w b) v .pos0 ≡ pos0At w v
   unfolding variantFrom
   pos0-is v h = ap (λ (x : Variant). x .pos0) (variant-here v h)

@@ -1,6 +1,6 @@
 -- Every accepted case is good: what the check says of words and bytes, said of the decoded case.
 -- Assumes nothing.
-use mathlib.Core.Path.{_≡_, refl, ap}
+use mathlib.Core.Path.{_≡_, refl}
 use mathlib.Core.Bool.{Bool, true, false, not, cond, _&&_}
 use mathlib.Core.List.{List, [], _∷_, map}
 use Prim.Native.Nat.{ℕ, zero, suc, _+_, _≤_, _<_}
@@ -15,23 +15,23 @@ use mir.Val.{SFits}
 use Rattle.variants_and_fragments.specs.declared.Sizes.{Sizes}
 use Rattle.variants_and_fragments.specs.Sums.{countOver}
 use Rattle.variants_and_fragments.specs.Case.{Case, alleleOf, variantOf, fragmentOf, noFragment}
-use Rattle.variants_and_fragments.specs.Inner.Case.{noCall, risingFrom, GoodAllele, GoodVariant, GoodCall, GoodFragment, GoodCase, SmallNumbers}
+use Rattle.variants_and_fragments.specs.Inner.Case.{noCall, risingFrom, rising, GoodAllele, GoodVariant, GoodCall, GoodFragment, GoodCase, SmallNumbers}
 use Rattle.variants_and_fragments.specs.Refusals.{done}
-use Rattle.variants_and_fragments.specs.Layout.{firstField, fragmentWord, pos0Field, depthField, variantAt, alleleCountAt, lengthAt, cutoffAt, callVariantAt}
+use Rattle.variants_and_fragments.specs.Layout.{pos0Field, depthField, variantAt, alleleCountAt, lengthAt, cutoffAt, callVariantAt}
 use Rattle.variants_and_fragments.specs.Inner.Layout.{VariantIn}
-use Rattle.variants_and_fragments.specs.Chain.{firstCallAt, presentAt, nextCallAt, isRecord, linkOk, chainFrom, chainOf, memb, goodChain}
-use Rattle.variants_and_fragments.specs.Inner.Accepted.{CallIn, CaseIn, BasesIn}
+use Rattle.variants_and_fragments.specs.Chain.{firstCallAt, nextCallAt, isRecord, linkOk, chainFrom, chainOf, memb, goodChain}
+use Rattle.variants_and_fragments.specs.Inner.Accepted.{CallIn, FragmentIn, CaseIn, BasesIn}
 use Rattle.variants_and_fragments.proofs.Bools.{both}
 use Rattle.variants_and_fragments.proofs.Records.{pos0-up}
 use Rattle.variants_and_fragments.proofs.Accepted.{case-in, bases-in}
 use Rattle.variants_and_fragments.specs.Check.{checkCaseOutcome}
 use Rattle.variants_and_fragments.specs.Visits.{visit, visitsFrom}
-use Rattle.variants_and_fragments.specs.Decode.{tabulateFrom, tabulate, alleleStart, callFrom, fragmentFrom, decode}
+use Rattle.variants_and_fragments.specs.Decode.{tabulateFrom, alleleStart, callFrom, fragmentFrom, decode}
 use Rattle.variants_and_fragments.proofs.Visits.{visits-top, chain-all}
-use Rattle.variants_and_fragments.proofs.Readings.{nat-top, quality-down, absent-none}
-use Rattle.variants_and_fragments.proofs.Chain.{next-rises, none-chain}
+use Rattle.variants_and_fragments.proofs.Readings.{nat-top, quality-down}
+use Rattle.variants_and_fragments.proofs.Chain.{next-rises, absent-chain}
 use Rattle.variants_and_fragments.proofs.Alls.{all-at, all-tabulate}
-use Rattle.variants_and_fragments.proofs.Decoded.{cutoff-is, sizes-are, variants-are, fragments-are, pos0-is, dp-is, genotype0-is, genotype1-is, allele-count-is, allele-end, allele-length, allele-byte}
+use Rattle.variants_and_fragments.proofs.Decoded.{cutoff-is, variants-are, fragments-are, fragments-list, pos0-is, dp-is, genotype0-is, genotype1-is, allele-count-is, allele-end, allele-length, allele-byte}
 
 -- ---- along a chain
 rise-from : (w : List ℤ) (s : Sizes) (k r b : ℕ) (past : List ℕ) → goodChain w s past (chainFrom w s k r) ≡ true → (1 ≤ r → b ≤ callVariantAt w s r) → risingFrom b (map (callFrom w s) (chainFrom w s k r)) ≡ true
@@ -51,6 +51,10 @@ rise-from w s (suc k) r b past g h = go (isRecord s r) refl g (rise-from w s k (
         let y = both (linkOk w s r) (goodChain w s (r ∷ past) rest) (x .1) in
         let low : b ≤ callVariantAt w s r = h (leb-true 1 r (both (leb 1 r) (leb r (s .used)) e .0)) in
         rw (le-leb b (callVariantAt w s r) low) (rec (suc (callVariantAt w s r)) (r ∷ past) (y .1) (next-rises w s r (y .0)))
+
+pub chain-rises : {w : List ℤ} {s : Sizes} {f : ℕ} → FragmentIn w s f → rising (map (callFrom w s) (chainOf w s f)) ≡ true
+unfolding chainOf
+chain-rises {w} {s} {f} i = rise-from w s (s .c) (firstCallAt w s f) 0 _ (i .right) (λ l. omega arith)
 
 -- the calls of all fragments together are those that the walk visits
 count-chains : (w : List ℤ) (s : Sizes) (n f : ℕ) → countOver (tabulateFrom (fragmentFrom w s) f n) (λ fragment. length (fragment .calls)) ≡ length (visitsFrom w s f n)
@@ -103,35 +107,26 @@ module _ {w : List ℤ} {b : List ℕ} {s : Sizes} (k : CaseIn w s) (i : BasesIn
     one-minus-qual-in = quality-down _ (c .other-in);
   }
 
-  -- an absent fragment's first call is no record
-  absent-empty : (f : ℕ) → presentAt w s f ≡ false → map (callFrom w s) (chainOf w s f) ≡ []
-  unfolding chainOf
-  absent-empty f h = rw (none-chain w s (s .c) (firstCallAt w s f) (omega (arith, absent-none (fragmentWord w s f firstField) h, k .sized .used-top, k .sized .c-top)))
-
   fragment-good : (f : ℕ) → f < s .f → GoodFragment (decode w b .variants) (fragmentFrom w s f)
-  unfolding fragmentFrom chainOf
+  unfolding fragmentFrom
   fragment-good f h =
       let c = k .frags f h in
       record {
-        absent = absent-empty f;
+        absent = λ gone. rw (absent-chain w s (k .sized) f gone);
         strand-in = c .strand-in;
         calls-in = chain-all w s (callFrom w s) (GoodCall (decode w b .variants)) call-good (chainOf w s f) (c .calls);
-        rises = rise-from w s (s .c) (firstCallAt w s f) 0 _ (c .right) (λ l. omega arith);
+        rises = chain-rises c;
       }
-
-  fragments-list : decode w b .fragments ≡ tabulate (s .f) (fragmentFrom w s)
-  unfolding decode
-  fragments-list = ap (λ (t : Sizes). tabulate (t .f) (fragmentFrom w t)) (sizes-are k)
 
   case-good : GoodCase (decode w b)
   case-good = record {
     variants-top = omega (arith, variants-are k b, k .sized .n-top);
     fragments-top = omega (arith, fragments-are k b, k .sized .f-top);
-    calls-top = rw fragments-list (omega (arith, count-chains w s (s .f) 0, visits-top w s k (s .f) (le-refl _), k .sized .used-top, k .sized .c-top));
+    calls-top = rw (fragments-list k b) (omega (arith, count-chains w s (s .f) 0, visits-top w s k (s .f) (le-refl _), k .sized .used-top, k .sized .c-top));
     cutoff-in = rw (cutoff-is w b) (quality-down (cutoffAt w) (k .cutoff-in));
     variants-in = λ v h. variant-good v (omega (arith, variants-are k b));
     pos0-rises = λ v h. pos0-on v (omega (arith, variants-are k b));
-    fragments-in = rw fragments-list (all-tabulate (s .f) (fragmentFrom w s) fragment-good);
+    fragments-in = rw (fragments-list k b) (all-tabulate (s .f) (fragmentFrom w s) fragment-good);
   }
 
   numbers-small : ((j : ℕ) → SFits w32 (getD w j (pos 0))) → SmallNumbers (decode w b)

@@ -2,6 +2,8 @@ pub mod Readings
 pub mod Walks
 pub mod Pigeon
 pub mod Visits
+pub mod VisitsOnce
+pub mod ByFragment
 pub mod Reach
 pub mod Decoded
 pub mod Alls

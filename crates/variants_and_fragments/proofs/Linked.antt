@@ -15,7 +15,7 @@ use Rattle.variants_and_fragments.specs.declared.Sizes.{Sizes}
 use Rattle.variants_and_fragments.specs.Layout.{callVariantAt, callOk}
 use Rattle.variants_and_fragments.specs.Chain.{firstCallAt, nextCallAt, isRecord, linkOk, chainFrom, chainOf, memb, goodChain, reached}
 use Rattle.variants_and_fragments.specs.Inner.Accepted.{allb, CallIn, FragmentIn}
-use Rattle.variants_and_fragments.proofs.Bools.{both}
+use Rattle.variants_and_fragments.proofs.Bools.{both, off}
 use Rattle.variants_and_fragments.proofs.Records.{call-facts}
 use Rattle.variants_and_fragments.proofs.Walks.{chain-on}
 use Rattle.variants_and_fragments.specs.Inner.Chain.{firstRecordAt}
@@ -36,11 +36,7 @@ record Passed (w : List ℤ) (s : Sizes) (r : ℕ) (past : List ℕ) : Type 0 wh
 module _ {w : List ℤ} {s : Sizes} {r : ℕ} {past : List ℕ} (lo : 1 ≤ r) (p : Passed w s r past) where
   -- so r is none of them
   fresh : memb r past ≡ false
-  fresh = go (memb r past) refl
-    where
-      go : (b : Bool) → memb r past ≡ b → b ≡ false
-      go true e = absurd (omega (arith, p .below lo r e))
-      go false e = refl
+  fresh = off (memb r past) (λ e. omega (arith, p .below lo r e))
 
   more-apart : distinct (r ∷ past) ≡ true
   unfolding distinct

@@ -1,0 +1,68 @@
+-- Request 2: the walk visits each record in a chain once and no other. The records visited are those reached, and no two of these are the same.
+-- Assumes nothing.
+use mathlib.Core.Path.{_≡_, refl, _∙_, ap}
+use mathlib.Core.Bool.{true, false, not}
+use mathlib.Core.List.{List, [], _∷_, _++_}
+use Prim.Native.Nat.{ℕ, zero, suc, _+_, _<_}
+use native.Mathlib.Nat.{le-refl}
+use native.Mathlib.Omega.{arith}
+use native.Mathlib.Decide.{ℕ-discrete}
+use borrow.Author.Tests.{eq-eqb, ne-eqb}
+use lib.Dec.{eqb}
+use lib.IntN.{ℤ}
+use lib.ListN.{length-append}
+use Rattle.variants_and_fragments.specs.declared.Sizes.{Sizes}
+use Rattle.variants_and_fragments.specs.Chain.{chainOf, memb, reached}
+use Rattle.variants_and_fragments.specs.Check.{checkCaseOutcome}
+use Rattle.variants_and_fragments.specs.Pileup.{only}
+use Rattle.variants_and_fragments.specs.Refusals.{done}
+use Rattle.variants_and_fragments.specs.Visits.{visited, times, VisitsOnce}
+use Rattle.variants_and_fragments.specs.Inner.Accepted.{CaseIn}
+use Rattle.variants_and_fragments.proofs.Accepted.{case-in}
+use Rattle.variants_and_fragments.proofs.Bools.{both, or-off, not-on, off, true-false}
+use Rattle.variants_and_fragments.proofs.Chain.{absent-chain, chain-record}
+use Rattle.variants_and_fragments.proofs.Only.{only-append}
+use Rattle.variants_and_fragments.proofs.Pigeon.{distinct, memb-append, reached-ok, reached-has}
+use Rattle.variants_and_fragments.proofs.Visits.{same-total}
+
+-- ---- how often a number is in a list
+times-append : (r : ℕ) (xs ys : List ℕ) → times r (xs ++ ys) ≡ times r xs + times r ys
+times-append r xs ys = rw (only-append (eqb r) xs ys) (length-append (only (eqb r) xs) (only (eqb r) ys))
+
+times-none : (r : ℕ) (l : List ℕ) → memb r l ≡ false → times r l ≡ 0
+unfolding memb only
+times-none r [] h = refl
+times-none r (x ∷ xs) h = let o = or-off (eqb r x) (memb r xs) h in rw (o .0) (times-none r xs (o .1))
+
+times-once : (r : ℕ) (l : List ℕ) → distinct l ≡ true → memb r l ≡ true → times r l ≡ 1
+unfolding distinct memb only
+times-once r [] d h = true-false h refl
+times-once r (x ∷ xs) d h =
+    let a = both (not (memb x xs)) (distinct xs) d in
+    elim (ℕ-discrete r x) [
+      | yes e ↦ rw (eq-eqb r x e) (ap suc (times-none r xs (rw e (not-on _ (a .0)))))
+      | no n ↦ rw (ne-eqb r x n) (times-once r xs (a .1) (rw (ne-eqb r x n) at h))
+    ]
+
+-- ---- the walk
+-- what no chain has is not reached
+reached-lacks : (w : List ℤ) (s : Sizes) (r g : ℕ) → ((f : ℕ) → f < g → memb r (chainOf w s f) ≡ false) → memb r (reached w s g) ≡ false
+unfolding reached memb
+reached-lacks w s r zero h = refl
+reached-lacks w s r (suc g) h = rw (memb-append r (chainOf w s g) (reached w s g), h g (omega arith)) (reached-lacks w s r g (λ f l. h f (omega arith)))
+
+visited-times : (w : List ℤ) (s : Sizes) (r : ℕ) → times r (visited w s) ≡ times r (reached w s (s .f))
+unfolding visited
+visited-times w s r = same-total (times r) (times-append r) w s (s .f)
+
+pub visits-once : {w : List ℤ} {s : Sizes} → CaseIn w s → VisitsOnce w s
+visits-once {w} {s} k = record {
+  once = λ f r l h. visited-times w s r ∙ times-once r (reached w s (s .f)) (reached-ok w s k (s .f) (le-refl _) .0) (reached-has w s r f (s .f) l h);
+  no-other = λ r h. visited-times w s r ∙ times-none r (reached w s (s .f)) (reached-lacks w s r (s .f) h);
+  absent = absent-chain w s (k .sized);
+  unused = λ f r l. off (memb r (chainOf w s f)) (λ e. omega (arith, chain-record w s f r e .1));
+}
+
+-- of every accepted input
+pub accepted-once : (w : List ℤ) (b : List ℕ) (s : Sizes) → checkCaseOutcome w b ≡ done s → VisitsOnce w s
+accepted-once w b s h = visits-once (case-in w b s h)
