@@ -91,8 +91,16 @@ pub fn generate_flist_buffer(
         Checked::Accepted(s) => {
             let mut rows = call_words();
             let mut ends = fragment_ends();
-            let mut none = [0usize; 0];
-            make_rows(words, s, &mut rows, &mut ends, &mut none);
+            let mut counts = [0usize; 0];
+            let mut ambiguous = [0usize; 0];
+            make_rows(
+                words,
+                s,
+                &mut rows,
+                &mut ends,
+                &mut counts,
+                &mut ambiguous,
+            );
             let counted = count_lines(words, s, &rows, &ends, single_reads);
             let bytes = counted.bytes;
             let lines = counted.lines;

@@ -18,6 +18,8 @@ use Rattle.variants_and_fragments.specs.Inner.Accepted.{CaseIn}
 use Rattle.variants_and_fragments.specs.Decode.{decode}
 use Rattle.pileup.specs.Inner.Packed.{packed, Grouped}
 use Rattle.pileup.specs.Inner.Piles.{PilesMade}
+use Rattle.pileup.proofs.CaseRows.{piles-are}
+use Rattle.pileup.proofs.Groups.{group-same}
 use Rattle.variants_and_fragments.specs.Written.{written}
 use Rattle.variants_and_fragments.proofs.Accepted.{case-in}
 use Rattle.variants_and_fragments.proofs.Decoded.{variants-are, fragments-are, allele-count-is}
@@ -80,16 +82,7 @@ module _ (rates : Rates) (phased : ℕ → Bool) (w : List ℤ) (b : List ℕ) (
 
   -- the piles of the case are those of the sweeps' case
   piles-held : {ends piles : List ℕ} → PilesMade w s ends piles → Grouped (C .n) (length (C .frags)) (C .n) (λ v. pileupFrom v 0 (C .frags)) ends piles
-  piles-held made =
-      let p = made .grouped b in
-      rw (counted, frags-counted) record {
-        ends-long = p .ends-long;
-        rises = p .rises;
-        few = p .few;
-        long = p .long;
-        are = λ v h. p .are v h ∙ ap (map packed) (cases.pile-is-pileup rates phased case v);
-        rows-in = λ v h. rw (← cases.pile-is-pileup rates phased case v) (p .rows-in v h);
-      }
+  piles-held made = rw (counted, frags-counted) (group-same (cases.pile-is-pileup rates phased case) (piles-are known b made))
 
   -- What an operation has of an accepted case before its first sweep: the slice of allele counts, the flags of the phased variants, the priors
   -- and the piles

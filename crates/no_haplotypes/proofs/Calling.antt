@@ -25,6 +25,7 @@ use Rattle.variants_and_fragments.proofs.Sums.{count-le}
 use Rattle.variants_and_fragments.proofs.Only.{only-length}
 use Rattle.variants_and_fragments.proofs.Written.{written-at, written-length, written-same}
 use Rattle.pileup.specs.Inner.Packed.{Grouped}
+use Rattle.pileup.proofs.CaseRows.{piles-are}
 use Rattle.pileup.proofs.Groups.{group-rows, group-in}
 use Rattle.genotype_probs.specs.declared.Rates.{Rates}
 use Rattle.genotype_probs.specs.Priors.{allPriors, priorAt}
@@ -54,7 +55,7 @@ few-calls w b s h other v = omega (arith, same-calls w other b v, calls-of (deco
 -- ---- the pile of a variant
 module _ {w : List ℤ} {s : Sizes} {ambiguous ends piles : List ℕ} (p : Piled w s ambiguous ends piles) (v : ℕ) (h : v < s .n) where
   abbrev grouped : (b : List ℕ) → Grouped (s .n) (s .f) (s .n) (pileOf (decode w b)) ends piles
-  grouped = p .piles-made .grouped
+  grouped b = piles-are (p .case-in) b (p .piles-made)
 
   pub pile-held : PileHeld w s piles v (pileAt ambiguous ends v)
   pile-held =

@@ -59,8 +59,8 @@ unfolding generateFlistBufferOutcome
 past-case c = case-past _ _ _ _ (checked c)
 
 -- ---- its rows
-abbrev case : tie.After-none → tie.After-checked2
-case c = c .before .before .before .before .before .before
+abbrev case : tie.After-ambiguous → tie.After-checked2
+case c = c .before .before .before .before .before .before .before
 
 abbrev here : tie.After-make-rows → tie.After-checked2
 here c = case (c .before)
@@ -72,14 +72,14 @@ abbrev ends : tie.After-make-rows → List ℕ
 ends c = c .make-rows .last .1 .1 .1 .0
 
 grouped : (c : tie.After-make-rows) → Grouped (sizes (here c) .n) (sizes (here c) .f) (sizes (here c) .f) (fragmentRows (decode (now (st (here c) .args .words)) (now (st (here c) .args .bases)))) (ends c) (rows c)
-grouped c = c .make-rows .ensures .grouped (now (st (here c) .args .bases))
+grouped c = c .make-rows .ensures .0 .grouped (now (st (here c) .args .bases))
 
 lines-given : (c : tie.After-make-rows) → LinesGiven (now (st (here c) .args .words)) (sizes (here c)) (rows c) (ends c)
 lines-given c = given _ _ _ (accepted (here c)) _ _ (grouped c)
 
 -- ---- its lines
 abbrev made : tie.After-ends3 → tie.After-make-rows
-made c = c .before .before .before .before .before
+made c = c .before .before .before .before .before .before
 
 abbrev counted : tie.After-write-lines-arg → tie.After-count-lines
 counted c = c .before .before .before .before
@@ -108,9 +108,12 @@ slice-aggregate-make-rows-2 c = search needs
 slice-aggregate-make-rows-3 : tie.Need-slice-aggregate-make-rows-3
 slice-aggregate-make-rows-3 c = search needs
 
+slice-aggregate-make-rows-4 : tie.Need-slice-aggregate-make-rows-4
+slice-aggregate-make-rows-4 c = search needs
+
 make-rows-requires : tie.Need-make-rows-requires
 make-rows-requires c κs = let i = inside (case c) in
-    (i, (omega (arith, c .before .before .before .before .call-words .ensures, i .sized .c-top), omega (arith, c .before .before .before .fragment-ends .ensures, i .sized .f-top)))
+    (i, (omega (arith, c .before .before .before .before .before .call-words .ensures, i .sized .c-top), omega (arith, c .before .before .before .before .fragment-ends .ensures, i .sized .f-top)))
 
 slice-aggregate-count-lines : tie.Need-slice-aggregate-count-lines
 slice-aggregate-count-lines c = search needs
@@ -174,6 +177,7 @@ generate-flist-buffer-spec =
     slice-aggregate-make-rows
     slice-aggregate-make-rows-2
     slice-aggregate-make-rows-3
+    slice-aggregate-make-rows-4
     make-rows-requires
     slice-aggregate-count-lines
     slice-aggregate-count-lines-2

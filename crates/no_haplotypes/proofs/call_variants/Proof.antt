@@ -26,7 +26,7 @@ st l = l .before .before .before .before .before .before
 pile-of-requires : tie.Need-pile-of-requires Inv-loop μ-loop
 pile-of-requires c κs =
     let p = st (c .before) .pre .0 .1 in
-    (omega (arith, c .loop-test .taken, p .ambiguous-long), omega (arith, c .loop-test .taken, p .piles-made .grouped [] .ends-long))
+    (omega (arith, c .loop-test .taken, p .ambiguous-long), omega (arith, c .loop-test .taken, p .piles-made .grouped .ends-long))
 
 call-variant-requires : tie.Need-call-variant-requires Inv-loop μ-loop
 call-variant-requires c κs =

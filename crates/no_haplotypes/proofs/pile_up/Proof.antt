@@ -1,7 +1,9 @@
 -- `pile_up` meets its contract: the scratch is long enough for any case.
 -- Assumes nothing.
+use mathlib.Core.Path.{_∙_}
 use native.Mathlib.Omega.{arith}
 use borrow.Author.Needs.{needs}
+use Rattle.pileup.proofs.CaseRows.{ambiguous-collected}
 use Rattle.no_haplotypes.proofs.pile_up.Statement.{statement}
 use Rattle.no_haplotypes.proofs.pile_up.Tie as tie
 
@@ -51,7 +53,7 @@ returns c =
       few = s .pre .0 .1;
       piles-made = e .piles-made;
       ambiguous-long = omega (arith, s .pre .1 .0);
-      ambiguous-are = λ b v h. e .rows-made .ambiguous-are b v h (omega (arith, s .pre .1 .0));
+      ambiguous-are = λ b v h. e .rows-made .ambiguous-counted .at v (omega (arith, s .pre .1 .0)) ∙ ambiguous-collected (s .pre .0 .0) b v;
     }
 
 pub pile-up-spec : {M : Type 1} → statement M
