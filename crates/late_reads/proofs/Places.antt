@@ -72,6 +72,9 @@ module _ (d : ℤ) {k m : ℕ} {a b : CountedCall} (e : k ≡ m) (q : a ≡ b) (
   pub same-count : countCall d k a counts ≡ countCall d m b counts
   same-count = rw (e, q)
 
+  pub same-countable : Countable counts m d b → Countable counts k d a
+  same-countable h = rw (e, q) h
+
 -- ---- the places of a call that may be counted
 module _ {counts : List ℤ} {strand : ℕ} {d : ℤ} {call : CountedCall} (c : Countable counts strand d call) where
   pub at-allele : CountsIn counts (allelePlace call) d

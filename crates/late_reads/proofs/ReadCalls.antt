@@ -2,7 +2,7 @@
 -- strand is 0 or 1. What a loop has left of them is the rest of a table, or of a chain from where the walk stands; a record that is not used
 -- ends the chain as 0 does.
 -- Assumes nothing.
-use mathlib.Core.Path.{_≡_, sym}
+use mathlib.Core.Path.{_≡_, sym, ap, _∙_}
 use mathlib.Core.Bool.{true}
 use mathlib.Core.List.{List, [], _∷_, map}
 use Prim.Native.Nat.{ℕ, zero, suc, _+_, _-_, _≤_, _<_}
@@ -12,13 +12,13 @@ use borrow.Author.Tests.{ne-eqb, ltb-true}
 use lib.IntN.{ℤ}
 use Rattle.variants_and_fragments.specs.declared.Sizes.{Sizes}
 use Rattle.variants_and_fragments.specs.Case.{Call}
-use Rattle.variants_and_fragments.specs.Chain.{nextCallAt, chainFrom, chainOf}
+use Rattle.variants_and_fragments.specs.Chain.{chainFrom, chainOf}
 use Rattle.variants_and_fragments.specs.Decode.{tabulateFrom, callFrom, fragmentFrom}
-use Rattle.variants_and_fragments.specs.Layout.{alleleCountAt, callVariantAt, variantField, alleleField, callOk}
+use Rattle.variants_and_fragments.specs.Layout.{alleleCountAt, callVariantAt, variantField, alleleField, cutoffAt, callOk}
 use Rattle.variants_and_fragments.specs.Words.{below, natOf}
 use Rattle.variants_and_fragments.specs.Inner.Accepted.{allb, CaseIn}
 use Rattle.variants_and_fragments.specs.Inner.Alleles.{VariantsIn}
-use Rattle.variants_and_fragments.specs.Inner.Chain.{recordOf, firstRecordAt}
+use Rattle.variants_and_fragments.specs.Inner.Chain.{firstRecordAt}
 use Rattle.variants_and_fragments.proofs.Bools.{both}
 use Rattle.variants_and_fragments.proofs.Chain.{next-rises, record-chain}
 use Rattle.variants_and_fragments.proofs.Linked.{Linked, ends, goes, chain-linked}
@@ -26,7 +26,15 @@ use Rattle.variants_and_fragments.proofs.Ranges.{within-top, below-less}
 use Rattle.variants_and_fragments.proofs.Records.{call-facts}
 use Rattle.variants_and_fragments.proofs.Tabulated.{table-start, table-more, table-end}
 use Rattle.variants_and_fragments.proofs.Walks.{chain-end, chain-none, chain-step}
+use Rattle.pileup.specs.declared.reader.Call.{Call as CallHeld}
+use Rattle.pileup.specs.declared.reader.CallRead.the-variants as read
+use Rattle.pileup.specs.declared.reader.CallStep.{CallStep}
+use Rattle.pileup.specs.Inner.Reader.{stepAt}
+use Rattle.pileup.proofs.CallReads.{read-here}
+use Rattle.pileup.proofs.Folds.{Onward, onward-next}
+use Rattle.late_reads.specs.declared.counts.CountedCall.{CountedCall}
 use Rattle.late_reads.specs.Arriving.{arrivingWord, wholeCalls, arrivingCall, arrivingRead, arrivingOk, arrivingRises}
+use Rattle.late_reads.specs.Inner.Counting.{countedCall, CountedIs}
 use Rattle.late_reads.specs.Inner.Ready.{Arriving}
 use Rattle.late_reads.proofs.Counting.{Rising, none, more}
 
@@ -114,5 +122,22 @@ module _ (w : List ℤ) (s : Sizes) where
   pub chain-out : (k r : ℕ) → s .c ≤ k → chainLeft w s k r ≡ []
   chain-out k r l = rw (chain-none w s (s .c - k) r (omega arith))
 
-  pub chain-more : (k r : ℕ) → k < s .c → (r ≡ 0 → ⊥) → r ≤ s .used → chainLeft w s k r ≡ callFrom w s r ∷ chainLeft w s (k + 1) (recordOf s (nextCallAt w s r))
-  chain-more k r l n top = rw (chain-step w s k r l (omega arith) top, record-chain)
+-- a turn of a walk along fragment f's chain: the call of record r was read, the counts see it so, and t is the record after it
+pub record ChainTurn (w : List ℤ) (s : Sizes) (f k r t : ℕ) (counted : CountedCall) : Type 0 where
+  pub left-is : chainLeft w s k r ≡ callFrom w s r ∷ chainLeft w s (k + 1) t
+  pub counted-is : counted ≡ countedCall (cutoffAt w) (fragmentFrom w s f) (callFrom w s r)
+  pub on : Onward w s t (k + 1)
+
+pub chain-turn : {w : List ℤ} {s : Sizes} {k r : ℕ} (f : ℕ) {cutoff : ℤ} {strand : ℕ} {held : CallHeld} {counted : CountedCall} (step : CallStep)
+    → Onward w s r k → k < s .c → step ≡ stepAt w s r → step .read ≡ read.Call held → CountedIs cutoff strand held counted → cutoff ≡ cutoffAt w → strand ≡ fragmentFrom w s f .strand
+    → ChainTurn w s f k r (step .next) counted
+chain-turn {w} {s} {k} {r} f {held = held} step i l e g c q z =
+    let x = fragmentFrom w s f in
+    let call = callFrom w s r in
+    let h = read-here w s r step held e g in
+    let some = h .some in
+    record {
+      left-is = rw (h .next-is) (ap (map (callFrom w s)) (chain-step w s k r l (omega arith) (i .r-top)));
+      counted-is = c .is x call (sym z) (h .call-is) ∙ ap (λ (y : ℤ). countedCall y x call) q;
+      on = onward-next i l some (step .next) (h .next-is);
+    }

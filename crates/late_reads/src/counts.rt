@@ -4,24 +4,23 @@ ghost use mathlib.Core.Bool.{true};
 ghost use Prim.Native.Nat.{_+_, _*_, _<_, _≤_};
 ghost use lib.ListN.{length};
 ghost use Rattle.variants_and_fragments.specs.Layout.{cutoffAt};
-ghost use Rattle.variants_and_fragments.specs.Decode.{callFrom, fragmentFrom};
+ghost use Rattle.variants_and_fragments.specs.Decode.{fragmentFrom};
 ghost use Rattle.variants_and_fragments.specs.Inner.Accepted.{CaseIn};
 ghost use Rattle.late_reads.specs.Arriving.{wholeCalls, arrivingCall, arrivingRead};
-ghost use Rattle.late_reads.specs.Inner.Counting.{addAt, countedCall, countCall, fitsAt, callFits, Countable, CountsIn, countsArrived, countsDeparted, countsFit};
+ghost use Rattle.late_reads.specs.Inner.Counting.{addAt, countedCall, countCall, fitsAt, callFits, Countable, CountsIn, CountedIs, countsArrived, countsDeparted, countsFit};
 ghost use Rattle.late_reads.specs.Inner.Ready.{Arriving};
 use crate::Arrival;
 use crate::arriving::ARRIVING_WORDS;
 use crate::arriving::arriving_at;
 use crate::ranges::count_ok;
+use pileup::reader::Call;
+use pileup::reader::CallRead;
+use pileup::reader::read_call;
 use pileup::row::usable;
 use variants_and_fragments::Sizes;
-use variants_and_fragments::layout::call_variant;
-use variants_and_fragments::layout::called_allele;
 use variants_and_fragments::layout::cutoff_of;
 use variants_and_fragments::layout::first_call;
 use variants_and_fragments::layout::nat_of;
-use variants_and_fragments::layout::next_record;
-use variants_and_fragments::layout::qual_of;
 use variants_and_fragments::layout::strand_of;
 
 // A call as the counts see it.
@@ -143,20 +142,14 @@ pub fn count_arriving(words: &[i32], s: Sizes, arrival: Arrival, calls: &[i32], 
     }
 }
 
-// The call of record r of fragment f, as the counts see it.
-fn chain_call(words: &[i32], s: Sizes, f: usize, r: usize) -> CountedCall
-    requires { ⌜ CaseIn (now words) s ⌝ }
-    requires { ⌜ (f < s .f) × (1 ≤ r) × (r ≤ s .c) ⌝ }
-    ensures { λ c. ⌜ c ≡ countedCall (cutoffAt (now (words .entry))) (fragmentFrom (now (words .entry)) s f) (callFrom (now (words .entry)) s r) ⌝ }
+// A call that was read, as the counts see it.
+fn chain_call(cutoff: i32, strand: usize, call: Call) -> CountedCall
+    ensures { λ c. ⌜ CountedIs cutoff strand call c ⌝ }
 {
     CountedCall {
-        variant: call_variant(words, s, r),
-        allele: called_allele(words, s, r),
-        usable: usable(
-            cutoff_of(words, s),
-            strand_of(words, s, f),
-            qual_of(words, s, r),
-        ),
+        variant: call.variant,
+        allele: call.allele,
+        usable: usable(cutoff, strand, call.qual),
     }
 }
 
@@ -170,18 +163,26 @@ pub fn departing_fits(words: &[i32], s: Sizes, f: usize, counts: &[i32]) -> bool
     ensures { λ r. ⌜ r ≡ countsFit (s .n) (countsDeparted (cutoffAt (now (words .entry))) (s .n) (fragmentFrom (now (words .entry)) s f) (now (counts .entry))) ⌝ }
 {
     let c = s.c;
+    let cutoff = cutoff_of(words, s);
     let strand = strand_of(words, s, f);
     let mut r = first_call(words, s, f);
     let mut k = 0;
     while k < c {
         k += 1;
-        if r == 0 {
-            return true;
+        let step = read_call(words, s, r);
+        let read = step.read;
+        let next = step.next;
+        match read {
+            CallRead::End => {
+                return true;
+            }
+            CallRead::Call(call) => {
+                if !call_fits(counts, chain_call(cutoff, strand, call), strand, -1) {
+                    return false;
+                }
+                r = next;
+            }
         }
-        if !call_fits(counts, chain_call(words, s, f, r), strand, -1) {
-            return false;
-        }
-        r = next_record(words, s, r);
     }
     true
 }
@@ -195,15 +196,23 @@ pub fn count_departing(words: &[i32], s: Sizes, f: usize, counts: &mut [i32])
     ensures { λ _. ⌜ now (counts .exit) ≡ countsDeparted (cutoffAt (now (words .entry))) (s .n) (fragmentFrom (now (words .entry)) s f) (now (counts .entry)) ⌝ }
 {
     let c = s.c;
+    let cutoff = cutoff_of(words, s);
     let strand = strand_of(words, s, f);
     let mut r = first_call(words, s, f);
     let mut k = 0;
     while k < c {
         k += 1;
-        if r == 0 {
-            return;
+        let step = read_call(words, s, r);
+        let read = step.read;
+        let next = step.next;
+        match read {
+            CallRead::End => {
+                return;
+            }
+            CallRead::Call(call) => {
+                count_call(counts, chain_call(cutoff, strand, call), strand, -1);
+                r = next;
+            }
         }
-        count_call(counts, chain_call(words, s, f, r), strand, -1);
-        r = next_record(words, s, r);
     }
 }

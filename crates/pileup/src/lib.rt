@@ -1,6 +1,6 @@
 // The usable calls of a case, each as one packed word: by fragment (rows) and by variant (piles).
 pub mod piles;
-mod reader;
+pub mod reader;
 pub mod row;
 pub mod rows;
 pub mod scratch;

@@ -9,6 +9,8 @@ use Rattle.variants_and_fragments.specs.Case.{Fragment, Call, usable}
 use Rattle.variants_and_fragments.specs.First.{holdsBelow}
 use Rattle.variants_and_fragments.specs.Words.{within}
 use Rattle.variants_and_fragments.specs.Written.{written}
+use Rattle.pileup.specs.declared.reader.Call.{Call as CallHeld}
+use Rattle.pileup.specs.Inner.Reader.{heldCall}
 use Rattle.late_reads.specs.declared.counts.CountedCall.{CountedCall}
 use Rattle.late_reads.specs.Values.{maxCount, readCount}
 
@@ -55,6 +57,10 @@ pub record Countable (counts : List ℤ) (strand : ℕ) (d : ℤ) (call : Counte
 -- a call of read x as the counts see it
 abbrev pub countedCall : ℤ → Fragment → Call → CountedCall
 countedCall cutoff x call = record { variant = call .variant; allele = call .allele; usable = usable cutoff x call }
+
+-- a call that was read is counted so, for every read of this strand and every call that it holds
+pub record CountedIs (cutoff : ℤ) (strand : ℕ) (held : CallHeld) (counted : CountedCall) : Type 0 where
+  pub is : (x : Fragment) (call : Call) → x .strand ≡ strand → held ≡ heldCall call → counted ≡ countedCall cutoff x call
 
 -- the same of the calls of read x, one after the other
 unfoldable pub countCalls : ℤ → ℤ → Fragment → List Call → List ℤ → List ℤ

@@ -1,106 +1,91 @@
 -- `count_departing` takes the calls of the fragment's chain off one after the other. At the loop's head, with those from record r on all are off.
 -- Assumes nothing.
 use mathlib.Core.Path.{_≡_, _∙_, ap}
-use mathlib.Core.List.{_∷_}
-use Prim.Native.Nat.{_+_, _-_, _≤_}
+use Prim.Native.Nat.{_-_, _≤_}
 use native.Mathlib.Omega.{arith}
-use borrow.Author.Needs.{needs}
-use denote.Ref.{now}
+use borrow.Author.Needs.{needs, sfits-of}
 use lib.IntN.{negsuc}
 use lib.ListN.{length}
+use mir.Facts.{toZ-ofZ}
+use mir.Syntax.{w32}
 use Rattle.variants_and_fragments.specs.Case.{Fragment}
-use Rattle.variants_and_fragments.specs.Chain.{nextCallAt}
-use Rattle.variants_and_fragments.specs.Decode.{callFrom, fragmentFrom}
+use Rattle.variants_and_fragments.specs.Decode.{fragmentFrom}
 use Rattle.variants_and_fragments.specs.Layout.{cutoffAt}
-use Rattle.variants_and_fragments.specs.Inner.Chain.{recordOf}
-use Rattle.variants_and_fragments.proofs.Chain.{record-top}
 use Rattle.variants_and_fragments.proofs.Written.{written-length}
+use Rattle.pileup.proofs.CallReads.{ended}
+use Rattle.pileup.proofs.Folds.{Onward, onward-start}
 use Rattle.late_reads.specs.Inner.Counting.{countsDeparted}
 use Rattle.late_reads.proofs.counts.count_departing.Statement.{statement}
 use Rattle.late_reads.proofs.counts.count_departing.Tie as tie
 use Rattle.late_reads.proofs.CountRuns.{Adding, departing-start, add-end, add-countable, add-on}
-use Rattle.late_reads.proofs.Places.{same-count}
-use Rattle.late_reads.proofs.ReadCalls.{chainLeft, chain-left, chain-more, chain-over, chain-out, chain-rises, chain-strand}
+use Rattle.late_reads.proofs.Places.{same-count, same-countable}
+use Rattle.late_reads.proofs.ReadCalls.{chainLeft, chain-left, chain-over, chain-out, chain-rises, chain-strand, ChainTurn, chain-turn}
 
 abbrev Inv-loop : tie.InvT-loop
-Inv-loop words s f counts₀ c strand r₀ k₀ counts r k =
+Inv-loop words s f counts₀ c cutoff strand r₀ k₀ counts r k =
     let x = fragmentFrom words s f in
-    (k ≤ s .c) × (r ≤ s .used) × Adding (negsuc 0) (cutoffAt words) x (s .n) (chainLeft words s k r) counts (countsDeparted (cutoffAt words) (s .n) x counts₀)
+    Onward words s r k × Adding (negsuc 0) (cutoffAt words) x (s .n) (chainLeft words s k r) counts (countsDeparted (cutoffAt words) (s .n) x counts₀)
 
 abbrev μ-loop : tie.MeasureT-loop
-μ-loop words s f counts₀ c strand r₀ k₀ counts r k = s .c - k
+μ-loop words s f counts₀ c cutoff strand r₀ k₀ counts r k = s .c - k
 
--- the entry, and the read
+-- the loop's head where a call was read, the entry, and the read
+abbrev lp : tie.After-chain-call Inv-loop μ-loop → tie.At-loop Inv-loop μ-loop
+lp c = c .before .before .before .before .before .before .before
+
 abbrev st : tie.At-loop Inv-loop μ-loop → tie.Start Inv-loop μ-loop
-st c = c .before .before .before
+st l = l .before .before .before .before
 
-abbrev read : tie.Start Inv-loop μ-loop → Fragment
-read c = fragmentFrom (now (c .args .words)) (c .args .s) (c .args .f)
+abbrev read : tie.At-loop Inv-loop μ-loop → Fragment
+read l = fragmentFrom (st l .args .words .now) (st l .args .s) (st l .args .f)
 
-strand-in : (c : tie.Start Inv-loop μ-loop) → read c .strand ≤ 1
-strand-in c = chain-strand (c .pre .0) (c .args .f) (c .pre .1 .0)
+strand-in : (l : tie.At-loop Inv-loop μ-loop) → read l .strand ≤ 1
+strand-in l = chain-strand (st l .pre .0) (st l .args .f) (st l .pre .1 .0)
 
-strand-is : (c : tie.After-strand-of Inv-loop μ-loop) → c .strand-of .result ≡ read (c .before) .strand
+strand-is : (l : tie.At-loop Inv-loop μ-loop) → l .before .before .strand-of .result ≡ read l .strand
 unfolding fragmentFrom
-strand-is c = c .strand-of .ensures
+strand-is l = l .before .before .strand-of .ensures
 
--- there is a call more
-left-is : (c : tie.Else1 Inv-loop μ-loop) → let l = c .before .before in let a = st l .args in let w = now (a .words) in
-    chainLeft w (a .s) (l .loop .k) (l .loop .r) ≡ callFrom w (a .s) (l .loop .r) ∷ chainLeft w (a .s) (l .loop .k + 1) (recordOf (a .s) (nextCallAt w (a .s) (l .loop .r)))
-left-is c = let l = c .before .before in let a = st l .args in chain-more (now (a .words)) (a .s) (l .loop .k) (l .loop .r) (c .before .loop-test .taken) (c .if1 .left) (l .loop .inv .1)
+-- the turn, once its call is as the counts see it
+turn : (c : tie.After-chain-call Inv-loop μ-loop) → let l = lp c in let a = st l .args in
+    ChainTurn (a .words .now) (a .s) (a .f) (l .loop .k) (l .loop .r) (c .before .before .before .before .before .read-call .result .next) (c .chain-call .result)
+turn c =
+    let l = lp c in
+    let got = c .before .before .before .before .before .read-call in
+    let cutoff = l .before .before .before .cutoff-of in
+    chain-turn (st l .args .f) (got .result) (l .loop .inv .0) (c .before .before .before .before .before .before .loop-test .taken) (got .ensures)
+    (c .before .before .before .read .given .1) (c .chain-call .ensures) (toZ-ofZ (sfits-of {w = w32} (cutoff .ok)) ∙ cutoff .ensures) (strand-is l)
 
 loop-holds : tie.Need-loop-holds Inv-loop μ-loop
 loop-holds c =
-    let s = c .before .before in
+    let s = c .before .before .before in
     let p = s .pre in
-    let w = now (s .args .words) in (
-      omega arith,
-      rw (c .first-call .ensures) (record-top (s .args .s) _),
-      rw (c .first-call .ensures) (departing-start _ (read s) (strand-in s) (chain-rises (p .0) (s .args .f) (p .1 .0)) (chain-left w (s .args .s) (s .args .f)) (now (s .args .counts)) (p .1 .1 .0) (p .1 .1 .1)),
+    let a = s .args in
+    let w = a .words .now in
+    let e = c .first-call .ensures in (
+      onward-start w (a .s) (a .f) _ e (p .0 .frags _ (p .1 .0)),
+      rw e (departing-start _ _ (chain-strand (p .0) (a .f) (p .1 .0)) (chain-rises (p .0) (a .f) (p .1 .0)) (chain-left w (a .s) (a .f)) (a .counts .now) (p .1 .1 .0) (p .1 .1 .1)),
     )
 
 returns : tie.Need-returns Inv-loop μ-loop
-returns c = let l = c .before .before in add-end (l .loop .inv .2) (chain-over _ _ (l .loop .k) (l .loop .r) (c .if1 .taken))
+returns c = let l = c .before .before .before .before in add-end (l .loop .inv .1) (chain-over _ _ (l .loop .k) (l .loop .r) (ended _ _ _ _ (c .before .before .read-call .ensures) (c .enum-told .given .1)))
 
 same-length : tie.Need-same-length Inv-loop μ-loop
 same-length c = ap length (returns c) ∙ simp written-length
 
-chain-call-requires : tie.Need-chain-call-requires Inv-loop μ-loop
-chain-call-requires c κs =
-    let l = c .before .before .before in
-    let p = st l .pre in
-    let some = c .before .if1 .left in
-    (p .0, (p .1 .0, omega arith, omega (arith, p .0 .sized .used-top, l .loop .inv .1)))
-
 count-call-requires : tie.Need-count-call-requires Inv-loop μ-loop
 count-call-requires c κs =
-    let e = c .before .before in
-    let l = e .before .before in
-    let s = st l in
-    rw (c .chain-call .ensures, strand-is (l .before .before))
-    (add-countable (l .loop .inv .2) (left-is e) (strand-in s) (omega arith) (s .pre .0 .sized .n-top))
-
-next-record-requires : tie.Need-next-record-requires Inv-loop μ-loop
-next-record-requires c κs =
-    let e = c .before .before .before .before in
-    let l = e .before .before in
-    let z = st l .pre .0 .sized in
-    let some = e .if1 .left in
-    (z, (omega arith, omega (arith, z .used-top, l .loop .inv .1)))
+    let l = lp c in
+    same-countable _ (strand-is l) (turn c .counted-is) _ (add-countable (l .loop .inv .1) (turn c .left-is) (strand-in l) (omega arith) (st l .pre .0 .sized .n-top))
 
 loop-again : tie.Need-loop-again Inv-loop μ-loop
 loop-again c =
     let t = c .before .before in
-    let e = t .before .before .before in
-    let l = e .before .before in (
-      omega arith,
-      rw (c .next-record .ensures) (record-top (st l .args .s) _),
-      rw (c .next-record .ensures)
-          (add-on (l .loop .inv .2) (left-is e) (strand-in (st l)) _ (t .count-call .ensures ∙ same-count (negsuc 0) (strand-is (l .before .before)) (t .before .chain-call .ensures) _)),
-    )
+    let l = lp t in
+    (turn t .on, add-on (l .loop .inv .1) (turn t .left-is) (strand-in l) _ (c .before .count-call .ensures ∙ same-count (negsuc 0) (strand-is l) (turn t .counted-is) _))
 
 returns-2 : tie.Need-returns-2 Inv-loop μ-loop
-returns-2 c = let l = c .before in add-end (l .loop .inv .2) (chain-out _ _ (l .loop .k) (l .loop .r) (c .loop-test .left))
+returns-2 c = let l = c .before in add-end (l .loop .inv .1) (chain-out _ _ (l .loop .k) (l .loop .r) (c .loop-test .left))
 
 same-length-2 : tie.Need-same-length-2 Inv-loop μ-loop
 same-length-2 c = ap length (returns-2 c) ∙ simp written-length
@@ -113,14 +98,17 @@ count-departing-spec =
     μ-loop
     (λ c κs. search needs)
     (λ c κs. search needs)
+    (λ c κs. search needs)
     loop-holds
-    (λ c. omega (arith, st (c .before) .pre .0 .sized .c-top))
+    (λ c. search needs)
+    (λ c κs. search needs)
+    (λ c. search needs)
     same-length
     returns
-    chain-call-requires
+    (λ c. search needs)
+    (λ c κs. search needs)
     count-call-requires
-    next-record-requires
-    (λ c. omega arith)
+    (λ c. search needs)
     loop-again
     same-length-2
     returns-2)
