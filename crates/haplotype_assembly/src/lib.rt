@@ -14,6 +14,7 @@ use crate::tally::count_lines;
 use pileup::rows::make_rows;
 use pileup::scratch::call_words;
 use pileup::scratch::fragment_ends;
+use pileup::scratch::variant_ends;
 use variants_and_fragments::Answered;
 use variants_and_fragments::Checked;
 use variants_and_fragments::Refusal;
@@ -91,16 +92,9 @@ pub fn generate_flist_buffer(
         Checked::Accepted(s) => {
             let mut rows = call_words();
             let mut ends = fragment_ends();
-            let mut counts = [0usize; 0];
+            let mut counts = variant_ends();
             let mut ambiguous = [0usize; 0];
-            make_rows(
-                words,
-                s,
-                &mut rows,
-                &mut ends,
-                &mut counts,
-                &mut ambiguous,
-            );
+            make_rows(words, s, &mut rows, &mut ends, &mut counts, &mut ambiguous);
             let counted = count_lines(words, s, &rows, &ends, single_reads);
             let bytes = counted.bytes;
             let lines = counted.lines;

@@ -2,11 +2,10 @@
 -- strand is 0 or 1. What a loop has left of them is the rest of a table, or of a chain from where the walk stands; a record that is not used
 -- ends the chain as 0 does.
 -- Assumes nothing.
-use mathlib.Core.Path.{_≡_, sym, ap, _∙_}
+use mathlib.Core.Path.{_≡_, refl, sym, ap, _∙_}
 use mathlib.Core.Bool.{true}
 use mathlib.Core.List.{List, [], _∷_, map}
 use Prim.Native.Nat.{ℕ, zero, suc, _+_, _-_, _≤_, _<_}
-use native.Mathlib.Nat.{sub-zero}
 use native.Mathlib.Omega.{arith}
 use borrow.Author.Tests.{ne-eqb, ltb-true}
 use lib.IntN.{ℤ}
@@ -20,18 +19,18 @@ use Rattle.variants_and_fragments.specs.Inner.Accepted.{allb, CaseIn}
 use Rattle.variants_and_fragments.specs.Inner.Alleles.{VariantsIn}
 use Rattle.variants_and_fragments.specs.Inner.Chain.{firstRecordAt}
 use Rattle.variants_and_fragments.proofs.Bools.{both}
-use Rattle.variants_and_fragments.proofs.Chain.{next-rises, record-chain}
+use Rattle.variants_and_fragments.proofs.Chain.{next-rises}
 use Rattle.variants_and_fragments.proofs.Linked.{Linked, ends, goes, chain-linked}
 use Rattle.variants_and_fragments.proofs.Ranges.{within-top, below-less}
 use Rattle.variants_and_fragments.proofs.Records.{call-facts}
 use Rattle.variants_and_fragments.proofs.Tabulated.{table-start, table-more, table-end}
-use Rattle.variants_and_fragments.proofs.Walks.{chain-end, chain-none, chain-step}
+use Rattle.variants_and_fragments.proofs.Walks.{start-chain, chain-end, chain-none, chain-step}
 use Rattle.pileup.specs.declared.reader.Call.{Call as CallHeld}
 use Rattle.pileup.specs.declared.reader.CallRead.the-variants as read
 use Rattle.pileup.specs.declared.reader.CallStep.{CallStep}
 use Rattle.pileup.specs.Inner.Reader.{stepAt}
 use Rattle.pileup.proofs.CallReads.{read-here}
-use Rattle.pileup.proofs.Folds.{Onward, onward-next}
+use Rattle.pileup.proofs.Onward.{Onward, onward-next}
 use Rattle.late_reads.specs.declared.counts.CountedCall.{CountedCall}
 use Rattle.late_reads.specs.Arriving.{arrivingWord, wholeCalls, arrivingCall, arrivingRead, arrivingOk, arrivingRises}
 use Rattle.late_reads.specs.Inner.Counting.{countedCall, CountedIs}
@@ -113,8 +112,8 @@ chainLeft w s k r = map (callFrom w s) (chainFrom w s (s .c - k) r)
 
 module _ (w : List ℤ) (s : Sizes) where
   pub chain-left : (f : ℕ) → fragmentFrom w s f .calls ≡ chainLeft w s 0 (firstRecordAt w s f)
-  unfolding fragmentFrom chainOf
-  chain-left f = rw (sub-zero, record-chain)
+  unfolding fragmentFrom
+  chain-left f = rw (start-chain w s f _ refl)
 
   pub chain-over : (k r : ℕ) → r ≡ 0 → chainLeft w s k r ≡ []
   chain-over k r e = rw (chain-end w s (s .c - k) r e)

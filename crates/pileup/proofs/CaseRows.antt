@@ -7,7 +7,6 @@ use native.Mathlib.Nat.{le-refl, sub-zero}
 use native.Mathlib.Numerals.{add-one}
 use native.Mathlib.Omega.{arith}
 use lib.IntN.{ℤ}
-use lib.ListN.{length}
 use Rattle.variants_and_fragments.specs.declared.Sizes.{Sizes}
 use Rattle.variants_and_fragments.specs.Case.{Fragment}
 use Rattle.variants_and_fragments.specs.Layout.{cutoffAt}

@@ -13,7 +13,7 @@ use Rattle.pileup.specs.Inner.Reader.{heldCall, readAt, nextAt, gather, 
 use Rattle.variants_and_fragments.specs.Inner.Chain.{firstRecordAt}
 use Rattle.variants_and_fragments.proofs.Chain.{record-chain}
 use Rattle.variants_and_fragments.proofs.Walks.{chain-end, chain-none, chain-on}
-use Rattle.pileup.proofs.Folds.{Onward, onward-start, onward-next}
+use Rattle.pileup.proofs.Onward.{Onward, onward-start, onward-next}
 
 -- the same of what is left after k records
 reads-left : (w : List ℤ) (s : Sizes) (j k r : ℕ) → j ≡ s .c - k → Onward w s r k → callsRead w s j r ≡ map heldCall (map (callFrom w s) (chainFrom w s j r))

@@ -1,6 +1,6 @@
 pub mod Packing
 pub mod Groups
-pub mod Folds
+pub mod Onward
 pub mod CallReads
 pub mod ChainReads
 pub mod LentReader

@@ -1,4 +1,4 @@
-// The usable calls of a case, each as one packed word: by fragment (rows) and by variant (piles).
+// Reading a chain, the one walk along the chains, and the usable calls, each as one packed word: by fragment (rows) and by variant (piles).
 pub mod piles;
 pub mod reader;
 pub mod row;

@@ -1,7 +1,7 @@
 // Scratch arrays of an operation, as long as the largest case needs, or a small one.
 ghost use mathlib.Core.Path.{_≡_};
 ghost use lib.ListN.{length};
-ghost use Rattle.pileup.specs.Inner.Piles.{Zeros};
+ghost use Rattle.pileup.specs.Inner.Collected.{Counted};
 
 // A word per call record.
 pub fn call_words() -> [u64; 16384]
@@ -58,7 +58,7 @@ pub fn few_nine_each() -> [i64; 1152]
 
 // All of a become 0. At the loop's head the first i are.
 pub fn clear(a: &mut [usize])
-    ensures { λ _. ⌜ Zeros (now (a .exit)) (length (now (a .entry))) ⌝ }
+    ensures { λ _. ⌜ Counted (λ v. 0) (now (a .exit)) ⌝ }
 {
     let n = a.len();
     let mut i = 0;

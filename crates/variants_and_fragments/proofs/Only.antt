@@ -1,6 +1,6 @@
 -- Those of a list of which a test holds: one element more, how many, along an append and a map, and what holds of each.
 -- Assumes nothing.
-use mathlib.Core.Path.{_≡_, refl}
+use mathlib.Core.Path.{_≡_, refl, ap}
 use mathlib.Core.Bool.{Bool, true, false, cond}
 use mathlib.Core.List.{List, [], _∷_, _++_, map}
 use Prim.Native.Nat.{suc, _≤_}
@@ -56,3 +56,14 @@ only-all {P = P} p (x ∷ xs) (also h hs) = go (p x) (only-all p xs hs)
     go : (t : Bool) → All P (only p xs) → All P (cond t (x ∷ only p xs) (only p xs))
     go true a = also h a
     go false a = a
+
+-- a test that all pass, or none
+pub only-yes : {X : Type 0} (xs : List X) → only (λ _. true) xs ≡ xs
+unfolding only
+only-yes [] = refl
+only-yes (x ∷ xs) = ap (λ (l : List _). x ∷ l) (only-yes xs)
+
+pub only-no : {X : Type 0} (xs : List X) → only (λ _. false) xs ≡ []
+unfolding only
+only-no [] = refl
+only-no (x ∷ xs) = only-no xs

@@ -6,7 +6,7 @@ use mathlib.Core.List.{List, [], _∷_, _++_}
 use Prim.Native.Nat.{ℕ, zero, suc, _≤_, _<_}
 use native.Mathlib.Nat.{le-refl}
 use native.Mathlib.Omega.{arith}
-use native.Mathlib.Decide.{decLt, ℕ-discrete}
+use native.Mathlib.Decide.{ℕ-discrete}
 use borrow.Author.Tests.{eq-eqb, ne-eqb}
 use lib.ListN.{length}
 use lib.IntN.{ℤ}
@@ -133,7 +133,7 @@ reached-ok w s k (suc f) l =
     let i = reached-ok w s k f (omega arith) in
     (good-distinct w s (chainOf w s f) (reached w s f) (k .frags f (omega arith) .right) (i .0), chain-within w s (s .c) (firstCallAt w s f) (reached w s f) (i .1))
 
--- ---- a record lies in one chain at most
+-- ---- what is in a chain is reached
 pub memb-append : (x : ℕ) (rs l : List ℕ) → memb x (rs ++ l) ≡ (memb x rs || memb x l)
 unfolding memb
 memb-append x [] l = refl
@@ -151,29 +151,4 @@ reached-has w s r f zero l h = absurd (omega arith)
 reached-has w s r f (suc g) l h = elim (ℕ-discrete f g) [
   | yes e ↦ memb-left r (chainOf w s g) (reached w s g) (rw e at h)
   | no e ↦ memb-right r (chainOf w s g) (reached w s g) (reached-has w s r f g (omega arith) h)
-]
-
-good-fresh : (w : List ℤ) (s : Sizes) (r : ℕ) (rs l : List ℕ) → goodChain w s l rs ≡ true → memb r rs ≡ true → memb r l ≡ false
-unfolding goodChain memb
-good-fresh w s r [] l g h = let z : _≡_ {A = ℕ} 0 1 = cc in absurd (omega arith)
-good-fresh w s r (x ∷ rs) l g h =
-    let a = both (not (memb x l)) (linkOk w s x && goodChain w s (x ∷ l) rs) g in
-    let b = both (linkOk w s x) (goodChain w s (x ∷ l) rs) (a .1) in
-    elim (ℕ-discrete r x) [
-      | yes e ↦ rw e (not-on _ (a .0))
-      | no e ↦ or-off (eqb r x) (memb r l) (good-fresh w s r rs (x ∷ l) (b .1) (rw (ne-eqb r x e) at h)) .1
-    ]
-
--- a record of fragment f's chain is in no later fragment's
-pub later-chain : (w : List ℤ) (s : Sizes) → CaseIn w s → (r f g : ℕ) → f < g → g < s .f → memb r (chainOf w s f) ≡ true → memb r (chainOf w s g) ≡ true → ⊥
-later-chain w s k r f g l m h i =
-    let a = reached-has w s r f g l h in
-    let b = good-fresh w s r (chainOf w s g) (reached w s g) (k .frags g m .right) i in
-    let z : _≡_ {A = ℕ} 0 1 = cc in omega arith
-
--- two fragments whose chains have a record in common are the same
-pub one-chain : (w : List ℤ) (s : Sizes) → CaseIn w s → (r f g : ℕ) → f < s .f → g < s .f → memb r (chainOf w s f) ≡ true → memb r (chainOf w s g) ≡ true → f ≡ g
-one-chain w s k r f g l m h i = elim (decLt f g) [
-  | yes a ↦ absurd (later-chain w s k r f g a m h i)
-  | no a ↦ elim (decLt g f) [ yes b ↦ absurd (later-chain w s k r g f b l i h) | no b ↦ omega arith ]
 ]

@@ -10,7 +10,6 @@ use native.Mathlib.Omega.{arith}
 use lib.IntN.{ℤ, pos, negℤ, _+ℤ_, +ℤ-idl, +ℤ-idr, +ℤ-assoc, negℤ-+ℤ}
 use lib.ListN.{length, getD}
 use Rattle.variants_and_fragments.specs.Inner.Case.{All, end, also}
-use Rattle.variants_and_fragments.specs.Inner.Fold.{fold}
 use Rattle.variants_and_fragments.specs.Sums.{sumOver, countOver, sumTo, countTo}
 
 -- ---- of integers
@@ -40,12 +39,6 @@ unfolding sumOver countOver
 sum-debts n end = refl
 sum-debts n (also {x} {xs} e es) = rw (e, sum-debts n es) (sym (negℤ-+ℤ (pos (n x)) (pos (countOver xs n))))
 
--- a walk that adds gathers the sum
-pub sum-fold : (step : ℤ → ℕ → ℤ) (g : ℕ → ℤ) → ((a : ℤ) (r : ℕ) → step a r ≡ a +ℤ g r) → (a : ℤ) (rs : List ℕ) → fold step a rs ≡ a +ℤ sumOver rs g
-unfolding fold sumOver
-sum-fold step g h a [] = sym (+ℤ-idr a)
-sum-fold step g h a (r ∷ rs) = sum-fold step g h (step a r) rs ∙ ap (λ z. z +ℤ sumOver rs g) (h a r) ∙ +ℤ-assoc a (g r) (sumOver rs g)
-
 -- ---- of whole numbers from 0 on
 pub count-append : {X : Type 0} (xs ys : List X) (n : X → ℕ) → countOver (xs ++ ys) n ≡ countOver xs n + countOver ys n
 unfolding countOver
@@ -56,11 +49,6 @@ pub count-map : {X Y : Type 0} (h : X → Y) (xs : List X) (n : Y → ℕ) → c
 unfolding countOver
 count-map h [] n = refl
 count-map h (x ∷ xs) n = ap (λ m. n (h x) + m) (count-map h xs n)
-
-pub count-fold : (step : ℕ → ℕ → ℕ) (n : ℕ → ℕ) → ((a r : ℕ) → step a r ≡ a + n r) → (a : ℕ) (rs : List ℕ) → fold step a rs ≡ a + countOver rs n
-unfolding fold countOver
-count-fold step n h a [] = omega arith
-count-fold step n h a (r ∷ rs) = omega (arith, count-fold step n h (step a r) rs, h a r)
 
 pub count-same : {X : Type 0} (xs : List X) (m : ℕ) → countOver xs (λ _. m) ≡ m * length xs
 unfolding countOver

@@ -11,7 +11,7 @@ use lib.ListN.{length, length-append, length-map}
 use Rattle.variants_and_fragments.specs.declared.Sizes.{Sizes}
 use Rattle.variants_and_fragments.specs.Layout.{callOk}
 use Rattle.variants_and_fragments.specs.Chain.{chainOf, reached}
-use Rattle.variants_and_fragments.specs.Visits.{Visit, visit, visitsFrom}
+use Rattle.variants_and_fragments.specs.Visits.{Visit, visit, visitsFrom, numbers}
 use Rattle.variants_and_fragments.specs.Inner.Accepted.{allb, CallIn, CaseIn}
 use Rattle.variants_and_fragments.specs.Inner.Case.{All, end, also}
 use Rattle.variants_and_fragments.proofs.Alls.{all-append}
@@ -29,10 +29,7 @@ pub visits-last : (w : List ℤ) (s : Sizes) (f : ℕ) → visitsFrom w s 0 (suc
 visits-last w s f = rw (zero-add f) at (visits-last-from w s 0 f)
 
 -- ---- the records visited are those reached, though in another order: what adds up along a list is the same of both
-abbrev pub numbers : List Visit → List ℕ
-numbers xs = map (λ (x : Visit). x .number) xs
-
-numbers-visit : (f : ℕ) (rs : List ℕ) → numbers (map (visit f) rs) ≡ rs
+pub numbers-visit : (f : ℕ) (rs : List ℕ) → numbers (map (visit f) rs) ≡ rs
 numbers-visit f [] = refl
 numbers-visit f (r ∷ rs) = rw (numbers-visit f rs)
 

@@ -1,9 +1,9 @@
 -- Request 2: the walk visits each record in a chain once and no other. The records visited are those reached, and no two of these are the same.
 -- Assumes nothing.
 use mathlib.Core.Path.{_≡_, refl, _∙_, ap}
-use mathlib.Core.Bool.{true, false, not}
-use mathlib.Core.List.{List, [], _∷_, _++_}
-use Prim.Native.Nat.{ℕ, zero, suc, _+_, _<_}
+use mathlib.Core.Bool.{Bool, true, false, not}
+use mathlib.Core.List.{List, [], _∷_, _++_, map, append-nil}
+use Prim.Native.Nat.{ℕ, zero, suc, _+_, _≤_, _<_}
 use native.Mathlib.Nat.{le-refl}
 use native.Mathlib.Omega.{arith}
 use native.Mathlib.Decide.{ℕ-discrete}
@@ -16,14 +16,14 @@ use Rattle.variants_and_fragments.specs.Chain.{chainOf, memb, reached}
 use Rattle.variants_and_fragments.specs.Check.{checkCaseOutcome}
 use Rattle.variants_and_fragments.specs.Pileup.{only}
 use Rattle.variants_and_fragments.specs.Refusals.{done}
-use Rattle.variants_and_fragments.specs.Visits.{visited, times, VisitsOnce}
+use Rattle.variants_and_fragments.specs.Visits.{Visit, visit, visitsFrom, visits, numbers, visited, times, VisitsOnce}
 use Rattle.variants_and_fragments.specs.Inner.Accepted.{CaseIn}
 use Rattle.variants_and_fragments.proofs.Accepted.{case-in}
 use Rattle.variants_and_fragments.proofs.Bools.{both, or-off, not-on, off, true-false}
 use Rattle.variants_and_fragments.proofs.Chain.{absent-chain, chain-record}
-use Rattle.variants_and_fragments.proofs.Only.{only-append}
+use Rattle.variants_and_fragments.proofs.Only.{only-append, only-map, only-yes, only-no}
 use Rattle.variants_and_fragments.proofs.Pigeon.{distinct, memb-append, reached-ok, reached-has}
-use Rattle.variants_and_fragments.proofs.Visits.{same-total}
+use Rattle.variants_and_fragments.proofs.Visits.{numbers-visit, same-total}
 
 -- ---- how often a number is in a list
 times-append : (r : ℕ) (xs ys : List ℕ) → times r (xs ++ ys) ≡ times r xs + times r ys
@@ -55,10 +55,41 @@ visited-times : (w : List ℤ) (s : Sizes) (r : ℕ) → times r (visited w s) �
 unfolding visited
 visited-times w s r = same-total (times r) (times-append r) w s (s .f)
 
+-- the visits to fragment f are its chain
+module _ (w : List ℤ) (s : Sizes) (f : ℕ) where
+  to : Visit → Bool
+  to x = eqb (x .fragment) f
+
+  to-own : (g : ℕ) (rs : List ℕ) → g ≡ f → only to (map (visit g) rs) ≡ map (visit g) rs
+  unfolding to
+  to-own g rs e = rw (only-map (visit g) to rs, eq-eqb g f e, only-yes rs)
+
+  to-other : (g : ℕ) (rs : List ℕ) → (g ≡ f → ⊥) → only to (map (visit g) rs) ≡ []
+  unfolding to
+  to-other g rs n = rw (only-map (visit g) to rs, ne-eqb g f n, only-no rs)
+
+  to-later : (j g : ℕ) → f < g → only to (visitsFrom w s g j) ≡ []
+  unfolding visitsFrom only
+  to-later zero g h = refl
+  to-later (suc j) g h = rw (only-append to (map (visit g) (chainOf w s g)) (visitsFrom w s (suc g) j), to-other g (chainOf w s g) (λ e. omega arith)) (to-later j (suc g) (omega arith))
+
+  to-chain : (j g : ℕ) → g ≤ f → f < g + j → numbers (only to (visitsFrom w s g j)) ≡ chainOf w s f
+  unfolding visitsFrom
+  to-chain zero g l h = absurd (omega arith)
+  to-chain (suc j) g l h = rw (only-append to (map (visit g) (chainOf w s g)) (visitsFrom w s (suc g) j)) (elim (ℕ-discrete g f) [
+    | yes e ↦ rw (to-own g (chainOf w s g) e, to-later j (suc g) (omega arith), append-nil, numbers-visit, e) refl
+    | no n ↦ rw (to-other g (chainOf w s g) n) (to-chain j (suc g) (omega arith) (omega arith))
+  ])
+
+  visits-along : f < s .f → numbers (only (λ (x : Visit). eqb (x .fragment) f) (visits w s)) ≡ chainOf w s f
+  unfolding to
+  visits-along h = to-chain (s .f) 0 (omega arith) (omega arith)
+
 pub visits-once : {w : List ℤ} {s : Sizes} → CaseIn w s → VisitsOnce w s
 visits-once {w} {s} k = record {
   once = λ f r l h. visited-times w s r ∙ times-once r (reached w s (s .f)) (reached-ok w s k (s .f) (le-refl _) .0) (reached-has w s r f (s .f) l h);
   no-other = λ r h. visited-times w s r ∙ times-none r (reached w s (s .f)) (reached-lacks w s r (s .f) h);
+  along = visits-along w s;
   absent = absent-chain w s (k .sized);
   unused = λ f r l. off (memb r (chainOf w s f)) (λ e. omega (arith, chain-record w s f r e .1));
 }

@@ -37,6 +37,11 @@ pub chain-step : (w : List ℤ) (s : Sizes) (k r : ℕ) → k < s .c → 1 ≤ r
     → chainFrom w s (s .c - k) r ≡ r ∷ chainFrom w s (s .c - (k + 1)) (nextCallAt w s r)
 chain-step w s k r h lo hi = let e : s .c - k ≡ suc (s .c - (k + 1)) = omega arith in rw e (chain-on w s (s .c - (k + 1)) r lo hi)
 
+-- the chain from where fragment f's starts
+pub start-chain : (w : List ℤ) (s : Sizes) (f r : ℕ) → r ≡ firstRecordAt w s f → chainFrom w s (s .c - 0) r ≡ chainOf w s f
+unfolding chainOf
+start-chain w s f r e = rw (e, sub-zero, record-chain)
+
 -- ---- goodChain
 pub good-hit : (w : List ℤ) (s : Sizes) (l : List ℕ) (r : ℕ) (rs : List ℕ) → memb r l ≡ true → false ≡ goodChain w s l (r ∷ rs)
 unfolding goodChain

@@ -37,7 +37,7 @@ rowsOf case = rowsFrom (case .cutoff) 0 (case .fragments)
 abbrev pub atVariant : ℕ → Row → Bool
 atVariant v row = eqb (row .call .variant) v
 
--- the usable calls at v, by rising fragment
+-- the usable calls at v, by rising fragment (`accepted-by-fragment` of proofs/ByFragment.antt)
 unfoldable pub pileOf : Case → ℕ → List Row
 pileOf case v = only (atVariant v) (rowsOf case)
 

@@ -1,7 +1,7 @@
 -- Request 2: the walk along the chains. It goes along each fragment's chain once, fragments rising. w is the words, s the sizes.
 -- Assumes nothing.
 use mathlib.Core.Path.{_≡_}
-use mathlib.Core.Bool.{Bool, true, false}
+use mathlib.Core.Bool.{true, false}
 use mathlib.Core.List.{List, [], _++_, map}
 use Prim.Native.Nat.{ℕ, zero, suc, _<_}
 use lib.IntN.{ℤ}
@@ -30,11 +30,14 @@ visitsFrom w s f (suc j) = map (visit f) (chainOf w s f) ++ visitsFrom w s (suc 
 abbrev pub visits : List ℤ → Sizes → List Visit
 visits w s = visitsFrom w s 0 (s .f)
 
+abbrev pub numbers : List Visit → List ℕ
+numbers xs = map (λ (x : Visit). x .number) xs
+
 -- the records that the walk visits, in order
 unfoldable pub visited : List ℤ → Sizes → List ℕ
-visited w s = map (λ (x : Visit). x .number) (visits w s)
+visited w s = numbers (visits w s)
 
--- ---- "the walk visits each record in a chain once and no other"
+-- ---- "the walk visits each record in a chain once and no other", of every accepted case: `accepted-once` of proofs/VisitsOnce.antt
 -- how often r is in the list
 abbrev pub times : ℕ → List ℕ → ℕ
 times r rs = length (only (eqb r) rs)
@@ -42,11 +45,13 @@ times r rs = length (only (eqb r) rs)
 pub record VisitsOnce (w : List ℤ) (s : Sizes) : Type 0 where
   pub once : (f r : ℕ) → f < s .f → memb r (chainOf w s f) ≡ true → times r (visited w s) ≡ 1
   pub no-other : (r : ℕ) → ((f : ℕ) → f < s .f → memb r (chainOf w s f) ≡ false) → times r (visited w s) ≡ 0
+  -- the visits to a fragment are its chain, in its order
+  pub along : (f : ℕ) → f < s .f → numbers (only (λ (x : Visit). eqb (x .fragment) f) (visits w s)) ≡ chainOf w s f
   -- an absent fragment's chain has no record, and no chain has one of the unused tail
   pub absent : (f : ℕ) → presentAt w s f ≡ false → chainOf w s f ≡ []
   pub unused : (f r : ℕ) → s .used < r → memb r (chainOf w s f) ≡ false
 
--- ---- "Each variant still lists its calls by rising fragment"
+-- ---- "Each variant still lists its calls by rising fragment", of every accepted case: `accepted-by-fragment` of proofs/ByFragment.antt
 -- each number is above those before it
 pub record Rising (l : List ℕ) : Type 0 where
   pub rises : (i j : ℕ) → i < j → j < length l → getD l i 0 < getD l j 0
@@ -55,7 +60,7 @@ pub record Rising (l : List ℕ) : Type 0 where
 unfoldable pub visitsAt : List ℤ → Sizes → ℕ → List Visit
 visitsAt w s v = only (λ (x : Visit). eqb (callVariantAt w s (x .number)) v) (visits w s)
 
--- of all calls at a variant, in the order of the visits, and of its pile, the usable ones
+-- the fragments rise along all calls at a variant, in the order of the visits, and along its pile, the usable ones, whatever the bases b
 pub record ListsByFragment (w : List ℤ) (s : Sizes) : Type 0 where
   pub calls-rise : (v : ℕ) → Rising (map (λ (x : Visit). x .fragment) (visitsAt w s v))
   pub pile-rises : (b : List ℕ) (v : ℕ) → Rising (map (λ (row : Row). row .fragment) (pileOf (decode w b) v))

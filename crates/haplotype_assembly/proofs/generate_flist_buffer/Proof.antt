@@ -60,7 +60,7 @@ past-case c = case-past _ _ _ _ (checked c)
 
 -- ---- its rows
 abbrev case : tie.After-ambiguous → tie.After-checked2
-case c = c .before .before .before .before .before .before .before
+case c = c .before .before .before .before .before .before .before .before
 
 abbrev here : tie.After-make-rows → tie.After-checked2
 here c = case (c .before)
@@ -99,6 +99,9 @@ call-words-requires c κs = search needs
 fragment-ends-requires : tie.Need-fragment-ends-requires
 fragment-ends-requires c κs = search needs
 
+variant-ends-requires : tie.Need-variant-ends-requires
+variant-ends-requires c κs = search needs
+
 slice-aggregate-make-rows : tie.Need-slice-aggregate-make-rows
 slice-aggregate-make-rows c = search needs
 
@@ -112,8 +115,14 @@ slice-aggregate-make-rows-4 : tie.Need-slice-aggregate-make-rows-4
 slice-aggregate-make-rows-4 c = search needs
 
 make-rows-requires : tie.Need-make-rows-requires
-make-rows-requires c κs = let i = inside (case c) in
-    (i, (omega (arith, c .before .before .before .before .before .call-words .ensures, i .sized .c-top), omega (arith, c .before .before .before .before .fragment-ends .ensures, i .sized .f-top)))
+make-rows-requires c κs = let i = inside (case c) in (
+  i,
+  (
+    omega (arith, c .before .before .before .before .before .before .call-words .ensures, i .sized .c-top),
+    omega (arith, c .before .before .before .before .before .fragment-ends .ensures, i .sized .f-top),
+    omega (arith, c .before .before .before .before .variant-ends .ensures, i .sized .n-top),
+  ),
+)
 
 slice-aggregate-count-lines : tie.Need-slice-aggregate-count-lines
 slice-aggregate-count-lines c = search needs
@@ -174,6 +183,7 @@ generate-flist-buffer-spec =
     enum-known-checked-2
     call-words-requires
     fragment-ends-requires
+    variant-ends-requires
     slice-aggregate-make-rows
     slice-aggregate-make-rows-2
     slice-aggregate-make-rows-3

@@ -62,7 +62,7 @@ countedCall cutoff x call = record { variant = call .variant; allele = call .all
 pub record CountedIs (cutoff : ℤ) (strand : ℕ) (held : CallHeld) (counted : CountedCall) : Type 0 where
   pub is : (x : Fragment) (call : Call) → x .strand ≡ strand → held ≡ heldCall call → counted ≡ countedCall cutoff x call
 
--- the same of the calls of read x, one after the other
+-- the calls of read x counted, one after the other
 unfoldable pub countCalls : ℤ → ℤ → Fragment → List Call → List ℤ → List ℤ
 countCalls d cutoff x [] counts = counts
 countCalls d cutoff x (call ∷ calls) counts = countCalls d cutoff x calls (countCall d (x .strand) (countedCall cutoff x call) counts)

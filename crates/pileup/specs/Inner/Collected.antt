@@ -53,7 +53,7 @@ pub record RowsHeld (c : Collected) (count : ℕ) (rows : List ℕ) : Type 0 whe
   pub count-is : count ≡ length (c .rows)
   pub words-are : take count rows ≡ map packed (c .rows)
 
--- a number per variant, as far as the slice goes
+-- the number of each variant, as far as the slice goes
 pub record Counted (number : ℕ → ℕ) (a : List ℕ) : Type 0 where
   pub at : (v : ℕ) → v < length a → getD a v 0 ≡ number v
 

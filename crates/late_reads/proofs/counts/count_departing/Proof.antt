@@ -13,7 +13,7 @@ use Rattle.variants_and_fragments.specs.Decode.{fragmentFrom}
 use Rattle.variants_and_fragments.specs.Layout.{cutoffAt}
 use Rattle.variants_and_fragments.proofs.Written.{written-length}
 use Rattle.pileup.proofs.CallReads.{ended}
-use Rattle.pileup.proofs.Folds.{Onward, onward-start}
+use Rattle.pileup.proofs.Onward.{Onward, onward-start}
 use Rattle.late_reads.specs.Inner.Counting.{countsDeparted}
 use Rattle.late_reads.proofs.counts.count_departing.Statement.{statement}
 use Rattle.late_reads.proofs.counts.count_departing.Tie as tie

@@ -12,7 +12,7 @@ use Rattle.variants_and_fragments.specs.Case.{Fragment}
 use Rattle.variants_and_fragments.specs.Decode.{callFrom, fragmentFrom}
 use Rattle.variants_and_fragments.specs.Layout.{cutoffAt}
 use Rattle.pileup.proofs.CallReads.{ended}
-use Rattle.pileup.proofs.Folds.{Onward, onward-start}
+use Rattle.pileup.proofs.Onward.{Onward, onward-start}
 use Rattle.late_reads.specs.Inner.Counting.{callFits, countedCall, countsDeparted, countsFit}
 use Rattle.late_reads.proofs.counts.departing_fits.Statement.{statement}
 use Rattle.late_reads.proofs.counts.departing_fits.Tie as tie
