@@ -2,31 +2,30 @@
 -- count is at most the number of fragments, since a fragment's calls rise and one of them at most is at a variant; and the total is what the
 -- variants have, at most 1,052,672 steps each, and the shares, at most 262,144 steps a call and 4,096 more.
 -- Assumes nothing.
-use mathlib.Core.Path.{_≡_, refl, _∙_}
-use mathlib.Core.Bool.{Bool, true, _&&_}
+use mathlib.Core.Path.{_≡_, refl}
+use mathlib.Core.Bool.{Bool, true}
 use mathlib.Core.List.{List, [], _∷_}
 use Prim.Native.Nat.{ℕ, zero, suc, _+_, _*_, _/_, _%_, _^_, _≤_, _<_}
 use native.Mathlib.Omega.{arith}
-use borrow.Author.Tests.{ne-eqb, eqb-true, leb-true, le-leb}
-use lib.Dec.{eqb, leb}
+use borrow.Author.Tests.{eqb-true, le-leb}
+use lib.Dec.{eqb}
 use lib.IntN.{ℤ, pos, negℤ, _+ℤ_, _-ℤ_}
 use lib.ListN.{length, getD}
 use Rattle.steps.specs.Logs.{mixOf}
 use Rattle.steps.proofs.AddExp.{add-least, add-below}
-use Rattle.steps.proofs.Signed.{by-test, zlin, up-pos, dn-pos, neg-up, neg-dn, natAbs-parts, parts-add, parts-minus}
+use Rattle.steps.proofs.Signed.{zlin, up-pos, dn-pos, neg-up, neg-dn, natAbs-parts, parts-add, parts-minus}
 use Rattle.variants_and_fragments.specs.Case.{Case, Fragment, Call, Variant, variantOf, alleleOf}
 use Rattle.variants_and_fragments.specs.First.{holdsBelow}
-use Rattle.variants_and_fragments.specs.Inner.Case.{risingFrom, All, end, also, GoodFragment, GoodCase}
+use Rattle.variants_and_fragments.specs.Inner.Case.{All, end, also, GoodFragment, GoodCase}
 use Rattle.variants_and_fragments.specs.Inner.Sums.{DownTo}
-use Rattle.variants_and_fragments.specs.Pileup.{only, usableCalls}
+use Rattle.variants_and_fragments.specs.Pileup.{usableCalls}
 use Rattle.variants_and_fragments.specs.Sums.{sumOver, countOver, sumTo}
 use Rattle.variants_and_fragments.specs.Words.{within}
 use Rattle.variants_and_fragments.proofs.Alls.{all-imp}
 use Rattle.variants_and_fragments.proofs.Bools.{both}
 use Rattle.variants_and_fragments.proofs.Bounds.{down-low, down-high, down-in, down-zero, down-more, down-add, down-sum, calls-sum}
 use Rattle.variants_and_fragments.proofs.First.{first-end, below-all}
-use Rattle.variants_and_fragments.proofs.Only.{only-in, only-out, only-none}
-use Rattle.variants_and_fragments.proofs.Usable.{usable-fewer, usable-in}
+use Rattle.variants_and_fragments.proofs.Usable.{usable-fewer, usable-in, one-at}
 use Rattle.genotype_probs.specs.declared.Rates.{Rates}
 use Rattle.genotype_probs.specs.Inner.Rates.{ratesFault}
 use Rattle.genotype_probs.specs.Priors.{getPrior}
@@ -55,31 +54,6 @@ unfolding within
 count-within n h = rw (le-leb 0 n (omega arith), le-leb n maxCount h)
 
 -- ---- counts
-module _ (v : ℕ) (t : Call → Bool) where
-  abbrev at : Call → Bool
-  at call = eqb (call .variant) v && t call
-
-  -- calls past v
-  past : (b : ℕ) (calls : List Call) → v < b → risingFrom b calls ≡ true → only at calls ≡ []
-  unfolding risingFrom
-  past b [] h r = only-none at
-  past b (call ∷ calls) h r =
-      let x = both (leb b (call .variant)) (risingFrom (suc (call .variant)) calls) r in
-      let l = leb-true b (call .variant) (x .0) in
-      only-out at call calls (rw (ne-eqb (call .variant) v (omega arith))) ∙ past (suc (call .variant)) calls (omega arith) (x .1)
-
-  -- one call at v at most
-  once : (b : ℕ) (calls : List Call) → risingFrom b calls ≡ true → length (only at calls) ≤ 1
-  unfolding risingFrom
-  once b [] r = rw (only-none at) (omega arith)
-  once b (call ∷ calls) r =
-      let x = both (leb b (call .variant)) (risingFrom (suc (call .variant)) calls) r in
-      by-test (at call)
-      (λ u.
-      let e = eqb-true (call .variant) v (both (eqb (call .variant) v) (t call) u .0) in
-      rw (only-in at call calls u, past (suc (call .variant)) calls (omega arith) (x .1)) (omega arith))
-      (λ u. rw (only-out at call calls u) (once (suc (call .variant)) calls (x .1)))
-
 count-once : {X : Type 0} (n : X → ℕ) (xs : List X) → All (λ x. n x ≤ 1) xs → countOver xs n ≤ length xs
 unfolding countOver
 count-once n [] end = omega arith
@@ -87,7 +61,7 @@ count-once n (x ∷ xs) (also h hs) = omega (arith, h, count-once n xs hs)
 
 read-once : (cutoff : ℤ) {variants : List Variant} (x : Fragment) → GoodFragment variants x → (e : ℕ) → readCount cutoff x e ≤ 1
 unfolding readCount
-read-once cutoff x good e = once (e / 10) (counted cutoff x (e % 10)) 0 (x .calls) (good .rises)
+read-once cutoff x good e = one-at (e / 10) _ (λ call h. eqb-true (call .variant) (e / 10) (both (eqb (call .variant) (e / 10)) (counted cutoff x (e % 10) call) h .0)) 0 (x .calls) (good .rises)
 
 -- ---- the total
 -- two likelihoods mixed: at least the first less 4,096, and at most 0

@@ -24,7 +24,7 @@ use Rattle.variants_and_fragments.specs.Check.{checkCaseAndHaplotypesOutcome}
 use Rattle.variants_and_fragments.specs.Decode.{tabulateFrom, tabulate, callFrom, fragmentFrom, decode}
 use Rattle.variants_and_fragments.specs.Inner.Layout.{Sized}
 use Rattle.variants_and_fragments.specs.Inner.Accepted.{CaseIn}
-use Rattle.variants_and_fragments.proofs.Bools.{true-false}
+use Rattle.variants_and_fragments.proofs.Bools.{off, true-false}
 use Rattle.variants_and_fragments.proofs.Tabulated.{table-length}
 use Rattle.variants_and_fragments.proofs.Chain.{link-end, link-after, chain-record}
 use Rattle.variants_and_fragments.proofs.Linked.{Linked, ends, goes, linked-fuel}
@@ -33,7 +33,7 @@ use Rattle.late_reads.specs.Values.{exchanged}
 use Rattle.late_reads.specs.Arriving.{wholeCalls, arrivingCall, arrivingRead, arrivingOk, arrivingRises, callsLaid, arrivedWords}
 use Rattle.late_reads.specs.Inner.Ready.{Arriving}
 use Rattle.late_reads.proofs.WordsAfter.{linkAfter, CallAt, call-stays, laid-length, laid-below, laid-at}
-use Rattle.late_reads.proofs.OneChanged.{usedAs, Keeps, Changed, off, memb-cases, sized-after, call-words-kept, sizes-after}
+use Rattle.late_reads.proofs.OneChanged.{usedAs, Keeps, Changed, memb-cases, sized-after, call-words-kept, sizes-after}
 use Rattle.late_reads.proofs.AcceptedAfter.{accepted-changed}
 use Rattle.late_reads.proofs.DecodedAfter.{decoded-changed}
 

@@ -22,7 +22,7 @@ use Rattle.variants_and_fragments.specs.Decode.{callFrom}
 use Rattle.variants_and_fragments.specs.Inner.Layout.{Sized}
 use Rattle.variants_and_fragments.specs.Inner.Chain.{recordOf, firstRecordAt}
 use Rattle.variants_and_fragments.specs.Inner.Accepted.{allb, CaseIn}
-use Rattle.variants_and_fragments.proofs.Bools.{both, or-right, not-on, true-false}
+use Rattle.variants_and_fragments.proofs.Bools.{both, or-right, not-on, off, true-false}
 use Rattle.variants_and_fragments.proofs.Ranges.{below-less}
 use Rattle.variants_and_fragments.proofs.Chain.{link-top, link-end, link-in, record-none, record-some, record-chain, chain-record}
 use Rattle.variants_and_fragments.proofs.Linked.{Linked, ends, goes, linked-fuel, chain-linked, chain-length}
@@ -53,11 +53,6 @@ pub record Changed (w w' : List ℤ) (s : Sizes) (u f : ℕ) : Type 0 where
   pub calls : (x : ℕ) → memb x (chainOf w' (usedAs s u) f) ≡ true → callOk w' (usedAs s u) x ≡ true
 
 -- ---- lists of records
--- a test that cannot hold fails
-pub off : (b : Bool) → (b ≡ true → ⊥) → b ≡ false
-off true n = absurd (n refl)
-off false n = refl
-
 or-cases : (a b : Bool) → (a || b) ≡ true → (a ≡ true) ⊎ (b ≡ true)
 or-cases true b h = inl refl
 or-cases false b h = inr h

@@ -11,7 +11,7 @@ use borrow.Author.Tests.{ne-eqb, ltb-true}
 use lib.IntN.{ℤ}
 use Rattle.variants_and_fragments.specs.declared.Sizes.{Sizes}
 use Rattle.variants_and_fragments.specs.Case.{Call}
-use Rattle.variants_and_fragments.specs.Chain.{chainFrom, chainOf}
+use Rattle.variants_and_fragments.specs.Chain.{chainFrom}
 use Rattle.variants_and_fragments.specs.Decode.{tabulateFrom, callFrom, fragmentFrom}
 use Rattle.variants_and_fragments.specs.Layout.{alleleCountAt, callVariantAt, variantField, alleleField, cutoffAt, callOk}
 use Rattle.variants_and_fragments.specs.Words.{below, natOf}

@@ -2,7 +2,7 @@
 -- Assumes nothing.
 use mathlib.Core.Path.{_≡_, sym, ap, _∙_}
 use mathlib.Core.Bool.{Bool, cond}
-use mathlib.Core.List.{List, map}
+use mathlib.Core.List.{List}
 use Prim.Native.Nat.{ℕ, _+_, _*_, _/_, _%_, _^_, _≤_, _<_}
 use native.Mathlib.Omega.{arith}
 use borrow.Author.Tests.{lt-ltb}
@@ -16,7 +16,7 @@ use Rattle.variants_and_fragments.specs.Check.{checkCaseOutcome}
 use Rattle.variants_and_fragments.specs.Refusals.{done}
 use Rattle.variants_and_fragments.specs.Inner.Accepted.{CaseIn}
 use Rattle.variants_and_fragments.specs.Decode.{decode}
-use Rattle.pileup.specs.Inner.Packed.{packed, Grouped}
+use Rattle.pileup.specs.Inner.Packed.{Grouped}
 use Rattle.pileup.specs.Inner.Piles.{PilesMade}
 use Rattle.pileup.proofs.CaseRows.{piles-are}
 use Rattle.pileup.proofs.Groups.{group-same}

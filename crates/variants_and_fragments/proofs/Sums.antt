@@ -7,7 +7,7 @@ use Prim.Native.Nat.{ℕ, zero, suc, _+_, _*_, _-_, _≤_, _<_}
 use native.Mathlib.Nat.{le-refl}
 use native.Mathlib.Numerals.{add-one}
 use native.Mathlib.Omega.{arith}
-use lib.IntN.{ℤ, pos, negℤ, _+ℤ_, +ℤ-idl, +ℤ-idr, +ℤ-assoc, negℤ-+ℤ}
+use lib.IntN.{ℤ, pos, negℤ, _+ℤ_, +ℤ-idl, +ℤ-assoc, negℤ-+ℤ}
 use lib.ListN.{length, getD}
 use Rattle.variants_and_fragments.specs.Inner.Case.{All, end, also}
 use Rattle.variants_and_fragments.specs.Sums.{sumOver, countOver, sumTo, countTo}

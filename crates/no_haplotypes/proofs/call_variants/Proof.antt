@@ -1,6 +1,5 @@
 -- `call_variants` meets its contract. The loop's invariant: the variants before v are called.
 -- Assumes nothing.
-use mathlib.Core.List.{[]}
 use Prim.Native.Nat.{_-_}
 use native.Mathlib.Omega.{arith}
 use Rattle.no_haplotypes.proofs.CallRuns.{CallingTo, calling-start, variants-long, quals-long, gqs-long, priors-at, calling-on, calling-end}
