@@ -1,4 +1,4 @@
--- Request 1: what `arrive` and `depart` answer and write. The order of the tests is document 01's, then the ranges before, the arriving calls, 13,
+-- Requests 1 and 3: what `arrive` and `depart` answer and write. The order of the tests is document 01's, then the ranges before, the arriving calls, 13,
 -- 14, and the ranges after.
 -- Assumes nothing.
 use mathlib.Core.Bool.{Bool, false, not, _&&_}
@@ -18,7 +18,7 @@ use Rattle.haplotype_assembly.specs.Phase.{phasedFlags}
 use Rattle.late_reads.specs.declared.Updated.{Updated}
 use Rattle.late_reads.specs.declared.Updated.the-variants.{Unsettled, Refused}
 use Rattle.late_reads.specs.Values.{Values, inRange, Fixed, arrived, departed}
-use Rattle.late_reads.specs.Arriving.{arrivingWords, wholeCalls, arrivingRead, arrivingOk, arrivingRises, arrivedWords, departedWords}
+use Rattle.late_reads.specs.Arriving.{arrivingWords, wholeCalls, arrivingRead, arrivingOk, arrivingRises, room, arrivedWords, departedWords}
 
 -- what both operations read: the case, the phase bytes, the haplotypes and the values
 pub record LateInput : Type 0 where
@@ -82,7 +82,7 @@ module _ (input : LateInput) (f : ℕ) (strand : ℤ) (calls : List ℤ) where
   arrivedValues = arrived (fixedOf input) (length (caseOf input .variants)) f (arrivingRead strand calls) (input .kept)
 
   -- the arriving calls: 4 and 5 at the first wrong one, 5 at their number for a broken length or a strand that the layout lacks; 13, the number
-  -- is below F and its fragment absent; 14, room
+  -- is below F and its fragment absent; 14, free and unused records together are not fewer than the calls (request 3)
   unfoldable pub arrivingOutcome : Sizes → Outcome Sizes
   arrivingOutcome s =
       let m = wholeCalls calls in
@@ -90,7 +90,7 @@ module _ (input : LateInput) (f : ℕ) (strand : ℤ) (calls : List ℤ) where
       (each 5 (arrivingRises calls) 0 m
       (unless (eqb (length calls) (arrivingWords * m) && within (pos 0) (pos 1) strand) 5 m
       (unless (ltb f (s .f) && not (fragmentOf (caseOf input) f .present)) 13 f
-      (unless (leb (s .used + m) (s .c)) 14 m
+      (unless (leb m (length (room (input .words) s))) 14 m
       (done s)))))
 
   -- then 10 at place 0, what would be written

@@ -1,10 +1,12 @@
-// The calls of an arrival, four words each, and their test.
+// The calls of an arrival, four words each, their test, and whether there is room for them.
 ghost use mathlib.Core.Path.{_≡_};
 ghost use Prim.Native.Nat.{_<_};
+ghost use lib.Dec.{leb};
+ghost use lib.ListN.{length};
 ghost use Rattle.variants_and_fragments.specs.Check.{outcomeOf};
 ghost use Rattle.variants_and_fragments.specs.First.{firstFail};
 ghost use Rattle.variants_and_fragments.specs.Inner.Accepted.{CaseIn};
-ghost use Rattle.late_reads.specs.Arriving.{wholeCalls, arrivingAt, arrivingOk, arrivingRises};
+ghost use Rattle.late_reads.specs.Arriving.{wholeCalls, arrivingAt, arrivingOk, arrivingRises, room};
 ghost use Rattle.late_reads.specs.Inner.Ready.{arrivingTests};
 use crate::Arrival;
 use variants_and_fragments::CallWords;
@@ -14,6 +16,7 @@ use variants_and_fragments::Sizes;
 use variants_and_fragments::calls::call_words_ok;
 use variants_and_fragments::layout::is_present;
 use variants_and_fragments::layout::nat_of;
+use variants_and_fragments::layout::next_call;
 
 // The words of an arriving call.
 pub const ARRIVING_WORDS: usize = 4;
@@ -76,6 +79,23 @@ fn first_not_rising(calls: &[i32]) -> usize
     i
 }
 
+// Free and unused records together are at least m. At the loop's head i counts the unused records and the free ones before r.
+fn has_room(words: &[i32], s: Sizes, m: usize) -> bool
+    requires { ⌜ CaseIn (now words) s ⌝ }
+    ensures { λ ok. ⌜ ok ≡ leb m (length (room (now (words .entry)) s)) ⌝ }
+{
+    let mut r = s.free;
+    let mut i = s.c - s.used;
+    while i < m {
+        if r == 0 {
+            return false;
+        }
+        r = next_call(words, s, r);
+        i += 1;
+    }
+    true
+}
+
 // The sizes, or what refuses the arrival: 4 and 5 of its calls and strand, 13, 14.
 pub fn arriving_fault(words: &[i32], s: Sizes, arrival: Arrival, calls: &[i32]) -> Checked
     requires { ⌜ CaseIn (now words) s ⌝ }
@@ -100,7 +120,7 @@ pub fn arriving_fault(words: &[i32], s: Sizes, arrival: Arrival, calls: &[i32]) 
     if is_present(words, s, f) {
         return Checked::Refused(Refusal::Fragment(f));
     }
-    if s.c - s.used < m {
+    if !has_room(words, s, m) {
         return Checked::Refused(Refusal::Room(m));
     }
     Checked::Accepted(s)

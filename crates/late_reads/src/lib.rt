@@ -1,4 +1,4 @@
-// Reads that come late (request 1): a fragment arrives or departs, and the likelihoods, the counts and the phased total are updated.
+// Reads that come late (requests 1 and 3): a fragment arrives or departs, and the likelihoods, the counts and the phased total are updated.
 ghost use mathlib.Core.Bool.{true};
 ghost use mathlib.Core.Path.{_≡_};
 ghost use Prim.Native.Nat.{_<_};
@@ -18,14 +18,13 @@ use crate::reads::mixed;
 use crate::reads::moved;
 use crate::reads::put_likelihoods;
 use crate::words::lay_arrival;
+use crate::words::lay_departure;
 use steps::LogProb;
 use steps::table;
 use variants_and_fragments::Checked;
 use variants_and_fragments::Refusal;
 use variants_and_fragments::Sizes;
-use variants_and_fragments::layout::ABSENT;
 use variants_and_fragments::layout::is_present;
-use variants_and_fragments::layout::put_first;
 
 mod arriving;
 mod counts;
@@ -79,7 +78,7 @@ fn arrive_kept(
     Updated::Unsettled(sum)
 }
 
-// A fragment arrives: its calls take the next records, and its values are added.
+// A fragment arrives: its calls take free records, then unused ones, and its values are added.
 pub fn arrive(
     words: &mut [i32],
     bases: &[u8],
@@ -148,11 +147,11 @@ fn depart_kept(
     }
     put_likelihoods(likelihoods, f, LogProb(0), LogProb(0));
     count_departing(words, s, f, counts);
-    put_first(words, s, f, ABSENT);
+    lay_departure(words, s, f);
     Updated::Unsettled(rest)
 }
 
-// A fragment departs: its values are taken off, and it is absent.
+// A fragment departs: its values are taken off, its records are free, and it is absent.
 pub fn depart(
     words: &mut [i32],
     bases: &[u8],

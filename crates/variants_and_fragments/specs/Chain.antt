@@ -1,5 +1,6 @@
--- 01, section 2 and numbers 4 and 5 of the table, as amended by request 1: the chains. A fragment's chain starts at its first call and goes
--- on by each call's next; zero ends it, and so does what is no used record. w is the words, s the sizes; r, t are record numbers from 1.
+-- 01, section 2 and numbers 4 and 5 of the table, as amended by requests 1 and 3: the chains. A fragment's chain starts at its first call and
+-- goes on by each call's next; zero ends it, and so does what is no used record. The free chain starts at the head's word 5 and goes on in the
+-- same way. w is the words, s the sizes; r, t are record numbers from 1.
 -- Assumes nothing.
 use mathlib.Core.Bool.{Bool, true, false, not, cond, _&&_, _||_}
 use mathlib.Core.List.{List, [], _∷_, _++_}
@@ -7,6 +8,7 @@ use Prim.Native.Nat.{ℕ, zero, suc}
 use lib.IntN.{ℤ, pos, negsuc}
 use lib.Dec.{leb, ltb, eqb}
 use Rattle.variants_and_fragments.specs.declared.Sizes.{Sizes}
+use Rattle.variants_and_fragments.specs.First.{holdsBelow}
 use Rattle.variants_and_fragments.specs.Words.{within}
 use Rattle.variants_and_fragments.specs.Layout.{firstField, strandField, nextField, fragmentWord, callWord, callVariantAt, callOk}
 pub use Rattle.variants_and_fragments.specs.Layout.{firstCallAt, presentAt, strandAt, nextCallAt}
@@ -43,26 +45,42 @@ unfoldable pub isReached : List ℤ → Sizes → ℕ → Bool
 unfolding memb reached
 isReached w s r = memb r (reached w s (s .f))
 
--- records that no fragment reaches are not checked: those that departed fragments left, and the unused tail
+-- records that no fragment reaches are not checked: the free ones and the unused tail
 unfoldable pub reachedCallOk : List ℤ → Sizes → ℕ → Bool
 reachedCallOk w s r = not (isReached w s r) || callOk w s r
 
 -- ---- 5, a fragment
--- record r's next is in 0..used; where it is not 0, its number is larger than r, and its variant is above r's
-unfoldable pub linkOk : List ℤ → Sizes → ℕ → Bool
-linkOk w s r =
-    let t = nextCallAt w s r in
-    within (pos 0) (pos (s .used)) (callWord w s r nextField)
-    && (eqb t 0 || (ltb r t && ltb (callVariantAt w s r) (callVariantAt w s t)))
+-- record r's next is in 0..used
+abbrev pub nextOk : List ℤ → Sizes → ℕ → Bool
+nextOk w s r = within (pos 0) (pos (s .used)) (callWord w s r nextField)
 
--- along rs each link is right, and no record was reached before, l being those reached
-unfoldable pub goodChain : List ℤ → Sizes → List ℕ → List ℕ → Bool
+-- and where it is not 0, its variant is above r's
+unfoldable pub linkOk : List ℤ → Sizes → ℕ → Bool
+linkOk w s r = let t = nextCallAt w s r in nextOk w s r && (eqb t 0 || ltb (callVariantAt w s r) (callVariantAt w s t))
+
+-- along rs each record's link is right, and no record was reached before, l being those reached
+unfoldable pub goodChain : (ℕ → Bool) → List ℕ → List ℕ → Bool
 unfolding memb
-goodChain w s l [] = true
-goodChain w s l (r ∷ rs) = not (memb r l) && (linkOk w s r && goodChain w s (r ∷ l) rs)
+goodChain right l [] = true
+goodChain right l (r ∷ rs) = not (memb r l) && (right r && goodChain right (r ∷ l) rs)
 
 -- strand 0 or 1, first call in −1..used, and a good chain; of a record that two fragments share the later one is wrong
 unfoldable pub fragmentOk : List ℤ → Sizes → ℕ → Bool
 fragmentOk w s f =
     within (pos 0) (pos 1) (fragmentWord w s f strandField)
-    && (within (negsuc 0) (pos (s .used)) (fragmentWord w s f firstField) && goodChain w s (reached w s f) (chainOf w s f))
+    && (within (negsuc 0) (pos (s .used)) (fragmentWord w s f firstField) && goodChain (linkOk w s) (reached w s f) (chainOf w s f))
+
+-- ---- 5 at place F, the free chain (request 3)
+-- the free records. C + 1 steps: a chain that comes back to one of its records meets it within them, since there are C
+unfoldable pub freeChain : List ℤ → Sizes → List ℕ
+unfolding chainFrom
+freeChain w s = chainFrom w s (suc (s .c)) (s .free)
+
+-- record r lies in a fragment's chain or in the free chain
+unfoldable pub inChain : List ℤ → Sizes → ℕ → Bool
+inChain w s r = isReached w s r || memb r (freeChain w s)
+
+-- each next of the free chain is in 0..used, no record of it was reached by a fragment or by itself, and each used record is in a chain; nothing
+-- else is asked of a free record
+unfoldable pub freeOk : List ℤ → Sizes → Bool
+freeOk w s = goodChain (nextOk w s) (reached w s (s .f)) (freeChain w s) && holdsBelow (λ i. inChain w s (suc i)) (s .used)

@@ -1,4 +1,4 @@
--- 01, section 2, as amended by request 1: words and allele bytes made of a case, from which `decode` gives back every case of at most three
+-- 01, section 2, as amended by requests 1 and 3: words and allele bytes made of a case, from which `decode` gives back every case of at most three
 -- alleles per variant whose absent fragments have no calls (`decode-encode` of proofs/Encoded.antt). Every record is used.
 -- Records are numbered fragment after fragment, and a fragment's chain goes through consecutive records. Samples make their words here; that the check accepts them is shown of these samples, and not in general. Assumes nothing.
 use mathlib.Core.Bool.{cond}
@@ -7,7 +7,7 @@ use Prim.Native.Nat.{ℕ, suc, _+_}
 use lib.IntN.{ℤ, pos, negsuc}
 use lib.ListN.{length, set, replicate}
 use Rattle.variants_and_fragments.specs.Case.{Case, Variant, Fragment, Call, alleleCount, callCount}
-use Rattle.variants_and_fragments.specs.Layout.{headWords, variantWords, fragmentWords, callWords, variantsField, fragmentsField, callsField, cutoffField, usedField, pos0Field, depthField, genotypeField, alleleCountField, lengthField, firstField, strandField, variantField, alleleField, qualField, oneMinusQualField, nextField}
+use Rattle.variants_and_fragments.specs.Layout.{headWords, variantWords, fragmentWords, callWords, variantsField, fragmentsField, callsField, cutoffField, usedField, freeField, pos0Field, depthField, genotypeField, alleleCountField, lengthField, firstField, strandField, variantField, alleleField, qualField, oneMinusQualField, nextField}
 
 -- a record of n words: each field at its place, and 0 in each word that none of them fills
 unfoldable pub laid : ℕ → List (ℕ × ℤ) → List ℤ
@@ -19,7 +19,7 @@ unfoldable pub joined : {X : Type 0} → List (List X) → List X
 joined [] = []
 joined (xs ∷ rest) = xs ++ joined rest
 
--- N, F, C, cutoff, used
+-- N, F, C, cutoff, used, and no free record
 unfoldable pub headOf : Case → List ℤ
 unfolding laid
 headOf case =
@@ -29,6 +29,7 @@ headOf case =
     ∷ (callsField, pos (callCount case))
     ∷ (cutoffField, case .cutoff)
     ∷ (usedField, pos (callCount case))
+    ∷ (freeField, pos 0)
     ∷ [])
 
 -- the lengths of alleles, from place i on

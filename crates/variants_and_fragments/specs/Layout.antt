@@ -1,4 +1,4 @@
--- 01, section 2, as amended by request 1: the layout of a case, the one place that knows where a word stands; and under the numbers 2 and 4 of
+-- 01, section 2, as amended by requests 1 and 3: the layout of a case, the one place that knows where a word stands; and under the numbers 2 and 4 of
 -- "Refusals by number and place" what is asked of a variant record and of a call record. w is the words, s the sizes.
 -- Assumes nothing.
 use mathlib.Core.Bool.{Bool, true, cond, _&&_}
@@ -12,10 +12,10 @@ use Rattle.variants_and_fragments.specs.declared.Sizes.{Sizes}
 use Rattle.variants_and_fragments.specs.declared.CallWords.{CallWords}
 use Rattle.variants_and_fragments.specs.Words.{word, within, below, natOf, natAt}
 
--- ---- the numbers of section 2, as amended by request 1
+-- ---- the numbers of section 2, as amended by requests 1 and 3
 -- words of the head, of a variant, a fragment, a call
 abbrev pub headWords : ℕ
-headWords = 5
+headWords = 6
 
 abbrev pub variantWords : ℕ
 variantWords = 8
@@ -48,7 +48,7 @@ abbrev pub lowestQuality : ℤ
 lowestQuality = negℤ (pos 262144)
 
 -- ---- the fields, each by its place in its record
--- of the head: N, F, C, the cutoff, and how many records are used (request 1)
+-- of the head: N, F, C, the cutoff, how many records are used (request 1), and the first free record or zero (request 3)
 abbrev pub variantsField : ℕ
 variantsField = 0
 
@@ -63,6 +63,9 @@ cutoffField = 3
 
 abbrev pub usedField : ℕ
 usedField = 4
+
+abbrev pub freeField : ℕ
+freeField = 5
 
 -- of a variant; the genotype has 2 words, the lengths have 3
 abbrev pub pos0Field : ℕ
@@ -104,12 +107,12 @@ abbrev pub nextField : ℕ
 nextField = 4
 
 -- ---- where things stand
--- what the head says: N, F, C, how many records are used, and the cutoff
+-- what the head says: N, F, C, how many records are used, the first free one, and the cutoff
 abbrev pub cutoffAt : List ℤ → ℤ
 cutoffAt w = word w cutoffField
 
 abbrev pub sizesOf : List ℤ → Sizes
-sizesOf w = record { n = natAt w variantsField; f = natAt w fragmentsField; c = natAt w callsField; used = natAt w usedField; cutoff = cutoffAt w }
+sizesOf w = record { n = natAt w variantsField; f = natAt w fragmentsField; c = natAt w callsField; used = natAt w usedField; free = natAt w freeField; cutoff = cutoffAt w }
 
 abbrev pub totalWords : Sizes → ℕ
 totalWords s = headWords + variantWords * (s .n) + fragmentWords * (s .f) + callWords * (s .c)

@@ -46,7 +46,7 @@ pub fn is_base(x: u8) -> bool
 }
 
 // The first of the n bytes from at on that is no base, counted from at, or n. At the loop's head the i bytes passed are bases.
-pub fn first_bad_base(bases: &[u8], at: usize, n: usize) -> usize
+fn first_bad_base(bases: &[u8], at: usize, n: usize) -> usize
     requires { ⌜ at + n ≤ length (now bases) ⌝ }
     ensures { λ r. ⌜ r ≡ firstFail (baseOkAt (now (bases .entry)) at) n ⌝ }
 {

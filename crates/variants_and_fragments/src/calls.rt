@@ -1,4 +1,4 @@
-// The check of the call records: number 4 of document 01's table, as amended by request 1.
+// The check of the call records: number 4 of document 01's table, as amended by requests 1 and 3.
 ghost use mathlib.Core.Path.{_≡_};
 ghost use Prim.Native.Nat.{_≤_};
 ghost use Rattle.variants_and_fragments.specs.First.{firstFailFrom};

@@ -1,9 +1,12 @@
-// The check of the chains: numbers 4 and 5 of document 01's table, as amended by request 1.
+// The check of the chains: numbers 4 and 5 of document 01's table, as amended by requests 1 and 3.
 ghost use mathlib.Core.Path.{_≡_};
 ghost use Prim.Native.Nat.{suc, _+_, _<_, _≤_};
-ghost use Rattle.variants_and_fragments.specs.First.{firstFailFrom};
+ghost use lib.Dec.{eqb};
+ghost use lib.ListN.{length, getD};
+ghost use mathlib.Core.Bool.{not};
+ghost use Rattle.variants_and_fragments.specs.First.{firstFailFrom, holdsBelow};
 ghost use Rattle.variants_and_fragments.specs.Inner.Layout.{Sized};
-ghost use Rattle.variants_and_fragments.specs.Chain.{nextCallAt, linkOk, reached, reachedCallOk};
+ghost use Rattle.variants_and_fragments.specs.Chain.{nextCallAt, linkOk, chainOf, reached, reachedCallOk, nextOk, freeChain, freeOk};
 ghost use Rattle.variants_and_fragments.specs.Inner.Chain.{Walked, FragmentChecked, FragmentsChecked, Marked, ReachMarked, chainsOutcome};
 ghost use Rattle.variants_and_fragments.specs.Check.{outcomeOf};
 ghost use Rattle.variants_and_fragments.specs.Inner.Alleles.{VariantsIn};
@@ -19,8 +22,8 @@ use crate::layout::next_call;
 use crate::layout::next_record;
 use crate::layout::strand_of;
 
-// Record r's next is right: 0, or a larger record at a larger variant.
-pub fn link_ok(words: &[i32], s: Sizes, r: usize) -> bool
+// Record r's next is right: 0, or a record at a larger variant.
+fn link_ok(words: &[i32], s: Sizes, r: usize) -> bool
     requires { ⌜ Sized (now words) s ⌝ }
     requires { ⌜ (1 ≤ r) × (r ≤ s .used) ⌝ }
     ensures { λ ok. ⌜ ok ≡ linkOk (now (words .entry)) s r ⌝ }
@@ -35,7 +38,7 @@ pub fn link_ok(words: &[i32], s: Sizes, r: usize) -> bool
     }
     let v = call_variant(words, s, r);
     let u = call_variant(words, s, t);
-    (r < t) & (v < u)
+    v < u
 }
 
 // The same where record r's next is the record after it.
@@ -57,11 +60,11 @@ fn after_ok(words: &[i32], s: Sizes, r: usize) -> bool
 // Fragment f's chain is right; then seen marks its records too. At the loop's head the k records
 // before r are right and marked. A chain mostly goes on at the record after: the arm of its own lets the machine guess that and run
 // ahead, where `r = next` waits for the word.
-pub fn walk_chain(words: &[i32], s: Sizes, f: usize, seen: &mut [u8]) -> bool
+fn walk_chain(words: &[i32], s: Sizes, f: usize, seen: &mut [u8]) -> bool
     requires { ⌜ Sized (now words) s ⌝ }
     requires { ⌜ f < s .f ⌝ }
     requires { ⌜ Marked (now seen) (reached (now words) s f) ⌝ }
-    ensures { λ r. ⌜ Walked (now (words .entry)) s f (now (seen .exit)) r ⌝ }
+    ensures { λ r. ⌜ Walked (linkOk (now (words .entry)) s) (reached (now (words .entry)) s f) (chainOf (now (words .entry)) s f) (now (seen .exit)) r ⌝ }
 {
     let c = s.c;
     let mut r = first_call(words, s, f);
@@ -94,7 +97,7 @@ pub fn walk_chain(words: &[i32], s: Sizes, f: usize, seen: &mut [u8]) -> bool
 }
 
 // Fragment f is right; then seen marks its records too.
-pub fn fragment_ok(words: &[i32], s: Sizes, f: usize, seen: &mut [u8]) -> bool
+fn fragment_ok(words: &[i32], s: Sizes, f: usize, seen: &mut [u8]) -> bool
     requires { ⌜ Sized (now words) s ⌝ }
     requires { ⌜ f < s .f ⌝ }
     requires { ⌜ Marked (now seen) (reached (now words) s f) ⌝ }
@@ -112,7 +115,7 @@ pub fn fragment_ok(words: &[i32], s: Sizes, f: usize, seen: &mut [u8]) -> bool
 
 // The first fragment that is wrong, or F; then seen marks what is reached. At the loop's head the fragments before f are right and
 // their records marked.
-pub fn first_bad_fragment(words: &[i32], s: Sizes, seen: &mut [u8]) -> usize
+fn first_bad_fragment(words: &[i32], s: Sizes, seen: &mut [u8]) -> usize
     requires { ⌜ Sized (now words) s ⌝ }
     requires { ⌜ Marked (now seen) [] ⌝ }
     ensures { λ r. ⌜ FragmentsChecked (now (words .entry)) s (now (seen .exit)) r ⌝ }
@@ -177,6 +180,62 @@ fn first_bad_reached(words: &[i32], s: Sizes) -> usize
     first_bad_call(words, s, &seen)
 }
 
+// The free chain is right; then seen marks its records too. At the loop's head the k records before r are right and marked. One step more than there
+// are records: a chain that comes back to one of its own is seen.
+fn walk_free(words: &[i32], s: Sizes, seen: &mut [u8]) -> bool
+    requires { ⌜ Sized (now words) s ⌝ }
+    requires { ⌜ Marked (now seen) (reached (now words) s (s .f)) ⌝ }
+    ensures { λ r. ⌜ Walked (nextOk (now (words .entry)) s) (reached (now (words .entry)) s (s .f)) (freeChain (now (words .entry)) s) (now (seen .exit)) r ⌝ }
+{
+    let c = s.c;
+    let used = s.used;
+    let mut r = s.free;
+    let mut k = 0;
+    while k <= c {
+        k += 1;
+        if r == 0 {
+            return true;
+        }
+        if seen[r] != 0 {
+            return false;
+        }
+        let next = next_call(words, s, r);
+        if used < next {
+            return false;
+        }
+        seen[r] = 1;
+        r = next;
+    }
+    true
+}
+
+// Each of the records 1 to n is marked. At the loop's head the i first are.
+fn all_marked(seen: &[u8], n: usize) -> bool
+    requires { ⌜ n < length (now seen) ⌝ }
+    ensures { λ r. ⌜ r ≡ holdsBelow (λ i. not (eqb (getD (now (seen .entry)) (suc i) 0) 0)) n ⌝ }
+{
+    let mut i = 0;
+    while i < n {
+        i += 1;
+        if seen[i] == 0 {
+            return false;
+        }
+    }
+    true
+}
+
+// The free chain is right, and each used record is in a chain. Before, seen marks what the fragments reach.
+fn free_ok(words: &[i32], s: Sizes, seen: &mut [u8]) -> bool
+    requires { ⌜ Sized (now words) s ⌝ }
+    requires { ⌜ Marked (now seen) (reached (now words) s (s .f)) ⌝ }
+    ensures { λ r. ⌜ r ≡ freeOk (now (words .entry)) s ⌝ }
+{
+    if !walk_free(words, s, seen) {
+        return false;
+    }
+    all_marked(seen, s.used)
+}
+
 // Numbers 4 and 5. The chains are walked first: where all are right, they mark what is reached, and no second walk is needed.
 pub fn check_chains(words: &[i32], s: Sizes) -> Checked
     requires { ⌜ Sized (now words) s ⌝ }
@@ -197,6 +256,9 @@ pub fn check_chains(words: &[i32], s: Sizes) -> Checked
     let r = first_bad_call(words, s, &seen);
     if r <= used {
         return Checked::Refused(Refusal::Call(r));
+    }
+    if !free_ok(words, s, &mut seen) {
+        return Checked::Refused(Refusal::Chain(m));
     }
     Checked::Accepted(s)
 }

@@ -1,4 +1,4 @@
-// The check of the head: number 1 of document 01's table, as amended by request 1.
+// The check of the head: number 1 of document 01's table, as amended by requests 1 and 3.
 ghost use mathlib.Core.Path.{_≡_};
 ghost use Rattle.variants_and_fragments.specs.Inner.Head.{headFault};
 use crate::layout::HEAD_WORDS;
@@ -9,7 +9,7 @@ use crate::layout::cutoff_ok;
 use crate::layout::read_sizes;
 use crate::layout::total_words;
 
-// The place of the head's fault: a word 0 to 4, 5 for the length, 0 under five words; 6 where there is none.
+// The place of the head's fault: a word 0 to 5, 6 for the length, 0 under six words; 7 where there is none.
 pub fn head_fault(words: &[i32]) -> usize
     ensures { λ r. ⌜ r ≡ headFault (now (words .entry)) ⌝ }
 {
@@ -32,9 +32,12 @@ pub fn head_fault(words: &[i32]) -> usize
     if s.c < s.used {
         return 4;
     }
+    if s.used < s.free {
+        return 5;
+    }
     let all = total_words(s);
     if words.len() == all {
-        return 6;
+        return 7;
     }
-    5
+    6
 }

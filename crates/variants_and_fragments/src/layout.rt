@@ -1,4 +1,4 @@
-// The layout of a case, the one file that knows where a word stands: the numbers of section 2 as amended by request 1, the readings of a word, a
+// The layout of a case, the one file that knows where a word stands: the numbers of section 2 as amended by requests 1 and 3, the readings of a word, a
 // reader for each field, and a setter for those that arrivals and departures write.
 ghost use mathlib.Core.Path.{_≡_};
 ghost use Prim.Native.Nat.{_+_, _<_, _≤_};
@@ -6,7 +6,7 @@ ghost use lib.ListN.{length, set};
 ghost use lib.IntN.{pos, negsuc};
 ghost use lib.Signed.{leZ};
 ghost use Rattle.variants_and_fragments.specs.Words.{natOf, word, within, natAt};
-ghost use Rattle.variants_and_fragments.specs.Layout.{sizesOf, lowestQuality, headWords, variantWords, fragmentWords, callWords, totalWords, maxVariants, maxFragments, maxCalls, variantAt, fragmentAt, callAt, firstField, fragmentWord, cutoffAt, qualAt, oneMinusQualAt, pos0Field, depthField, variantWord, callWord, pos0At, depthAt, genotypeAt, alleleCountAt, lengthAt, callVariantAt, calledAlleleAt, firstCallAt, presentAt, strandAt, nextCallAt, usedField, strandField, headSet, fragmentSet, callPut};
+ghost use Rattle.variants_and_fragments.specs.Layout.{sizesOf, lowestQuality, headWords, variantWords, fragmentWords, callWords, totalWords, maxVariants, maxFragments, maxCalls, variantAt, fragmentAt, callAt, firstField, fragmentWord, cutoffAt, qualAt, oneMinusQualAt, pos0Field, depthField, variantWord, callWord, pos0At, depthAt, genotypeAt, alleleCountAt, lengthAt, callVariantAt, calledAlleleAt, firstCallAt, presentAt, strandAt, nextCallAt, usedField, freeField, strandField, nextField, headSet, fragmentSet, callSet, callPut};
 ghost use Rattle.variants_and_fragments.specs.Inner.Layout.{Sized, callWordsAt};
 ghost use Rattle.variants_and_fragments.specs.Inner.Chain.{recordOf, firstRecordAt};
 ghost use Rattle.variants_and_fragments.specs.Inner.Alleles.{VariantsIn};
@@ -18,7 +18,7 @@ use crate::Sizes;
 pub const NONE: usize = 4294967296;
 
 // Words of the head and of each record.
-pub const HEAD_WORDS: usize = 5;
+pub const HEAD_WORDS: usize = 6;
 
 pub const VARIANT_WORDS: usize = 8;
 
@@ -36,6 +36,8 @@ const CALLS: usize = 2;
 const CUTOFF: usize = 3;
 
 const USED: usize = 4;
+
+const FREE: usize = 5;
 
 // Of a variant; the genotype has 2 words, the lengths have 3.
 const POS0: usize = 0;
@@ -124,7 +126,7 @@ pub fn word_at(words: &[i32], i: usize) -> i32
 
 // ---- the head
 
-// What the head says: N, F, C, how many records are used, and the cutoff.
+// What the head says: N, F, C, how many records are used, the first free one or 0, and the cutoff.
 pub fn read_sizes(words: &[i32]) -> Sizes
     requires { ⌜ headWords ≤ length (now words) ⌝ }
     ensures { λ r. ⌜ r ≡ sizesOf (now (words .entry)) ⌝ }
@@ -134,6 +136,7 @@ pub fn read_sizes(words: &[i32]) -> Sizes
         f: nat_at(words, FRAGMENTS),
         c: nat_at(words, CALLS),
         used: nat_at(words, USED),
+        free: nat_at(words, FREE),
         cutoff: word_at(words, CUTOFF),
     }
 }
@@ -444,6 +447,14 @@ pub fn put_used(words: &mut [i32], used: usize)
     put_word(words, USED, used as i32);
 }
 
+// Sets the first free record, or 0 for none.
+pub fn put_free(words: &mut [i32], free: usize)
+    requires { ⌜ (headWords ≤ length (now words)) × (free ≤ maxCalls) ⌝ }
+    ensures { λ _. ⌜ now (words .exit) ≡ headSet (now (words .entry)) freeField (pos free) ⌝ }
+{
+    put_word(words, FREE, free as i32);
+}
+
 // Sets fragment f's first call: a record, 0 for none, or −1 where the fragment is absent.
 pub fn put_first(words: &mut [i32], s: Sizes, f: usize, first: i32)
     requires { ⌜ Sized (now words) s ⌝ }
@@ -460,6 +471,15 @@ pub fn put_strand(words: &mut [i32], s: Sizes, f: usize, strand: i32)
     ensures { λ _. ⌜ now (words .exit) ≡ fragmentSet (now (words .entry)) s f strandField strand ⌝ }
 {
     put_word(words, fragment_at(s, f) + STRAND, strand);
+}
+
+// Sets the record after record r in its chain, or 0.
+pub fn put_next(words: &mut [i32], s: Sizes, r: usize, next: usize)
+    requires { ⌜ Sized (now words) s ⌝ }
+    requires { ⌜ (1 ≤ r) × (r ≤ s .c) × (next ≤ maxCalls) ⌝ }
+    ensures { λ _. ⌜ now (words .exit) ≡ callSet (now (words .entry)) s r nextField (pos next) ⌝ }
+{
+    put_word(words, call_at(s, r) + NEXT, next as i32);
 }
 
 // Sets record r: a call's four words, and the record after it in its chain, or 0.

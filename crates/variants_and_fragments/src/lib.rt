@@ -20,12 +20,13 @@ pub mod layout;
 mod refusals;
 mod variants;
 
-// What the head says: N, F, C, how many records are used, and the cutoff.
+// What the head says: N, F, C, how many records are used, the first free one or 0, and the cutoff.
 pub struct Sizes {
     pub n: usize,
     pub f: usize,
     pub c: usize,
     pub used: usize,
+    pub free: usize,
     pub cutoff: i32,
 }
 
@@ -79,7 +80,7 @@ pub enum VarFilter {
     DensityAndDepthAndStrandBias,
 }
 
-// The check of a case: numbers 1 to 5 of document 01's table as amended by request 1, in order, or the sizes that the head gives.
+// The check of a case: numbers 1 to 5 of document 01's table as amended by requests 1 and 3, in order, or the sizes that the head gives.
 pub fn check_case(words: &[i32], bases: &[u8]) -> Checked
     ensures { λ r. ⌜ outcomeOf r ≡ checkCaseOutcome (now (words .entry)) (now (bases .entry)) ⌝ }
 {
@@ -92,7 +93,7 @@ pub fn check_case_and_haplotypes(words: &[i32], bases: &[u8], haplotypes: &[u8])
     ensures { λ r. ⌜ outcomeOf r ≡ checkCaseAndHaplotypesOutcome (now (words .entry)) (now (bases .entry)) (now (haplotypes .entry)) ⌝ }
 {
     let p = head_fault(words);
-    if p < 6 {
+    if p < 7 {
         return Checked::Refused(Refusal::Head(p));
     }
     let s = read_sizes(words);

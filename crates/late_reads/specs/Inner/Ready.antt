@@ -17,7 +17,7 @@ use Rattle.variants_and_fragments.specs.Inner.Accepted.{CaseIn}
 use Rattle.haplotype_assembly.specs.Inner.PhaseRead.{phasedAt}
 use Rattle.sweeps.specs.Sweeps.{callTerm}
 use Rattle.late_reads.specs.Values.{Values, inRange, Fixed, arrived, departed}
-use Rattle.late_reads.specs.Arriving.{arrivingWords, wholeCalls, arrivingRead, arrivingOk, arrivingRises, arrivedWords, departedWords}
+use Rattle.late_reads.specs.Arriving.{arrivingWords, wholeCalls, arrivingRead, arrivingOk, arrivingRises, room, arrivedWords, departedWords}
 use Rattle.late_reads.specs.LateReads.{LateAnswer, unsettled, LateSlices, lateSlices}
 
 -- the case is accepted, with its phase bytes and haplotypes
@@ -41,7 +41,7 @@ pub record Arriving (w : List ℤ) (s : Sizes) (f : ℕ) (strand : ℤ) (calls :
   pub strand-in : within (pos 0) (pos 1) strand ≡ true
   pub below : f < s .f
   pub absent : presentAt w s f ≡ false
-  pub room : s .used + wholeCalls calls ≤ s .c
+  pub fits : wholeCalls calls ≤ length (room w s)
 
 -- the tests of an arrival, in terms of the words
 unfoldable pub arrivingTests : List ℤ → Sizes → ℕ → ℤ → List ℤ → Outcome Sizes
@@ -51,7 +51,7 @@ arrivingTests w s f strand calls =
     (each 5 (arrivingRises calls) 0 m
     (unless (eqb (length calls) (arrivingWords * m) && within (pos 0) (pos 1) strand) 5 m
     (unless (ltb f (s .f) && not (presentAt w s f)) 13 f
-    (unless (leb (s .used + m) (s .c)) 14 m
+    (unless (leb m (length (room w s))) 14 m
     (done s)))))
 
 -- ---- the values, in terms of the words

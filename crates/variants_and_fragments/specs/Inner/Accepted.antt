@@ -10,7 +10,7 @@ use Rattle.variants_and_fragments.specs.declared.Sizes.{Sizes}
 use Rattle.variants_and_fragments.specs.Words.{within}
 use Rattle.variants_and_fragments.specs.Layout.{firstField, fragmentWord, sizesOf, cutoffAt, lowestQuality, alleleCountAt, callVariantAt, calledAlleleAt, qualAt, oneMinusQualAt, callOk}
 use Rattle.variants_and_fragments.specs.Inner.Layout.{Sized}
-use Rattle.variants_and_fragments.specs.Chain.{strandAt, chainOf, goodChain, reached}
+use Rattle.variants_and_fragments.specs.Chain.{strandAt, chainOf, linkOk, nextOk, goodChain, reached, inChain, freeChain}
 use Rattle.variants_and_fragments.specs.Alleles.{allelesStart, isBase}
 use Rattle.variants_and_fragments.specs.Inner.Alleles.{VariantsIn}
 
@@ -30,8 +30,14 @@ pub record CallIn (w : List ℤ) (s : Sizes) (r : ℕ) : Type 0 where
 pub record FragmentIn (w : List ℤ) (s : Sizes) (f : ℕ) : Type 0 where
   pub strand-in : strandAt w s f ≤ 1
   pub first-in : within (negsuc 0) (pos (s .used)) (fragmentWord w s f firstField) ≡ true
-  pub right : goodChain w s (reached w s f) (chainOf w s f) ≡ true
+  pub right : goodChain (linkOk w s) (reached w s f) (chainOf w s f) ≡ true
   pub calls : allb (callOk w s) (chainOf w s f) ≡ true
+
+-- the free chain
+pub record FreeIn (w : List ℤ) (s : Sizes) : Type 0 where
+  pub right : goodChain (nextOk w s) (reached w s (s .f)) (freeChain w s) ≡ true
+  -- each used record is in a chain
+  pub whole : (r : ℕ) → 1 ≤ r → r ≤ s .used → inChain w s r ≡ true
 
 -- a case
 pub record CaseIn (w : List ℤ) (s : Sizes) : Type 0 where
@@ -39,6 +45,7 @@ pub record CaseIn (w : List ℤ) (s : Sizes) : Type 0 where
   pub sized : Sized w s
   pub variants : VariantsIn w s
   pub frags : (f : ℕ) → f < s .f → FragmentIn w s f
+  pub free-in : FreeIn w s
   pub cutoff-in : within lowestQuality (pos 0) (cutoffAt w) ≡ true
 
 -- its allele bytes

@@ -1,7 +1,7 @@
 -- Chains as the check walks them: which records are marked, and what a walk and the check of a fragment leave. Assumes nothing.
 use mathlib.Core.Path.{_≡_}
 use mathlib.Core.Bool.{Bool, true, false, cond}
-use mathlib.Core.List.{List}
+use mathlib.Core.List.{List, _++_}
 use Prim.Native.Nat.{ℕ, suc, _≤_, _<_}
 use lib.ListN.{length, getD}
 use lib.IntN.{ℤ}
@@ -9,8 +9,8 @@ use lib.Dec.{leb}
 use Rattle.variants_and_fragments.specs.declared.Sizes.{Sizes}
 use Rattle.variants_and_fragments.specs.First.{firstFail}
 use Rattle.variants_and_fragments.specs.Layout.{maxCalls, firstCallAt, nextCallAt}
-use Rattle.variants_and_fragments.specs.Chain.{isRecord, chainOf, memb, reached, reachedCallOk, goodChain, fragmentOk}
-use Rattle.variants_and_fragments.specs.Refusals.{Outcome, done, each}
+use Rattle.variants_and_fragments.specs.Chain.{isRecord, memb, reached, reachedCallOk, goodChain, fragmentOk, freeOk}
+use Rattle.variants_and_fragments.specs.Refusals.{Outcome, done, unless, each}
 
 -- what a word names as a record, and 0 where that is none of those used
 unfoldable pub recordOf : Sizes → ℕ → ℕ
@@ -29,10 +29,10 @@ pub record Marked (seen : List ℕ) (l : List ℕ) : Type 0 where
   pub long : maxCalls < length seen
   pub marks : (x : ℕ) → x ≤ maxCalls → getD seen x 0 ≡ flag (memb x l)
 
--- what a walk of fragment f's chain answers, and that the flags then mark its records too
-pub record Walked (w : List ℤ) (s : Sizes) (f : ℕ) (seen : List ℕ) (r : Bool) : Type 0 where
-  pub ok : r ≡ goodChain w s (reached w s f) (chainOf w s f)
-  pub marked : r ≡ true → Marked seen (reached w s (suc f))
+-- what a walk of the chain rs answers, l being the records reached before, and that the flags then mark its records too
+pub record Walked (right : ℕ → Bool) (l rs : List ℕ) (seen : List ℕ) (r : Bool) : Type 0 where
+  pub ok : r ≡ goodChain right l rs
+  pub marked : r ≡ true → Marked seen (rs ++ l)
 
 -- the same of fragment f's test
 pub record FragmentChecked (w : List ℤ) (s : Sizes) (f : ℕ) (seen : List ℕ) (r : Bool) : Type 0 where
@@ -55,4 +55,4 @@ pub record ReachMarked (w : List ℤ) (s : Sizes) (f : ℕ) (seen : List ℕ) : 
 
 -- the table's lines for numbers 4 and 5
 unfoldable pub chainsOutcome : List ℤ → Sizes → Outcome Sizes
-chainsOutcome w s = each 4 (reachedCallOk w s) 1 (s .used) (each 5 (fragmentOk w s) 0 (s .f) (done s))
+chainsOutcome w s = each 4 (reachedCallOk w s) 1 (s .used) (each 5 (fragmentOk w s) 0 (s .f) (unless (freeOk w s) 5 (s .f) (done s)))

@@ -7,9 +7,9 @@ use lib.IntN.{ℤ, pos}
 use lib.ListN.{length}
 use Rattle.variants_and_fragments.specs.Words.{word, within}
 use Rattle.variants_and_fragments.specs.Inner.First.{firstFalse}
-use Rattle.variants_and_fragments.specs.Layout.{headWords, maxVariants, maxFragments, maxCalls, lowestQuality, variantsField, fragmentsField, callsField, usedField, cutoffAt, sizesOf, totalWords}
+use Rattle.variants_and_fragments.specs.Layout.{headWords, maxVariants, maxFragments, maxCalls, lowestQuality, variantsField, fragmentsField, callsField, usedField, freeField, cutoffAt, sizesOf, totalWords}
 
--- words 0 to 4, and at 5 the length
+-- words 0 to 5, and at 6 the length
 abbrev pub headTests : List ℤ → List Bool
 headTests w =
     within (pos 0) (pos maxVariants) (word w variantsField)
@@ -17,10 +17,11 @@ headTests w =
     ∷ within (pos 0) (pos maxCalls) (word w callsField)
     ∷ within lowestQuality (pos 0) (cutoffAt w)
     ∷ within (pos 0) (pos (sizesOf w .c)) (word w usedField)
+    ∷ within (pos 0) (pos (sizesOf w .used)) (word w freeField)
     ∷ eqb (length w) (totalWords (sizesOf w))
     ∷ []
 
--- the place of the first that fails, 6 where there is none; under five words it is 0
+-- the place of the first that fails, 7 where there is none; under six words it is 0
 unfoldable pub headFault : List ℤ → ℕ
 unfolding firstFalse
 headFault w = cond (leb headWords (length w)) (firstFalse (headTests w)) 0

@@ -18,6 +18,7 @@ pub record Sized (w : List ℤ) (s : Sizes) : Type 0 where
   pub f-top : s .f ≤ maxFragments
   pub c-top : s .c ≤ maxCalls
   pub used-top : s .used ≤ s .c
+  pub free-top : s .free ≤ s .used
 
 -- the first four words of record r
 abbrev pub callWordsAt : List ℤ → Sizes → ℕ → CallWords
