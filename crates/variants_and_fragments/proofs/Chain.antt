@@ -12,7 +12,7 @@ use borrow.Author.Tests.{lt-ltb, le-leb, lt-leb, eq-eqb, ne-eqb, leb-true, ltb-t
 use Rattle.variants_and_fragments.specs.declared.Sizes.{Sizes}
 use Rattle.variants_and_fragments.specs.Words.{within}
 use Rattle.variants_and_fragments.specs.Layout.{maxCalls, firstField, strandField, nextField, fragmentWord, callWord, callVariantAt}
-use Rattle.variants_and_fragments.specs.Chain.{firstCallAt, presentAt, strandAt, nextCallAt, chainFrom, chainOf, isRecord, memb, reached, linkOk, goodChain, fragmentOk}
+use Rattle.variants_and_fragments.specs.Chain.{firstCallAt, presentAt, strandAt, nextCallAt, chainFrom, chainOf, isRecord, memb, reached, nextOk, linkOk, goodChain, fragmentOk}
 use Rattle.variants_and_fragments.specs.Inner.Layout.{Sized}
 use Rattle.variants_and_fragments.specs.Inner.Chain.{recordOf}
 use Rattle.variants_and_fragments.specs.Inner.Accepted.{allb}
@@ -22,24 +22,27 @@ use Rattle.variants_and_fragments.proofs.Readings.{absent-none}
 
 -- ---- a link
 module _ (w : List ℤ) (s : Sizes) (r : ℕ) where
-  -- a right one leads to zero or to a record, which is at a variant above
+  -- a right one leads to zero or to a record
+  pub next-top : nextOk w s r ≡ true → nextCallAt w s r ≤ s .used
+  next-top h = within-top 0 (s .used) (callWord w s r nextField) h
+
+  -- which is at a variant above
   pub link-top : linkOk w s r ≡ true → nextCallAt w s r ≤ s .used
   unfolding linkOk
-  link-top h = within-top 0 (s .used) (callWord w s r nextField) (both (within (pos 0) (pos (s .used)) (callWord w s r nextField)) _ h .0)
+  link-top h = next-top (both (nextOk w s r) _ h .0)
 
   pub next-rises : linkOk w s r ≡ true → 1 ≤ nextCallAt w s r → callVariantAt w s r < callVariantAt w s (nextCallAt w s r)
   unfolding linkOk
   next-rises h l =
       let t = nextCallAt w s r in
-      let up : Bool = ltb (callVariantAt w s r) (callVariantAt w s t) in
-      let k : (ltb r t && up) ≡ true = rw (ne-eqb t 0 (λ e. omega arith)) at (both (within (pos 0) (pos (s .used)) (callWord w s r nextField)) _ h .1) in
-      ltb-true _ _ (both (ltb r t) up k .1)
+      let up : ltb (callVariantAt w s r) (callVariantAt w s t) ≡ true = rw (ne-eqb t 0 (λ e. omega arith)) at (both (nextOk w s r) _ h .1) in
+      ltb-true _ _ up
 
   module _ (z : Sized w s) where
     top : s .used ≤ maxCalls
     top = omega (arith, z .used-top, z .c-top)
 
-    next-in : within (pos 0) (pos (s .used)) (callWord w s r nextField) ≡ leb (nextCallAt w s r) (s .used)
+    pub next-in : nextOk w s r ≡ leb (nextCallAt w s r) (s .used)
     next-in = upto-nat (s .used) (callWord w s r nextField) (omega (arith, top))
 
     pub link-end : nextCallAt w s r ≡ 0 → true ≡ linkOk w s r
@@ -50,26 +53,22 @@ module _ (w : List ℤ) (s : Sizes) (r : ℕ) where
     unfolding linkOk
     link-over h = simp (next-in, lt-leb (nextCallAt w s r) (s .used) h)
 
-    pub link-in : (nextCallAt w s r ≡ 0 → ⊥) → nextCallAt w s r ≤ s .used → (ltb r (nextCallAt w s r) && ltb (callVariantAt w s r) (callVariantAt w s (nextCallAt w s r))) ≡ linkOk w s r
+    pub link-in : (nextCallAt w s r ≡ 0 → ⊥) → nextCallAt w s r ≤ s .used → ltb (callVariantAt w s r) (callVariantAt w s (nextCallAt w s r)) ≡ linkOk w s r
     unfolding linkOk
     link-in n h = simp (next-in, le-leb (nextCallAt w s r) (s .used) h, ne-eqb (nextCallAt w s r) 0 n)
-
-    -- a next that is the record after r is above r
-    pub link-after : nextCallAt w s r ≡ r + 1 → r + 1 ≤ s .used → ltb (callVariantAt w s r) (callVariantAt w s (nextCallAt w s r)) ≡ linkOk w s r
-    link-after e h = let above : r < nextCallAt w s r = omega arith in rw (← link-in (λ z. omega arith) (omega arith), lt-ltb r (nextCallAt w s r) above) refl
 
 -- ---- a fragment
 module _ (w : List ℤ) (s : Sizes) (f : ℕ) where
   pub record FragmentTests : Type 0 where
     pub strand-in : strandAt w s f ≤ 1
     pub first-in : within (negsuc 0) (pos (s .used)) (fragmentWord w s f firstField) ≡ true
-    pub right : goodChain w s (reached w s f) (chainOf w s f) ≡ true
+    pub right : goodChain (linkOk w s) (reached w s f) (chainOf w s f) ≡ true
 
   pub fragment-tests : fragmentOk w s f ≡ true → FragmentTests
   unfolding fragmentOk
   fragment-tests h =
       let a = both (within (pos 0) (pos 1) (fragmentWord w s f strandField)) _ h in
-      let b = both (within (negsuc 0) (pos (s .used)) (fragmentWord w s f firstField)) (goodChain w s (reached w s f) (chainOf w s f)) (a .1) in
+      let b = both (within (negsuc 0) (pos (s .used)) (fragmentWord w s f firstField)) (goodChain (linkOk w s) (reached w s f) (chainOf w s f)) (a .1) in
       record { strand-in = within-top 0 1 _ (a .0); first-in = b .0; right = b .1 }
 
   strand-test : within (pos 0) (pos 1) (fragmentWord w s f strandField) ≡ leb (strandAt w s f) 1
@@ -84,7 +83,7 @@ module _ (w : List ℤ) (s : Sizes) (f : ℕ) where
     unfolding fragmentOk
     frag-first h = simp (strand-test, le-leb (strandAt w s f) 1 strand-in, h)
 
-    pub frag-in : within (negsuc 0) (pos (s .used)) (fragmentWord w s f firstField) ≡ true → goodChain w s (reached w s f) (chainOf w s f) ≡ fragmentOk w s f
+    pub frag-in : within (negsuc 0) (pos (s .used)) (fragmentWord w s f firstField) ≡ true → goodChain (linkOk w s) (reached w s f) (chainOf w s f) ≡ fragmentOk w s f
     unfolding fragmentOk
     frag-in h = simp (strand-test, le-leb (strandAt w s f) 1 strand-in, h)
 

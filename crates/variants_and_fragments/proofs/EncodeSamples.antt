@@ -30,8 +30,8 @@ pub empty-decoded : decode (encodeWords empty-case) (encodeBases empty-case) ≡
 unfolding decode tabulateFrom encodeWords encodeBases countOver
 empty-decoded = refl
 
-pub empty-accepted : checkCaseOutcome (encodeWords empty-case) (encodeBases empty-case) ≡ done (record { n = 0; f = 0; c = 0; used = 0; cutoff = neg 2000 })
-unfolding encodeWords encodeBases countOver checkCaseOutcome checkCaseAndHaplotypesOutcome unless each within firstFailFrom firstFail holdsBelow allelesStart isReached reachedCallOk reached
+pub empty-accepted : checkCaseOutcome (encodeWords empty-case) (encodeBases empty-case) ≡ done (record { n = 0; f = 0; c = 0; used = 0; free = 0; cutoff = neg 2000 })
+unfolding encodeWords encodeBases countOver checkCaseOutcome checkCaseAndHaplotypesOutcome unless each within firstFailFrom firstFail holdsBelow allelesStart isReached reachedCallOk reached goodChain chainFrom freeChain freeOk
 empty-accepted = refl
 
 -- an SNV A/G, then an indel A/AC/G with three alleles; one fragment calls both, one is absent, one calls the second only
@@ -60,8 +60,8 @@ pub small-decoded : decode (encodeWords small-case) (encodeBases small-case) ≡
 unfolding decode tabulateFrom variantFrom alleleAt alleleStart allelesStart fragmentFrom callFrom chainOf chainFrom encodeWords encodeBases countOver
 small-decoded = refl
 
-pub small-accepted : checkCaseOutcome (encodeWords small-case) (encodeBases small-case) ≡ done (record { n = 2; f = 3; c = 3; used = 3; cutoff = neg 2000 })
-unfolding encodeWords encodeBases countOver checkCaseOutcome checkCaseAndHaplotypesOutcome unless each within below firstFailFrom firstFail holdsBelow variantOk callOk linkOk chainFrom chainOf memb reached goodChain fragmentOk isReached reachedCallOk allelesStart allelesOk
+pub small-accepted : checkCaseOutcome (encodeWords small-case) (encodeBases small-case) ≡ done (record { n = 2; f = 3; c = 3; used = 3; free = 0; cutoff = neg 2000 })
+unfolding encodeWords encodeBases countOver checkCaseOutcome checkCaseAndHaplotypesOutcome unless each within below firstFailFrom firstFail holdsBelow variantOk callOk linkOk chainFrom chainOf memb reached goodChain fragmentOk isReached reachedCallOk freeChain inChain freeOk allelesStart allelesOk
 small-accepted = refl
 
 -- as many fragments of one call as 01's sample (j) has: 113 reads each of A and G
@@ -79,6 +79,6 @@ pub reads-decoded : decode (encodeWords reads-case) (encodeBases reads-case) ≡
 unfolding decode tabulateFrom variantFrom alleleAt alleleStart allelesStart fragmentFrom callFrom chainOf chainFrom encodeWords encodeBases countOver
 reads-decoded = refl
 
-pub reads-accepted : checkCaseOutcome (encodeWords reads-case) (encodeBases reads-case) ≡ done (record { n = 1; f = 226; c = 226; used = 226; cutoff = neg 2000 })
-unfolding encodeWords encodeBases countOver checkCaseOutcome checkCaseAndHaplotypesOutcome unless each within below firstFailFrom firstFail holdsBelow variantOk callOk linkOk chainFrom chainOf memb reached goodChain fragmentOk isReached reachedCallOk allelesStart allelesOk
+pub reads-accepted : checkCaseOutcome (encodeWords reads-case) (encodeBases reads-case) ≡ done (record { n = 1; f = 226; c = 226; used = 226; free = 0; cutoff = neg 2000 })
+unfolding encodeWords encodeBases countOver checkCaseOutcome checkCaseAndHaplotypesOutcome unless each within below firstFailFrom firstFail holdsBelow variantOk callOk linkOk chainFrom chainOf memb reached goodChain fragmentOk isReached reachedCallOk freeChain inChain freeOk allelesStart allelesOk
 reads-accepted = refl

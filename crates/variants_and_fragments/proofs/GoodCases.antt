@@ -34,7 +34,7 @@ use Rattle.variants_and_fragments.proofs.Alls.{all-at, all-tabulate}
 use Rattle.variants_and_fragments.proofs.Decoded.{cutoff-is, variants-are, fragments-are, fragments-list, pos0-is, dp-is, genotype0-is, genotype1-is, allele-count-is, allele-end, allele-length, allele-byte}
 
 -- ---- along a chain
-rise-from : (w : List ℤ) (s : Sizes) (k r b : ℕ) (past : List ℕ) → goodChain w s past (chainFrom w s k r) ≡ true → (1 ≤ r → b ≤ callVariantAt w s r) → risingFrom b (map (callFrom w s) (chainFrom w s k r)) ≡ true
+rise-from : (w : List ℤ) (s : Sizes) (k r b : ℕ) (past : List ℕ) → goodChain (linkOk w s) past (chainFrom w s k r) ≡ true → (1 ≤ r → b ≤ callVariantAt w s r) → risingFrom b (map (callFrom w s) (chainFrom w s k r)) ≡ true
 unfolding chainFrom goodChain risingFrom callFrom
 rise-from w s zero r b past g h = refl
 rise-from w s (suc k) r b past g h = go (isRecord s r) refl g (rise-from w s k (nextCallAt w s r))
@@ -42,13 +42,13 @@ rise-from w s (suc k) r b past g h = go (isRecord s r) refl g (rise-from w s k (
     rest : List ℕ
     rest = chainFrom w s k (nextCallAt w s r)
 
-    go : (t : Bool) → isRecord s r ≡ t → goodChain w s past (cond t (r ∷ rest) []) ≡ true
-        → ((c : ℕ) (p : List ℕ) → goodChain w s p rest ≡ true → (1 ≤ nextCallAt w s r → c ≤ callVariantAt w s (nextCallAt w s r)) → risingFrom c (map (callFrom w s) rest) ≡ true)
+    go : (t : Bool) → isRecord s r ≡ t → goodChain (linkOk w s) past (cond t (r ∷ rest) []) ≡ true
+        → ((c : ℕ) (p : List ℕ) → goodChain (linkOk w s) p rest ≡ true → (1 ≤ nextCallAt w s r → c ≤ callVariantAt w s (nextCallAt w s r)) → risingFrom c (map (callFrom w s) rest) ≡ true)
         → risingFrom b (map (callFrom w s) (cond t (r ∷ rest) [])) ≡ true
     go false e a rec = refl
     go true e a rec =
-        let x = both (not (memb r past)) (linkOk w s r && goodChain w s (r ∷ past) rest) a in
-        let y = both (linkOk w s r) (goodChain w s (r ∷ past) rest) (x .1) in
+        let x = both (not (memb r past)) (linkOk w s r && goodChain (linkOk w s) (r ∷ past) rest) a in
+        let y = both (linkOk w s r) (goodChain (linkOk w s) (r ∷ past) rest) (x .1) in
         let low : b ≤ callVariantAt w s r = h (leb-true 1 r (both (leb 1 r) (leb r (s .used)) e .0)) in
         rw (le-leb b (callVariantAt w s r) low) (rec (suc (callVariantAt w s r)) (r ∷ past) (y .1) (next-rises w s r (y .0)))
 

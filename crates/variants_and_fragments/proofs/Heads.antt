@@ -14,7 +14,7 @@ use Rattle.variants_and_fragments.specs.declared.Sizes.{Sizes}
 use Rattle.variants_and_fragments.specs.Inner.First.{firstFalse}
 use Rattle.variants_and_fragments.specs.Refusals.{Outcome, unless}
 use Rattle.variants_and_fragments.specs.Words.{word, within}
-use Rattle.variants_and_fragments.specs.Layout.{headWords, maxVariants, maxFragments, maxCalls, lowestQuality, variantsField, fragmentsField, callsField, usedField, totalWords, sizesOf, cutoffAt}
+use Rattle.variants_and_fragments.specs.Layout.{headWords, maxVariants, maxFragments, maxCalls, lowestQuality, variantsField, fragmentsField, callsField, usedField, freeField, totalWords, sizesOf, cutoffAt}
 use Rattle.variants_and_fragments.specs.Inner.Head.{headFault}
 use Rattle.variants_and_fragments.proofs.Ranges.{upto-nat}
 
@@ -70,16 +70,30 @@ module _ (w : List ℤ) (s : Sizes) (e : s ≡ sizesOf w) (long : headWords ≤ 
           head-used h = let t : leb (sizesOf w .used) (sizesOf w .c) ≡ false = rw e at (lt-leb _ _ h) in simp (le-leb _ _ long, n-test, f-test, c-test, cutoff-in, used-range, t)
 
           module _ (used-in : s .used ≤ s .c) where
+            used-low : s .used ≤ maxCalls
+            used-low = omega arith
+
             used-test : within (pos 0) (pos (sizesOf w .c)) (word w usedField) ≡ true
             used-test = rw used-range (rw e at (le-leb _ _ used-in))
 
-            pub head-right : length w ≡ totalWords s → 6 ≡ headFault w
-            unfolding headFault firstFalse
-            head-right h = let t : eqb (length w) (totalWords (sizesOf w)) ≡ true = rw e at (eq-eqb _ _ h) in simp (le-leb _ _ long, n-test, f-test, c-test, cutoff-in, used-test, t)
+            free-range : within (pos 0) (pos (sizesOf w .used)) (word w freeField) ≡ leb (sizesOf w .free) (sizesOf w .used)
+            free-range = let top : sizesOf w .used ≤ maxCalls = rw e at used-low in upto-nat (sizesOf w .used) (word w freeField) (omega arith)
 
-            pub head-length : (length w ≡ totalWords s → ⊥) → 5 ≡ headFault w
+            pub head-free : s .used < s .free → 5 ≡ headFault w
             unfolding headFault firstFalse
-            head-length h = let t : eqb (length w) (totalWords (sizesOf w)) ≡ false = rw e at (ne-eqb _ _ h) in simp (le-leb _ _ long, n-test, f-test, c-test, cutoff-in, used-test, t)
+            head-free h = let t : leb (sizesOf w .free) (sizesOf w .used) ≡ false = rw e at (lt-leb _ _ h) in simp (le-leb _ _ long, n-test, f-test, c-test, cutoff-in, used-test, free-range, t)
+
+            module _ (free-in : s .free ≤ s .used) where
+              free-test : within (pos 0) (pos (sizesOf w .used)) (word w freeField) ≡ true
+              free-test = rw free-range (rw e at (le-leb _ _ free-in))
+
+              pub head-right : length w ≡ totalWords s → 7 ≡ headFault w
+              unfolding headFault firstFalse
+              head-right h = let t : eqb (length w) (totalWords (sizesOf w)) ≡ true = rw e at (eq-eqb _ _ h) in simp (le-leb _ _ long, n-test, f-test, c-test, cutoff-in, used-test, free-test, t)
+
+              pub head-length : (length w ≡ totalWords s → ⊥) → 6 ≡ headFault w
+              unfolding headFault firstFalse
+              head-length h = let t : eqb (length w) (totalWords (sizesOf w)) ≡ false = rw e at (ne-eqb _ _ h) in simp (le-leb _ _ long, n-test, f-test, c-test, cutoff-in, used-test, free-test, t)
 
 -- ---- the head's lines of the table
 -- what is left past them is `rest`
@@ -91,22 +105,24 @@ headLines w rest =
     (unless (within (pos 0) (pos maxCalls) (word w callsField)) 1 2
     (unless (within lowestQuality (pos 0) (cutoffAt w)) 1 3
     (unless (within (pos 0) (pos (sizesOf w .c)) (word w usedField)) 1 4
-    (unless (eqb (length w) (totalWords (sizesOf w))) 1 5
-    rest))))))
+    (unless (within (pos 0) (pos (sizesOf w .used)) (word w freeField)) 1 5
+    (unless (eqb (length w) (totalWords (sizesOf w))) 1 6
+    rest)))))))
 
-lines : {X : Type 0} (a n f c q u l : Bool) (rest : Outcome X)
-    → unless (leb 6 (cond a (firstFalse (n ∷ f ∷ c ∷ q ∷ u ∷ l ∷ [])) 0)) 1 (cond a (firstFalse (n ∷ f ∷ c ∷ q ∷ u ∷ l ∷ [])) 0) rest
-    ≡ unless a 1 0 (unless n 1 0 (unless f 1 1 (unless c 1 2 (unless q 1 3 (unless u 1 4 (unless l 1 5 rest))))))
+lines : {X : Type 0} (a n f c q u z l : Bool) (rest : Outcome X)
+    → unless (leb 7 (cond a (firstFalse (n ∷ f ∷ c ∷ q ∷ u ∷ z ∷ l ∷ [])) 0)) 1 (cond a (firstFalse (n ∷ f ∷ c ∷ q ∷ u ∷ z ∷ l ∷ [])) 0) rest
+    ≡ unless a 1 0 (unless n 1 0 (unless f 1 1 (unless c 1 2 (unless q 1 3 (unless u 1 4 (unless z 1 5 (unless l 1 6 rest)))))))
 unfolding firstFalse unless
-lines false n f c q u l rest = refl
-lines true false f c q u l rest = refl
-lines true true false c q u l rest = refl
-lines true true true false q u l rest = refl
-lines true true true true false u l rest = refl
-lines true true true true true false l rest = refl
-lines true true true true true true false rest = refl
-lines true true true true true true true rest = refl
+lines false n f c q u z l rest = refl
+lines true false f c q u z l rest = refl
+lines true true false c q u z l rest = refl
+lines true true true false q u z l rest = refl
+lines true true true true false u z l rest = refl
+lines true true true true true false z l rest = refl
+lines true true true true true true false l rest = refl
+lines true true true true true true true false rest = refl
+lines true true true true true true true true rest = refl
 
-pub head-lines : {X : Type 0} (w : List ℤ) (rest : Outcome X) → unless (leb 6 (headFault w)) 1 (headFault w) rest ≡ headLines w rest
+pub head-lines : {X : Type 0} (w : List ℤ) (rest : Outcome X) → unless (leb 7 (headFault w)) 1 (headFault w) rest ≡ headLines w rest
 unfolding headFault
-head-lines w rest = lines (leb headWords (length w)) _ _ _ _ _ _ rest
+head-lines w rest = lines (leb headWords (length w)) _ _ _ _ _ _ _ rest

@@ -1,31 +1,31 @@
--- An accepted fragment's chain is linked from its first call to the zero that ends it. Along it the variants rise, so that no record
--- comes twice, no variant has two calls, and C steps are enough: there are C records (proofs/Pigeon).
+-- An accepted fragment's chain is linked from its first call to the zero that ends it, and so is the free chain from the head's word 5. No record
+-- comes twice, along a fragment's chain since the variants rise, so that the steps are enough: there are C records (proofs/Pigeon).
 -- Assumes nothing.
-use mathlib.Core.Path.{_≡_, refl, _∙_, ap}
+use mathlib.Core.Path.{_≡_, refl, sym, _∙_, ap, subst}
 use mathlib.Core.Bool.{Bool, true, false, cond, not, _&&_}
-use mathlib.Core.List.{List, [], _∷_}
+use mathlib.Core.List.{List, [], _∷_, _++_}
 use Prim.Native.Nat.{ℕ, zero, suc, _+_, _≤_, _<_}
 use native.Mathlib.Nat.{le-refl}
 use native.Mathlib.Omega.{arith}
 use native.Mathlib.Decide.{decLt, ℕ-discrete}
 use borrow.Author.Tests.{ne-eqb}
-use lib.ListN.{length, getD}
+use lib.ListN.{length, getD, length-append}
 use lib.IntN.{ℤ}
 use Rattle.variants_and_fragments.specs.declared.Sizes.{Sizes}
 use Rattle.variants_and_fragments.specs.Layout.{callVariantAt, callOk}
-use Rattle.variants_and_fragments.specs.Chain.{firstCallAt, nextCallAt, isRecord, linkOk, chainFrom, chainOf, memb, goodChain, reached}
-use Rattle.variants_and_fragments.specs.Inner.Accepted.{allb, CallIn, FragmentIn}
+use Rattle.variants_and_fragments.specs.Chain.{firstCallAt, nextCallAt, isRecord, nextOk, linkOk, chainFrom, chainOf, memb, goodChain, reached, freeChain}
+use Rattle.variants_and_fragments.specs.Inner.Accepted.{allb, CallIn, FragmentIn, CaseIn}
 use Rattle.variants_and_fragments.proofs.Bools.{both, off}
 use Rattle.variants_and_fragments.proofs.Records.{call-facts}
 use Rattle.variants_and_fragments.proofs.Walks.{chain-on}
 use Rattle.variants_and_fragments.specs.Inner.Chain.{firstRecordAt}
-use Rattle.variants_and_fragments.proofs.Chain.{link-top, next-rises, record-top, record-chain}
-use Rattle.variants_and_fragments.proofs.Pigeon.{distinct, Within, none, more, pigeon}
+use Rattle.variants_and_fragments.proofs.Chain.{next-top, link-top, next-rises, record-top, record-chain}
+use Rattle.variants_and_fragments.proofs.Pigeon.{distinct, Within, none, more, pigeon, distinct-left, good-distinct, chain-within, reached-ok}
 
 -- rs are the records from r on, each a record of the case with a right link, and zero is met after the last
-pub data Linked (w : List ℤ) (s : Sizes) : ℕ → List ℕ → Type 0 where
-  ends : Linked w s 0 []
-  goes : {r : ℕ} {rs : List ℕ} → 1 ≤ r → r ≤ s .used → linkOk w s r ≡ true → Linked w s (nextCallAt w s r) rs → Linked w s r (r ∷ rs)
+pub data Linked (w : List ℤ) (s : Sizes) (right : ℕ → Bool) : ℕ → List ℕ → Type 0 where
+  ends : Linked w s right 0 []
+  goes : {r : ℕ} {rs : List ℕ} → 1 ≤ r → r ≤ s .used → right r ≡ true → Linked w s right (nextCallAt w s r) rs → Linked w s right r (r ∷ rs)
 
 -- the records passed are distinct ones of the case, at variants below r's
 record Passed (w : List ℤ) (s : Sizes) (r : ℕ) (past : List ℕ) : Type 0 where
@@ -54,7 +54,7 @@ module _ {w : List ℤ} {s : Sizes} {r : ℕ} {past : List ℕ} (lo : 1 ≤ r) (
   }
 
 -- a good chain is linked where as many steps are left as the records passed lack to C: there is no place for one more
-linked-from : (w : List ℤ) (s : Sizes) → s .used ≤ s .c → (k r : ℕ) (reached past : List ℕ) → r ≤ s .used → Passed w s r past → length past + k ≡ s .c → goodChain w s reached (chainFrom w s k r) ≡ true → Linked w s r (chainFrom w s k r)
+linked-from : (w : List ℤ) (s : Sizes) → s .used ≤ s .c → (k r : ℕ) (reached past : List ℕ) → r ≤ s .used → Passed w s r past → length past + k ≡ s .c → goodChain (linkOk w s) reached (chainFrom w s k r) ≡ true → Linked w s (linkOk w s) r (chainFrom w s k r)
 unfolding chainFrom goodChain
 linked-from w s ut zero zero l past top p n g = ends
 linked-from w s ut zero (suc r) l past top p n g =
@@ -63,9 +63,22 @@ linked-from w s ut (suc k) zero l past top p n g = ends
 linked-from w s ut (suc k) (suc r) l past top p n g =
     let e = chain-on w s k (suc r) (omega arith) top in
     let t = nextCallAt w s (suc r) in
-    let a = both (not (memb (suc r) l)) (linkOk w s (suc r) && goodChain w s (suc r ∷ l) (chainFrom w s k t)) (rw e at g) in
-    let b = both (linkOk w s (suc r)) (goodChain w s (suc r ∷ l) (chainFrom w s k t)) (a .1) in
+    let a = both (not (memb (suc r) l)) (linkOk w s (suc r) && goodChain (linkOk w s) (suc r ∷ l) (chainFrom w s k t)) (rw e at g) in
+    let b = both (linkOk w s (suc r)) (goodChain (linkOk w s) (suc r ∷ l) (chainFrom w s k t)) (a .1) in
     rw e (goes {r = suc r} (omega arith) top (b .0) (linked-from w s ut k t (suc r ∷ l) (suc r ∷ past) (link-top w s (suc r) (b .0)) (more-passed (omega arith) p top (b .0)) (omega arith) (b .1)))
+
+-- so is a good free chain, with one step more: the records passed are distinct, so that there are no C + 1 of them
+free-from : (w : List ℤ) (s : Sizes) → s .used ≤ s .c → (k r : ℕ) (past l : List ℕ) → r ≤ s .used → distinct (past ++ l) ≡ true → Within (s .used) past → length past + k ≡ suc (s .c)
+    → goodChain (nextOk w s) (past ++ l) (chainFrom w s k r) ≡ true → Linked w s (nextOk w s) r (chainFrom w s k r)
+unfolding chainFrom goodChain distinct
+free-from w s ut zero r past l top d i n g = absurd (omega (arith, pigeon (s .used) past (distinct-left past l d) i))
+free-from w s ut (suc k) zero past l top d i n g = ends
+free-from w s ut (suc k) (suc r) past l top d i n g =
+    let e = chain-on w s k (suc r) (omega arith) top in
+    let t = nextCallAt w s (suc r) in
+    let a = both (not (memb (suc r) (past ++ l))) (nextOk w s (suc r) && goodChain (nextOk w s) (suc r ∷ past ++ l) (chainFrom w s k t)) (rw e at g) in
+    let b = both (nextOk w s (suc r)) (goodChain (nextOk w s) (suc r ∷ past ++ l) (chainFrom w s k t)) (a .1) in
+    rw e (goes {r = suc r} (omega arith) top (b .0) (free-from w s ut k t (suc r ∷ past) l (next-top w s (suc r) (b .0)) (rw (a .0) d) (more (omega arith) top i) (omega arith) (b .1)))
 
 -- k steps give k records at most
 chain-short : (w : List ℤ) (s : Sizes) (k r : ℕ) → length (chainFrom w s k r) ≤ k
@@ -78,20 +91,9 @@ chain-short w s (suc k) r = go (isRecord s r) (chain-short w s k (nextCallAt w s
     go false h = omega arith
 
 -- ---- a linked chain
--- where a walk stands after k steps from r
-pub walkBy : List ℤ → Sizes → ℕ → ℕ → ℕ
-walkBy w s zero r = r
-walkBy w s (suc k) r = walkBy w s k (nextCallAt w s r)
-
-module _ {w : List ℤ} {s : Sizes} where
-  -- the walk meets zero after the last record
-  pub linked-ends : {r : ℕ} {rs : List ℕ} → Linked w s r rs → walkBy w s (length rs) r ≡ 0
-  unfolding walkBy
-  linked-ends ends = refl
-  linked-ends (goes lo hi h l) = linked-ends l
-
+module _ {w : List ℤ} {s : Sizes} {right : ℕ → Bool} where
   -- any number of steps from the chain's length on gives the same chain
-  pub linked-fuel : {r : ℕ} {rs : List ℕ} → Linked w s r rs → (k : ℕ) → length rs ≤ k → chainFrom w s k r ≡ rs
+  pub linked-fuel : {r : ℕ} {rs : List ℕ} → Linked w s right r rs → (k : ℕ) → length rs ≤ k → chainFrom w s k r ≡ rs
   unfolding chainFrom
   linked-fuel ends zero m = refl
   linked-fuel ends (suc k) m = refl
@@ -99,24 +101,47 @@ module _ {w : List ℤ} {s : Sizes} where
   linked-fuel (goes {r} {rs} lo hi h l) (suc k) m = chain-on w s k r lo hi ∙ ap (λ (x : List ℕ). r ∷ x) (linked-fuel l k (omega arith))
 
   -- where there is a record, the walk does not stand at zero
-  linked-some : {r : ℕ} {rs : List ℕ} → Linked w s r rs → (j : ℕ) → j < length rs → 1 ≤ r
+  linked-some : {r : ℕ} {rs : List ℕ} → Linked w s right r rs → (j : ℕ) → j < length rs → 1 ≤ r
   linked-some ends j m = absurd (omega arith)
   linked-some (goes lo hi h l) j m = lo
 
-  -- each is a record of the case
-  pub linked-in : {r : ℕ} {rs : List ℕ} → Linked w s r rs → (i : ℕ) → i < length rs → (1 ≤ getD rs i 0) × (getD rs i 0 ≤ s .used)
+  -- ---- by place: each is a record of the case with a right link to the next one, and to 0 after the last
+  pub linked-first : {r : ℕ} {rs : List ℕ} → Linked w s right r rs → r ≡ getD rs 0 0
+  linked-first ends = refl
+  linked-first (goes lo hi h l) = refl
+
+  pub linked-in : {r : ℕ} {rs : List ℕ} → Linked w s right r rs → (i : ℕ) → i < length rs → (1 ≤ getD rs i 0) × (getD rs i 0 ≤ s .used)
   linked-in ends i m = absurd (omega arith)
   linked-in (goes lo hi h l) zero m = (lo, hi)
   linked-in (goes lo hi h l) (suc i) m = linked-in l i (omega arith)
 
+  pub linked-right : {r : ℕ} {rs : List ℕ} → Linked w s right r rs → (i : ℕ) → i < length rs → right (getD rs i 0) ≡ true
+  linked-right ends i m = absurd (omega arith)
+  linked-right (goes lo hi h l) zero m = h
+  linked-right (goes lo hi h l) (suc i) m = linked-right l i (omega arith)
+
+  pub linked-next : {r : ℕ} {rs : List ℕ} → Linked w s right r rs → (i : ℕ) → i < length rs → nextCallAt w s (getD rs i 0) ≡ getD rs (suc i) 0
+  linked-next ends i m = absurd (omega arith)
+  linked-next (goes lo hi h l) zero m = linked-first l
+  linked-next (goes lo hi h l) (suc i) m = linked-next l i (omega arith)
+
+  -- and the other way round
+  pub linked-by : (rs : List ℕ)
+      → ((i : ℕ) → i < length rs → (1 ≤ getD rs i 0) × (getD rs i 0 ≤ s .used) × (right (getD rs i 0) ≡ true) × (nextCallAt w s (getD rs i 0) ≡ getD rs (suc i) 0))
+      → Linked w s right (getD rs 0 0) rs
+  linked-by [] at = ends
+  linked-by (r ∷ rs) at =
+      let here = at 0 (omega arith) in
+      goes {r = r} (here .0) (here .1) (here .2) (subst (λ (t : ℕ). Linked w s right t rs) (sym (here .3)) (linked-by rs (λ i m. at (suc i) (omega arith))))
+
   -- what rises at each link rises along the chain
-  module _ (g : ℕ → ℕ) (up : (r : ℕ) → linkOk w s r ≡ true → 1 ≤ nextCallAt w s r → g r < g (nextCallAt w s r)) where
-    from-first : {r : ℕ} {rs : List ℕ} → Linked w s r rs → (j : ℕ) → j < length rs → g r ≤ g (getD rs j 0)
+  module _ (g : ℕ → ℕ) (up : (r : ℕ) → right r ≡ true → 1 ≤ nextCallAt w s r → g r < g (nextCallAt w s r)) where
+    from-first : {r : ℕ} {rs : List ℕ} → Linked w s right r rs → (j : ℕ) → j < length rs → g r ≤ g (getD rs j 0)
     from-first ends j m = absurd (omega arith)
     from-first (goes {r} lo hi h l) zero m = le-refl (g r)
     from-first (goes {r} lo hi h l) (suc j) m = omega (arith, up r h (linked-some l j (omega arith)), from-first l j (omega arith))
 
-    pub linked-rise : {r : ℕ} {rs : List ℕ} → Linked w s r rs → (i j : ℕ) → i < j → j < length rs → g (getD rs i 0) < g (getD rs j 0)
+    pub linked-rise : {r : ℕ} {rs : List ℕ} → Linked w s right r rs → (i j : ℕ) → i < j → j < length rs → g (getD rs i 0) < g (getD rs j 0)
     linked-rise ends i j n m = absurd (omega arith)
     linked-rise (goes lo hi h l) i zero n m = absurd (omega arith)
     linked-rise (goes {r} lo hi h l) zero (suc j) n m = omega (arith, up r h (linked-some l j (omega arith)), from-first l j (omega arith))
@@ -147,25 +172,16 @@ module _ {w : List ℤ} {s : Sizes} {f : ℕ} (used-top : s .used ≤ s .c) (i :
   unfolding chainOf
   from-record = record-chain w s (s .c) (firstCallAt w s f)
 
-  pub chain-linked : Linked w s (firstRecordAt w s f) (chainOf w s f)
+  pub chain-linked : Linked w s (linkOk w s) (firstRecordAt w s f) (chainOf w s f)
   chain-linked =
       rw (← from-record) (linked-from w s used-top (s .c) (firstRecordAt w s f) (reached w s f) [] (record-top s (firstCallAt w s f)) none-passed (omega arith) (rw from-record (i .right)))
 
-  -- its walk meets zero after the last of at most C records, and more steps change nothing
-  pub chain-ends : walkBy w s (length (chainOf w s f)) (firstRecordAt w s f) ≡ 0
-  chain-ends = linked-ends chain-linked
-
+  -- it has at most C records
   pub chain-length : length (chainOf w s f) ≤ s .c
   unfolding chainOf
   chain-length = chain-short w s (s .c) (firstCallAt w s f)
 
-  pub chain-fuel : (k : ℕ) → s .c ≤ k → chainFrom w s k (firstRecordAt w s f) ≡ chainOf w s f
-  chain-fuel k l = linked-fuel chain-linked k (omega (arith, chain-length))
-
-  -- its records are the case's, and their ranges hold
-  pub chain-in : (j : ℕ) → j < length (chainOf w s f) → (1 ≤ getD (chainOf w s f) j 0) × (getD (chainOf w s f) j 0 ≤ s .used)
-  chain-in = linked-in chain-linked
-
+  -- their ranges hold
   pub chain-call : (j : ℕ) → j < length (chainOf w s f) → CallIn w s (getD (chainOf w s f) j 0)
   chain-call j l = call-facts w s (getD (chainOf w s f) j 0) (all-at (callOk w s) (chainOf w s f) (i .calls) j l)
 
@@ -173,9 +189,26 @@ module _ {w : List ℤ} {s : Sizes} {f : ℕ} (used-top : s .used ≤ s .c) (i :
   pub variants-rise : (j k : ℕ) → j < k → k < length (chainOf w s f) → callVariantAt w s (getD (chainOf w s f) j 0) < callVariantAt w s (getD (chainOf w s f) k 0)
   variants-rise = linked-rise (callVariantAt w s) (next-rises w s) chain-linked
 
-  -- so no variant has two calls, and no record comes twice
+  -- so no variant has two calls
   pub one-call-at : (j k : ℕ) → j < length (chainOf w s f) → k < length (chainOf w s f) → callVariantAt w s (getD (chainOf w s f) j 0) ≡ callVariantAt w s (getD (chainOf w s f) k 0) → j ≡ k
   one-call-at = same (λ j. callVariantAt w s (getD (chainOf w s f) j 0)) (length (chainOf w s f)) variants-rise
 
-  pub no-double : (j k : ℕ) → j < length (chainOf w s f) → k < length (chainOf w s f) → getD (chainOf w s f) j 0 ≡ getD (chainOf w s f) k 0 → j ≡ k
-  no-double j k l m e = one-call-at j k l m (ap (callVariantAt w s) e)
+-- ---- the free chain of an accepted case
+module _ {w : List ℤ} {s : Sizes} (k : CaseIn w s) where
+  pub free-linked : Linked w s (nextOk w s) (s .free) (freeChain w s)
+  unfolding freeChain
+  free-linked =
+      let z = k .sized in
+      free-from w s (z .used-top) (suc (s .c)) (s .free) [] (reached w s (s .f)) (z .free-top) (reached-ok w s k (s .f) (le-refl _) .0) none (omega arith) (k .free-in .right)
+
+  -- no record is in two chains or twice in one, each is a used one, and each used one is among them
+  pub chains-distinct : distinct (freeChain w s ++ reached w s (s .f)) ≡ true
+  chains-distinct = good-distinct (nextOk w s) (freeChain w s) (reached w s (s .f)) (k .free-in .right) (reached-ok w s k (s .f) (le-refl _) .0)
+
+  chains-within : Within (s .used) (freeChain w s ++ reached w s (s .f))
+  unfolding freeChain
+  chains-within = chain-within w s (suc (s .c)) (s .free) (reached w s (s .f)) (reached-ok w s k (s .f) (le-refl _) .1)
+
+  pub free-length : length (freeChain w s) ≤ s .used
+  free-length =
+      omega (arith, pigeon (s .used) (freeChain w s ++ reached w s (s .f)) chains-distinct chains-within, length-append (freeChain w s) (reached w s (s .f)))

@@ -93,6 +93,12 @@ pub pigeon : (c : ℕ) (l : List ℕ) → distinct l ≡ true → Within c l →
 pigeon zero l d w = within-zero l w
 pigeon (suc c) l d w = omega (arith, one-out (suc c) l d, pigeon c (without (suc c) l) (distinct-out (suc c) l d) (within-out c l w))
 
+-- ---- lists one after the other
+pub memb-append : (x : ℕ) (rs l : List ℕ) → memb x (rs ++ l) ≡ (memb x rs || memb x l)
+unfolding memb
+memb-append x [] l = refl
+memb-append x (y ∷ rs) l = elim (ℕ-discrete x y) [ yes e ↦ rw (eq-eqb x y e) | no n ↦ rw (ne-eqb x y n) (memb-append x rs l) ]
+
 -- ---- chains
 -- one moved within a list
 distinct-middle : (r : ℕ) (rs l : List ℕ) → distinct (rs ++ (r ∷ l)) ≡ true → distinct (r ∷ rs ++ l) ≡ true
@@ -109,15 +115,23 @@ distinct-middle r (y ∷ rs) l h =
     let rest : distinct (rs ++ l) ≡ true = b .1 in
     rw (apart, r-off, y-off, rest) refl
 
-good-distinct : (w : List ℤ) (s : Sizes) (rs l : List ℕ) → goodChain w s l rs ≡ true → distinct l ≡ true → distinct (rs ++ l) ≡ true
-unfolding goodChain distinct
-good-distinct w s [] l h d = d
-good-distinct w s (r ∷ rs) l h d =
-    let a = both (not (memb r l)) (linkOk w s r && goodChain w s (r ∷ l) rs) h in
-    let b = both (linkOk w s r) (goodChain w s (r ∷ l) rs) (a .1) in
-    distinct-middle r rs l (good-distinct w s rs (r ∷ l) (b .1) (rw (a .0) d))
+-- the first part of a list without doubles
+pub distinct-left : (rs l : List ℕ) → distinct (rs ++ l) ≡ true → distinct rs ≡ true
+unfolding distinct
+distinct-left [] l h = refl
+distinct-left (r ∷ rs) l h =
+    let a = both (not (memb r (rs ++ l))) (distinct (rs ++ l)) h in
+    rw (or-off (memb r rs) (memb r l) (sym (memb-append r rs l) ∙ not-on _ (a .0)) .0) (distinct-left rs l (a .1))
 
-chain-within : (w : List ℤ) (s : Sizes) (k r : ℕ) (l : List ℕ) → Within (s .used) l → Within (s .used) (chainFrom w s k r ++ l)
+pub good-distinct : (right : ℕ → Bool) (rs l : List ℕ) → goodChain right l rs ≡ true → distinct l ≡ true → distinct (rs ++ l) ≡ true
+unfolding goodChain distinct
+good-distinct right [] l h d = d
+good-distinct right (r ∷ rs) l h d =
+    let a = both (not (memb r l)) (right r && goodChain right (r ∷ l) rs) h in
+    let b = both (right r) (goodChain right (r ∷ l) rs) (a .1) in
+    distinct-middle r rs l (good-distinct right rs (r ∷ l) (b .1) (rw (a .0) d))
+
+pub chain-within : (w : List ℤ) (s : Sizes) (k r : ℕ) (l : List ℕ) → Within (s .used) l → Within (s .used) (chainFrom w s k r ++ l)
 unfolding chainFrom
 chain-within w s zero r l h = h
 chain-within w s (suc k) r l h = go (isRecord s r) refl (chain-within w s k (nextCallAt w s r) l h)
@@ -131,14 +145,9 @@ unfolding reached chainOf distinct
 reached-ok w s k zero l = (refl, none)
 reached-ok w s k (suc f) l =
     let i = reached-ok w s k f (omega arith) in
-    (good-distinct w s (chainOf w s f) (reached w s f) (k .frags f (omega arith) .right) (i .0), chain-within w s (s .c) (firstCallAt w s f) (reached w s f) (i .1))
+    (good-distinct (linkOk w s) (chainOf w s f) (reached w s f) (k .frags f (omega arith) .right) (i .0), chain-within w s (s .c) (firstCallAt w s f) (reached w s f) (i .1))
 
 -- ---- what is in a chain is reached
-pub memb-append : (x : ℕ) (rs l : List ℕ) → memb x (rs ++ l) ≡ (memb x rs || memb x l)
-unfolding memb
-memb-append x [] l = refl
-memb-append x (y ∷ rs) l = elim (ℕ-discrete x y) [ yes e ↦ rw (eq-eqb x y e) | no n ↦ rw (ne-eqb x y n) (memb-append x rs l) ]
-
 pub memb-left : (r : ℕ) (rs l : List ℕ) → memb r rs ≡ true → memb r (rs ++ l) ≡ true
 memb-left r rs l h = rw (memb-append r rs l, h)
 

@@ -38,7 +38,7 @@ ag : List ℕ
 ag = 65 ∷ 71 ∷ []
 
 record Places : Type 0 where
-  accepted : checkCaseOutcome (head 1 1 1 2000 ++ snv 10 ++ fragment 1 0 ++ call 0 1 0) ag ≡ done (record { n = 1; f = 1; c = 1; used = 1; cutoff = negℤ (pos 2000) })
+  accepted : checkCaseOutcome (head 1 1 1 2000 ++ snv 10 ++ fragment 1 0 ++ call 0 1 0) ag ≡ done (record { n = 1; f = 1; c = 1; used = 1; free = 0; cutoff = negℤ (pos 2000) })
   -- 1: under five words; a negative count; a cutoff one too low; more records used than there are; a word too many
   few-words : checkCaseOutcome (pos 0 ∷ pos 0 ∷ pos 0 ∷ pos 0 ∷ []) [] ≡ refused 1 0
   negative-count : checkCaseOutcome (laid headWords ((fragmentsField, negsuc 0) ∷ [])) [] ≡ refused 1 1
@@ -47,7 +47,7 @@ record Places : Type 0 where
   long-case : checkCaseOutcome (head 0 0 0 0 ++ (pos 0 ∷ [])) [] ≡ refused 1 5
   -- 2: pos0 falls at the later one
   falling : checkCaseOutcome (head 2 0 0 0 ++ snv 10 ++ snv 9) (ag ++ ag) ≡ refused 2 1
-  level : checkCaseOutcome (head 2 0 0 0 ++ snv 10 ++ snv 10) (ag ++ ag) ≡ done (record { n = 2; f = 0; c = 0; used = 0; cutoff = pos 0 })
+  level : checkCaseOutcome (head 2 0 0 0 ++ snv 10 ++ snv 10) (ag ++ ag) ≡ done (record { n = 2; f = 0; c = 0; used = 0; free = 0; cutoff = pos 0 })
   -- 3: the wrong length comes before a wrong byte
   wrong-byte : checkCaseOutcome (head 2 0 0 0 ++ snv 10 ++ snv 11) (65 ∷ 71 ∷ 65 ∷ 103 ∷ []) ≡ refused 3 1
   wrong-length : checkCaseOutcome (head 2 0 0 0 ++ snv 10 ++ snv 11) (103 ∷ []) ≡ refused 3 2
@@ -56,9 +56,9 @@ record Places : Type 0 where
   no-variant : checkCaseOutcome (head 0 1 1 0 ++ fragment 1 0 ++ call 0 0 0) [] ≡ refused 4 1
   -- found past a link back and past a strand that is 5's; not looked for where no fragment comes, nor in the unused tail
   past-link-back : checkCaseOutcome (head 1 1 2 0 ++ snv 10 ++ fragment 2 2 ++ call 0 2 2 ++ call 0 1 1) ag ≡ refused 4 1
-  unreached : checkCaseOutcome (head 1 2 2 0 ++ snv 10 ++ fragment 1 0 ++ absent 1 ++ call 0 1 0 ++ call 7 7 9) ag ≡ done (record { n = 1; f = 2; c = 2; used = 2; cutoff = pos 0 })
-  unused : checkCaseOutcome (headUsing 1 1 2 0 (pos 1) ++ snv 10 ++ fragment 1 0 ++ call 0 1 0 ++ call 7 7 9) ag ≡ done (record { n = 1; f = 1; c = 2; used = 1; cutoff = pos 0 })
-  no-fragment : checkCaseOutcome (head 1 0 1 0 ++ snv 10 ++ call 0 1 0) ag ≡ done (record { n = 1; f = 0; c = 1; used = 1; cutoff = pos 0 })
+  unreached : checkCaseOutcome (head 1 2 2 0 ++ snv 10 ++ fragment 1 0 ++ absent 1 ++ call 0 1 0 ++ call 7 7 9) ag ≡ done (record { n = 1; f = 2; c = 2; used = 2; free = 0; cutoff = pos 0 })
+  unused : checkCaseOutcome (headUsing 1 1 2 0 (pos 1) ++ snv 10 ++ fragment 1 0 ++ call 0 1 0 ++ call 7 7 9) ag ≡ done (record { n = 1; f = 1; c = 2; used = 1; free = 0; cutoff = pos 0 })
+  no-fragment : checkCaseOutcome (head 1 0 1 0 ++ snv 10 ++ call 0 1 0) ag ≡ done (record { n = 1; f = 0; c = 1; used = 1; free = 0; cutoff = pos 0 })
   -- 5: the strand, of an absent fragment too; a chain into the tail; the later of two that share a record; a variant that does not rise; a link
   -- back
   wrong-strand : checkCaseOutcome (head 1 1 1 0 ++ snv 10 ++ fragment 1 2 ++ call 0 1 0) ag ≡ refused 5 0
@@ -71,7 +71,7 @@ record Places : Type 0 where
   wrong-haplotype : checkCaseAndHaplotypesOutcome (head 2 0 0 0 ++ snv 10 ++ snv 11) (ag ++ ag) (1 ∷ 0 ∷ 2 ∷ []) ≡ refused 2 1
 
 places : Places
-unfolding headUsing head snv fragment absent call ag laid variantRecord checkCaseOutcome checkCaseAndHaplotypesOutcome unless each within below firstFailFrom firstFail holdsBelow variantOk callOk linkOk chainFrom chainOf memb reached goodChain fragmentOk isReached reachedCallOk allelesStart allelesOk
+unfolding headUsing head snv fragment absent call ag laid variantRecord checkCaseOutcome checkCaseAndHaplotypesOutcome unless each within below firstFailFrom firstFail holdsBelow variantOk callOk linkOk chainFrom chainOf memb reached goodChain fragmentOk isReached reachedCallOk freeChain inChain freeOk allelesStart allelesOk
 places = record {
   accepted = refl;
   few-words = refl;

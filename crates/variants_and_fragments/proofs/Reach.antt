@@ -151,7 +151,7 @@ module _ {w : List ℤ} {s : Sizes} {f : ℕ} {seen : List ℕ} {r k : ℕ} (siz
     apart = fresh (flag-off _ (sym flagged ∙ free));
     used = more {x = r} (omega arith) (i .r-top) (i .used);
     count = omega (arith, i .count);
-    has = λ x. i .has x ∙ rw (chain-step w s k r h (omega arith) (i .r-top), e, record-chain) (sym (memb-middle x r (i .passed) _));
+    has = λ x. i .has x ∙ rw (chain-step w s (s .c) k r h (omega arith) (i .r-top), e, record-chain) (sym (memb-middle x r (i .passed) _));
     starts = λ z. memb-more _ t _ (i .starts z);
     goes = λ x m z. elim (ℕ-discrete x r) [
       | yes q ↦ memb-head _ _ _ (record-some s (nextCallAt w s x) (record-bounds s _ z .1) ∙ rw q (sym e))

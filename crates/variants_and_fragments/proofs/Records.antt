@@ -15,7 +15,7 @@ use Rattle.variants_and_fragments.specs.declared.Sizes.{Sizes}
 use Rattle.variants_and_fragments.specs.Words.{word, within, below, none, natOf}
 use Rattle.variants_and_fragments.specs.First.{firstFail}
 use Rattle.variants_and_fragments.specs.Inner.First.{firstFalse}
-use Rattle.variants_and_fragments.specs.Layout.{headWords, maxVariants, maxFragments, maxCalls, maxAlleles, maxAlleleLength, lowestQuality, variantsField, fragmentsField, callsField, usedField, pos0Field, depthField, genotypeField, alleleCountField, variantField, alleleField, totalWords, sizesOf, cutoffAt, variantWord, callWord, lengthOk, pos0At, genotypeAt, alleleCountAt, lengthAt, priorPos0At, haplotypeOk, allOf, variantTests, variantOk, callVariantAt, qualAt, oneMinusQualAt, callWordsOk, callOk}
+use Rattle.variants_and_fragments.specs.Layout.{headWords, maxVariants, maxFragments, maxCalls, maxAlleles, maxAlleleLength, lowestQuality, variantsField, fragmentsField, callsField, usedField, freeField, pos0Field, depthField, genotypeField, alleleCountField, variantField, alleleField, totalWords, sizesOf, cutoffAt, variantWord, callWord, lengthOk, pos0At, genotypeAt, alleleCountAt, lengthAt, priorPos0At, haplotypeOk, allOf, variantTests, variantOk, callVariantAt, qualAt, oneMinusQualAt, callWordsOk, callOk}
 use Rattle.variants_and_fragments.specs.Inner.Head.{headTests, headFault}
 use Rattle.variants_and_fragments.specs.Inner.Layout.{Sized, VariantIn, lengthTest}
 use Rattle.variants_and_fragments.specs.Inner.Alleles.{VariantsIn}
@@ -33,13 +33,14 @@ pub record HeadIn (w : List ℤ) : Type 0 where
   pub c-in : sizesOf w .c ≤ maxCalls
   pub cutoff-in : within lowestQuality (pos 0) (cutoffAt w) ≡ true
   pub used-in : sizesOf w .used ≤ sizesOf w .c
+  pub free-in : sizesOf w .free ≤ sizesOf w .used
   pub all-in : length w ≡ totalWords (sizesOf w)
 
-cond-in : (b : Bool) (x : ℕ) → 6 ≤ cond b x 0 → (b ≡ true) × (6 ≤ x)
+cond-in : (b : Bool) (x : ℕ) → 7 ≤ cond b x 0 → (b ≡ true) × (7 ≤ x)
 cond-in true x h = (refl, h)
 cond-in false x h = absurd (omega arith)
 
-pub head-in : (w : List ℤ) → 6 ≤ headFault w → HeadIn w
+pub head-in : (w : List ℤ) → 7 ≤ headFault w → HeadIn w
 unfolding headFault
 head-in w h =
     let c = cond-in (leb headWords (length w)) (firstFalse (headTests w)) h in
@@ -51,13 +52,14 @@ head-in w h =
       c-in = within-top 0 maxCalls (word w callsField) (at 2);
       cutoff-in = at 3;
       used-in = within-top 0 (sizesOf w .c) (word w usedField) (at 4);
-      all-in = eqb-true _ _ (at 5);
+      free-in = within-top 0 (sizesOf w .used) (word w freeField) (at 5);
+      all-in = eqb-true _ _ (at 6);
     }
 
-pub head-sized : (w : List ℤ) → 6 ≤ headFault w → Sized w (sizesOf w)
-head-sized w h = let i = head-in w h in record { size = i .all-in; n-top = i .n-in; f-top = i .f-in; c-top = i .c-in; used-top = i .used-in }
+pub head-sized : (w : List ℤ) → 7 ≤ headFault w → Sized w (sizesOf w)
+head-sized w h = let i = head-in w h in record { size = i .all-in; n-top = i .n-in; f-top = i .f-in; c-top = i .c-in; used-top = i .used-in; free-top = i .free-in }
 
-pub head-long : (w : List ℤ) → 6 ≤ headFault w → headWords ≤ length w
+pub head-long : (w : List ℤ) → 7 ≤ headFault w → headWords ≤ length w
 head-long w h = head-in w h .len-in
 
 -- ---- a variant

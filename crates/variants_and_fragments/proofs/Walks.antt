@@ -13,10 +13,10 @@ use lib.Seq.{getD-set-same, getD-set-other}
 use lib.IntN.{ℤ}
 use lib.Dec.{eqb}
 use Rattle.variants_and_fragments.specs.declared.Sizes.{Sizes}
-use Rattle.variants_and_fragments.specs.Chain.{firstCallAt, nextCallAt, linkOk, chainFrom, chainOf, memb, reached, goodChain}
+use Rattle.variants_and_fragments.specs.Chain.{firstCallAt, nextCallAt, chainFrom, chainOf, memb, reached, goodChain}
 use Rattle.variants_and_fragments.specs.Inner.Layout.{Sized}
 use Rattle.variants_and_fragments.specs.Inner.Chain.{firstRecordAt, Walked, flag, Marked}
-use Rattle.variants_and_fragments.proofs.Chain.{link-top, record-top, record-chain}
+use Rattle.variants_and_fragments.proofs.Chain.{record-top, record-chain}
 
 -- ---- chainFrom
 pub chain-end : (w : List ℤ) (s : Sizes) (j r : ℕ) → r ≡ 0 → chainFrom w s j r ≡ []
@@ -33,9 +33,9 @@ pub chain-on : (w : List ℤ) (s : Sizes) (j r : ℕ) → 1 ≤ r → r ≤ s .u
 unfolding chainFrom
 chain-on w s j r lo hi = simp (le-leb 1 r lo, le-leb r (s .used) hi)
 
-pub chain-step : (w : List ℤ) (s : Sizes) (k r : ℕ) → k < s .c → 1 ≤ r → r ≤ s .used
-    → chainFrom w s (s .c - k) r ≡ r ∷ chainFrom w s (s .c - (k + 1)) (nextCallAt w s r)
-chain-step w s k r h lo hi = let e : s .c - k ≡ suc (s .c - (k + 1)) = omega arith in rw e (chain-on w s (s .c - (k + 1)) r lo hi)
+-- of n steps
+pub chain-step : (w : List ℤ) (s : Sizes) (n k r : ℕ) → k < n → 1 ≤ r → r ≤ s .used → chainFrom w s (n - k) r ≡ r ∷ chainFrom w s (n - (k + 1)) (nextCallAt w s r)
+chain-step w s n k r h lo hi = let e : n - k ≡ suc (n - (k + 1)) = omega arith in rw e (chain-on w s (n - (k + 1)) r lo hi)
 
 -- the chain from where fragment f's starts
 pub start-chain : (w : List ℤ) (s : Sizes) (f r : ℕ) → r ≡ firstRecordAt w s f → chainFrom w s (s .c - 0) r ≡ chainOf w s f
@@ -43,17 +43,18 @@ unfolding chainOf
 start-chain w s f r e = rw (e, sub-zero, record-chain)
 
 -- ---- goodChain
-pub good-hit : (w : List ℤ) (s : Sizes) (l : List ℕ) (r : ℕ) (rs : List ℕ) → memb r l ≡ true → false ≡ goodChain w s l (r ∷ rs)
-unfolding goodChain
-good-hit w s l r rs h = simp h
+module _ (right : ℕ → Bool) (l : List ℕ) (r : ℕ) (rs : List ℕ) where
+  good-hit : memb r l ≡ true → false ≡ goodChain right l (r ∷ rs)
+  unfolding goodChain
+  good-hit h = simp h
 
-pub good-link : (w : List ℤ) (s : Sizes) (l : List ℕ) (r : ℕ) (rs : List ℕ) → memb r l ≡ false → linkOk w s r ≡ false → false ≡ goodChain w s l (r ∷ rs)
-unfolding goodChain
-good-link w s l r rs h k = simp (h, k)
+  good-link : memb r l ≡ false → right r ≡ false → false ≡ goodChain right l (r ∷ rs)
+  unfolding goodChain
+  good-link h k = simp (h, k)
 
-pub good-on : (w : List ℤ) (s : Sizes) (l : List ℕ) (r : ℕ) (rs : List ℕ) → memb r l ≡ false → linkOk w s r ≡ true → goodChain w s l (r ∷ rs) ≡ goodChain w s (r ∷ l) rs
-unfolding goodChain
-good-on w s l r rs h k = simp (h, k)
+  good-on : memb r l ≡ false → right r ≡ true → goodChain right l (r ∷ rs) ≡ goodChain right (r ∷ l) rs
+  unfolding goodChain
+  good-on h k = simp (h, k)
 
 -- a record reached is reached, wherever it stands in the list
 pub memb-middle : (x r : ℕ) (rs l : List ℕ) → memb x (r ∷ rs ++ l) ≡ memb x (rs ++ (r ∷ l))
@@ -85,72 +86,78 @@ mark-more {seen} {l} r h m = record {
   ];
 }
 
--- ---- the loop's invariant
-pub record Walking (w : List ℤ) (s : Sizes) (f : ℕ) (seen : List ℕ) (r k : ℕ) : Type 0 where
+-- ---- the loop's invariant: a walk of the chain rs, n steps at most, with the test `right` of each link, l being the records reached before
+pub record Walking (w : List ℤ) (s : Sizes) (right : ℕ → Bool) (n : ℕ) (l rs seen : List ℕ) (r k : ℕ) : Type 0 where
   pub acc : List ℕ
   pub r-top : r ≤ s .used
-  pub k-top : k ≤ s .c
+  pub k-top : k ≤ n
   pub now-marked : Marked seen acc
-  pub good : goodChain w s (reached w s f) (chainOf w s f) ≡ goodChain w s acc (chainFrom w s (s .c - k) r)
-  pub has : (x : ℕ) → memb x (reached w s (suc f)) ≡ memb x (chainFrom w s (s .c - k) r ++ acc)
+  pub good : goodChain right l rs ≡ goodChain right acc (chainFrom w s (n - k) r)
+  pub has : (x : ℕ) → memb x (rs ++ l) ≡ memb x (chainFrom w s (n - k) r ++ acc)
 
-pub walk-start : (w : List ℤ) (s : Sizes) (f : ℕ) (seen : List ℕ) (r : ℕ) → r ≡ firstRecordAt w s f → Marked seen (reached w s f) → Walking w s f seen r 0
-unfolding chainOf reached
-walk-start w s f seen r e m = record {
-  acc = reached w s f;
-  r-top = omega (arith, record-top s (firstCallAt w s f));
+pub walk-start : (w : List ℤ) (s : Sizes) (right : ℕ → Bool) (n : ℕ) (l rs seen : List ℕ) (r : ℕ) → r ≤ s .used → chainFrom w s n r ≡ rs → Marked seen l → Walking w s right n l rs seen r 0
+walk-start w s right n l rs seen r top e m = record {
+  acc = l;
+  r-top = top;
   k-top = omega arith;
   now-marked = m;
-  good = rw (e, sub-zero, record-chain);
-  has = λ x. rw (e, sub-zero, record-chain);
+  good = rw (sub-zero, e);
+  has = λ x. rw (sub-zero, e);
 }
 
-module _ {w : List ℤ} {s : Sizes} {f : ℕ} {seen : List ℕ} {r k : ℕ} (z : Sized w s) (i : Walking w s f seen r k) where
+-- of fragment f's chain
+pub walk-fragment : (w : List ℤ) (s : Sizes) (right : ℕ → Bool) (f : ℕ) (seen : List ℕ) (r : ℕ) → r ≡ firstRecordAt w s f → Marked seen (reached w s f)
+    → Walking w s right (s .c) (reached w s f) (chainOf w s f) seen r 0
+unfolding chainOf
+walk-fragment w s right f seen r e m =
+    walk-start w s right (s .c) (reached w s f) (chainOf w s f) seen r (omega (arith, record-top s (firstCallAt w s f))) (rw e (record-chain w s (s .c) (firstCallAt w s f))) m
+
+module _ {w : List ℤ} {s : Sizes} {right : ℕ → Bool} {n : ℕ} {l rs seen : List ℕ} {r k : ℕ} (z : Sized w s) (i : Walking w s right n l rs seen r k) where
   -- the chain ends
-  pub walk-done : chainFrom w s (s .c - k) r ≡ [] → Walked w s f seen true
+  pub walk-done : chainFrom w s (n - k) r ≡ [] → Walked right l rs seen true
   unfolding goodChain
   walk-done e = record {
     ok = sym (rw e at (i .good));
     marked = λ _. record { long = i .now-marked .long; marks = λ x le. i .now-marked .marks x le ∙ ap flag (sym (rw e at (i .has x))) };
   }
 
-  pub walk-end : r ≡ 0 → Walked w s f seen true
-  walk-end e = walk-done (chain-end w s (s .c - k) r e)
+  pub walk-end : r ≡ 0 → Walked right l rs seen true
+  walk-end e = walk-done (chain-end w s (n - k) r e)
 
-  pub walk-out : s .c ≤ k → Walked w s f seen true
-  walk-out e = walk-done (chain-none w s (s .c - k) r (omega arith))
+  pub walk-out : n ≤ k → Walked right l rs seen true
+  walk-out e = walk-done (chain-none w s (n - k) r (omega arith))
 
-  module _ (more : k < s .c) (some : r ≡ 0 → ⊥) where
+  module _ (more : k < n) (some : r ≡ 0 → ⊥) where
     lo : 1 ≤ r
     lo = omega arith
 
-    step : chainFrom w s (s .c - k) r ≡ r ∷ chainFrom w s (s .c - (k + 1)) (nextCallAt w s r)
-    step = chain-step w s k r more lo (i .r-top)
+    step : chainFrom w s (n - k) r ≡ r ∷ chainFrom w s (n - (k + 1)) (nextCallAt w s r)
+    step = chain-step w s n k r more lo (i .r-top)
 
     flagged : getD seen r 0 ≡ flag (memb r (i .acc))
     flagged = i .now-marked .marks r (omega (arith, i .r-top, z .used-top, z .c-top))
 
-    fails : goodChain w s (i .acc) (chainFrom w s (s .c - k) r) ≡ false → (seen2 : List ℕ) → Walked w s f seen2 false
+    fails : goodChain right (i .acc) (chainFrom w s (n - k) r) ≡ false → (seen2 : List ℕ) → Walked right l rs seen2 false
     fails e seen2 = record { ok = sym (i .good ∙ e); marked = λ z. let z2 : _≡_ {A = ℕ} 0 1 = cc in absurd (omega arith) }
 
-    pub walk-hit : (getD seen r 0 ≡ 0 → ⊥) → Walked w s f seen false
-    walk-hit h = fails (rw step (sym (good-hit w s (i .acc) r _ (flag-on _ (λ e. h (flagged ∙ e)))))) seen
+    pub walk-hit : (getD seen r 0 ≡ 0 → ⊥) → Walked right l rs seen false
+    walk-hit h = fails (rw step (sym (good-hit right (i .acc) r _ (flag-on _ (λ e. h (flagged ∙ e)))))) seen
 
     module _ (free : getD seen r 0 ≡ 0) where
       fresh : memb r (i .acc) ≡ false
       fresh = flag-off _ (sym flagged ∙ free)
 
-      pub walk-link : linkOk w s r ≡ false → Walked w s f seen false
-      walk-link h = fails (rw step (sym (good-link w s (i .acc) r _ fresh h))) seen
+      pub walk-link : right r ≡ false → Walked right l rs seen false
+      walk-link h = fails (rw step (sym (good-link right (i .acc) r _ fresh h))) seen
 
-      pub walk-on : linkOk w s r ≡ true → (t : ℕ) → t ≡ nextCallAt w s r → Walking w s f (set seen r 1) t (k + 1)
-      walk-on h t e = record {
+      pub walk-on : right r ≡ true → nextCallAt w s r ≤ s .used → (t : ℕ) → t ≡ nextCallAt w s r → Walking w s right n l rs (set seen r 1) t (k + 1)
+      walk-on h top t e = record {
         acc = r ∷ i .acc;
-        r-top = rw e (link-top w s r h);
+        r-top = rw e top;
         k-top = omega arith;
         now-marked = mark-more r (omega (arith, i .r-top, z .used-top, z .c-top)) (i .now-marked);
-        good = i .good ∙ rw (step, e) (good-on w s (i .acc) r _ fresh h);
-        has = λ x. i .has x ∙ rw (step, e) (memb-middle x r (chainFrom w s (s .c - (k + 1)) (nextCallAt w s r)) (i .acc));
+        good = i .good ∙ rw (step, e) (good-on right (i .acc) r _ fresh h);
+        has = λ x. i .has x ∙ rw (step, e) (memb-middle x r (chainFrom w s (n - (k + 1)) (nextCallAt w s r)) (i .acc));
       }
 
 -- ---- after the walks

@@ -69,7 +69,7 @@ abbrev S : tie.After-read-sizes → Sizes
 S c = c .read-sizes .result
 
 -- ---- past the head
-past : (c : tie.Else1) → 6 ≤ headFault (W (st1 c))
+past : (c : tie.Else1) → 7 ≤ headFault (W (st1 c))
 past c = rw (c .before .head-fault .ensures) at (c .if1 .left)
 
 sized : (c : tie.After-read-sizes) → Sized (W (st2 c)) (S c)
@@ -79,7 +79,7 @@ after-head : (c : tie.After-read-sizes) → variantLine (W (st2 c)) (A (st2 c)) 
 unfolding checkCaseAndHaplotypesOutcome chainsOutcome
 after-head c =
     ap (variantLine (W (st2 c)) (A (st2 c)) (H (st2 c))) (c .read-sizes .ensures)
-    ∙ unless-on _ 1 (headFault (W (st2 c))) _ (le-leb 6 (headFault (W (st2 c))) (past (c .before)))
+    ∙ unless-on _ 1 (headFault (W (st2 c))) _ (le-leb 7 (headFault (W (st2 c))) (past (c .before)))
     ∙ head-lines (W (st2 c)) _
 
 -- past the variants
@@ -110,7 +110,7 @@ returns : tie.Need-returns
 unfolding checkCaseAndHaplotypesOutcome outcomeOf
 returns c =
     let p = c .before .head-fault .ensures in
-    ap (refused 1) p ∙ unless-at _ 1 _ _ (lt-leb 6 (headFault (W (c .before .before .before .before))) (rw p at (c .if1 .taken))) ∙ head-lines _ _
+    ap (refused 1) p ∙ unless-at _ 1 _ _ (lt-leb 7 (headFault (W (c .before .before .before .before))) (rw p at (c .if1 .taken))) ∙ head-lines _ _
 
 read-sizes-requires : tie.Need-read-sizes-requires
 read-sizes-requires c κs = head-long (W (st1 c)) (past c)

@@ -3,6 +3,7 @@
 use mathlib.Core.Path.{refl, sym, _∙_}
 use Prim.Native.Nat.{_≤_}
 use borrow.Author.Tests.{not-true, not-false}
+use Rattle.variants_and_fragments.specs.Chain.{reached}
 use Rattle.variants_and_fragments.specs.Layout.{strandAt}
 use Rattle.variants_and_fragments.proofs.Bools.{true-false}
 use Rattle.variants_and_fragments.proofs.Chain.{frag-strand, frag-first, frag-in}
@@ -33,6 +34,7 @@ same-length : tie.Need-same-length
 same-length c = search needs
 
 returns-3 : tie.Need-returns-3
+unfolding reached
 returns-3 c =
     let walked = c .before .before in
     let kept = walked .before .before in

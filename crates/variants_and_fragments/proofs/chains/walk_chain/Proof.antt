@@ -6,15 +6,16 @@ use Prim.Native.Nat.{ℕ, _+_, _-_}
 use borrow.Author.Tests.{not-true, not-false}
 use lib.ListN.{length, set, length-set}
 use mathlib.Core.Bool.{true, false}
-use Rattle.variants_and_fragments.specs.Chain.{nextCallAt, linkOk}
+use Rattle.variants_and_fragments.specs.Chain.{nextCallAt, linkOk, chainOf, reached}
 use Rattle.variants_and_fragments.specs.Inner.Chain.{Walked}
-use Rattle.variants_and_fragments.proofs.Walks.{Walking, walk-start, walk-end, walk-out, walk-hit, walk-link, walk-on}
+use Rattle.variants_and_fragments.proofs.Chain.{link-top}
+use Rattle.variants_and_fragments.proofs.Walks.{Walking, walk-fragment, walk-end, walk-out, walk-hit, walk-link, walk-on}
 use borrow.Author.Needs.{needs}
 use Rattle.variants_and_fragments.proofs.chains.walk_chain.Statement.{statement}
 use Rattle.variants_and_fragments.proofs.chains.walk_chain.Tie as tie
 
 abbrev Inv-loop : tie.InvT-loop
-Inv-loop words s f seen₀ c r₀ k₀ seen r k = Walking words s f seen r k × (length seen ≡ length seen₀)
+Inv-loop words s f seen₀ c r₀ k₀ seen r k = Walking words s (linkOk words s) (s .c) (reached words s f) (chainOf words s f) seen r k × (length seen ≡ length seen₀)
 
 abbrev μ-loop : tie.MeasureT-loop
 μ-loop words s f seen₀ c r₀ k₀ seen r k = c - k
@@ -28,19 +29,19 @@ st c = c .before .before .before
 
 -- its link fails
 fails : (c : tie.Else2 Inv-loop μ-loop) → linkOk (st (lp c) .args .words .now) (st (lp c) .args .s) (lp c .loop .r) ≡ false
-    → Walked (st (lp c) .args .words .now) (st (lp c) .args .s) (st (lp c) .args .f) (lp c .loop .seen) false
+    → Walked (linkOk (st (lp c) .args .words .now) (st (lp c) .args .s)) (reached (st (lp c) .args .words .now) (st (lp c) .args .s) (st (lp c) .args .f)) (chainOf (st (lp c) .args .words .now) (st (lp c) .args .s) (st (lp c) .args .f)) (lp c .loop .seen) false
 fails c h = walk-link (st (lp c) .pre .0) (lp c .loop .inv .0) (c .before .before .before .loop-test .taken) (c .before .before .if1 .left) (c .if2 .left) h
 
 -- its link holds, and the walk goes on at its next
 goes : (c : tie.Else2 Inv-loop μ-loop) → linkOk (st (lp c) .args .words .now) (st (lp c) .args .s) (lp c .loop .r) ≡ true → (t : ℕ) → t ≡ nextCallAt (st (lp c) .args .words .now) (st (lp c) .args .s) (lp c .loop .r)
-    → Walking (st (lp c) .args .words .now) (st (lp c) .args .s) (st (lp c) .args .f) (set (lp c .loop .seen) (lp c .loop .r) 1) t (lp c .loop .k + 1)
-goes c h t e = walk-on (st (lp c) .pre .0) (lp c .loop .inv .0) (c .before .before .before .loop-test .taken) (c .before .before .if1 .left) (c .if2 .left) h t e
+    → Walking (st (lp c) .args .words .now) (st (lp c) .args .s) (linkOk (st (lp c) .args .words .now) (st (lp c) .args .s)) (st (lp c) .args .s .c) (reached (st (lp c) .args .words .now) (st (lp c) .args .s) (st (lp c) .args .f)) (chainOf (st (lp c) .args .words .now) (st (lp c) .args .s) (st (lp c) .args .f)) (set (lp c .loop .seen) (lp c .loop .r) 1) t (lp c .loop .k + 1)
+goes c h t e = walk-on (st (lp c) .pre .0) (lp c .loop .inv .0) (c .before .before .before .loop-test .taken) (c .before .before .if1 .left) (c .if2 .left) h (link-top _ _ _ h) t e
 
 first-call-requires : tie.Need-first-call-requires Inv-loop μ-loop
 first-call-requires c κs = search needs
 
 loop-holds : tie.Need-loop-holds Inv-loop μ-loop
-loop-holds c = (walk-start _ _ _ _ _ (c .first-call .ensures) (c .before .before .pre .1 .1), refl)
+loop-holds c = (walk-fragment _ _ _ _ _ _ (c .first-call .ensures) (c .before .before .pre .1 .1), refl)
 
 add-k : tie.Need-add-k Inv-loop μ-loop
 add-k c = search needs

@@ -3,7 +3,7 @@
 use mathlib.Core.Path.{sym, _∙_}
 use borrow.Author.Needs.{needs}
 use borrow.Author.Tests.{not-true, not-false}
-use Rattle.variants_and_fragments.proofs.Heads.{head-short, head-variants, head-fragments, head-calls, head-cutoff, head-used, head-right, head-length}
+use Rattle.variants_and_fragments.proofs.Heads.{head-short, head-variants, head-fragments, head-calls, head-cutoff, head-used, head-free, head-right, head-length}
 use Rattle.variants_and_fragments.proofs.head.head_fault.Statement.{statement}
 use Rattle.variants_and_fragments.proofs.head.head_fault.Tie as tie
 
@@ -55,8 +55,9 @@ returns-6 c =
     let b = e2 d in
     head-used _ _ (read b .read-sizes .ensures) (read b .before .if1 .left) (b .if2 .left) (d .if3 .left) (e .if4 .left) (sym (g .before .cutoff-ok .ensures) ∙ not-false _ (g .if5 .left)) (c .if6 .taken)
 
-total-words-requires : tie.Need-total-words-requires
-total-words-requires c κs = search needs
+-- past the records used
+abbrev u2 : tie.Else7 → tie.Else6
+u2 c = c .before .before
 
 returns-7 : tie.Need-returns-7
 returns-7 c =
@@ -65,16 +66,30 @@ returns-7 c =
     let e = g .before .before in
     let d = e3 e in
     let b = e2 d in
-    head-right _ _ (read b .read-sizes .ensures) (read b .before .if1 .left) (b .if2 .left) (d .if3 .left) (e .if4 .left) (sym (g .before .cutoff-ok .ensures) ∙ not-false _ (g .if5 .left)) (u .if6 .left) (c .if7 .taken ∙ c .before .total-words .ensures)
+    head-free _ _ (read b .read-sizes .ensures) (read b .before .if1 .left) (b .if2 .left) (d .if3 .left) (e .if4 .left) (sym (g .before .cutoff-ok .ensures) ∙ not-false _ (g .if5 .left)) (u .if6 .left) (c .if7 .taken)
+
+total-words-requires : tie.Need-total-words-requires
+total-words-requires c κs = search needs
 
 returns-8 : tie.Need-returns-8
 returns-8 c =
-    let u = c .before .before in
+    let v = c .before .before in
+    let u = u2 v in
     let g = u .before .before in
     let e = g .before .before in
     let d = e3 e in
     let b = e2 d in
-    head-length _ _ (read b .read-sizes .ensures) (read b .before .if1 .left) (b .if2 .left) (d .if3 .left) (e .if4 .left) (sym (g .before .cutoff-ok .ensures) ∙ not-false _ (g .if5 .left)) (u .if6 .left) (λ q. c .if7 .left (q ∙ sym (c .before .total-words .ensures)))
+    head-right _ _ (read b .read-sizes .ensures) (read b .before .if1 .left) (b .if2 .left) (d .if3 .left) (e .if4 .left) (sym (g .before .cutoff-ok .ensures) ∙ not-false _ (g .if5 .left)) (u .if6 .left) (v .if7 .left) (c .if8 .taken ∙ c .before .total-words .ensures)
+
+returns-9 : tie.Need-returns-9
+returns-9 c =
+    let v = c .before .before in
+    let u = u2 v in
+    let g = u .before .before in
+    let e = g .before .before in
+    let d = e3 e in
+    let b = e2 d in
+    head-length _ _ (read b .read-sizes .ensures) (read b .before .if1 .left) (b .if2 .left) (d .if3 .left) (e .if4 .left) (sym (g .before .cutoff-ok .ensures) ∙ not-false _ (g .if5 .left)) (u .if6 .left) (v .if7 .left) (λ q. c .if8 .left (q ∙ sym (c .before .total-words .ensures)))
 
 pub head-fault-spec : {M : Type 1} → statement M
 head-fault-spec =
@@ -88,6 +103,7 @@ head-fault-spec =
     cutoff-ok-requires
     returns-5
     returns-6
-    total-words-requires
     returns-7
-    returns-8)
+    total-words-requires
+    returns-8
+    returns-9)
