@@ -1,4 +1,3 @@
-pub mod Below
 pub mod ArrivalTests
 pub mod KeptCase
 pub mod ValuesDecoded

@@ -6,7 +6,7 @@ use mathlib.Core.List.{List, []}
 use Prim.Native.Nat.{ℕ, suc, _+_, _-_, _*_, _≤_, _<_}
 use native.Mathlib.Omega.{arith}
 use borrow.Author.Tests.{le-leb, leb-true, eq-eqb, eqb-true}
-use lib.Dec.{leb, eqb}
+use lib.Dec.{leb}
 use lib.IntN.{ℤ}
 use lib.ListN.{length, getD}
 use Rattle.variants_and_fragments.specs.declared.Sizes.{Sizes}
@@ -19,7 +19,7 @@ use Rattle.variants_and_fragments.specs.Check.{checkCaseAndHaplotypesOut
 use Rattle.variants_and_fragments.specs.Inner.Head.{headFault}
 use Rattle.variants_and_fragments.specs.Inner.Accepted.{allb, FragmentIn, FreeIn, CaseIn, BasesIn}
 use Rattle.variants_and_fragments.proofs.Bools.{both}
-use Rattle.variants_and_fragments.proofs.First.{from-all, first-all, all-from}
+use Rattle.variants_and_fragments.proofs.First.{from-all, first-all, all-from, all-below}
 use Rattle.variants_and_fragments.proofs.Outcomes.{unless-on, unless-past, each-on, each-past}
 use Rattle.variants_and_fragments.proofs.Heads.{head-lines}
 use Rattle.variants_and_fragments.proofs.Records.{head-in, head-sized, variants-in, haplotype-facts, variant-alone}
@@ -82,15 +82,12 @@ frag-facts w s f calls h =
 
 -- the free chain is right, and each used record is in a chain
 free-facts : (w : List ℤ) (s : Sizes) → freeOk w s ≡ true → FreeIn w s
-unfolding freeOk holdsBelow
+unfolding freeOk
 free-facts w s h =
-    let a = both (goodChain (nextOk w s) (reached w s (s .f)) (freeChain w s)) (eqb (firstFail (λ i. inChain w s (suc i)) (s .used)) (s .used)) h in
+    let a = both (goodChain (nextOk w s) (reached w s (s .f)) (freeChain w s)) (holdsBelow (λ i. inChain w s (suc i)) (s .used)) h in
     record {
       right = a .0;
-      whole = λ r lo hi.
-          let e : suc (r - 1) ≡ r = omega arith in
-          let all : s .used ≤ firstFail (λ i. inChain w s (suc i)) (s .used) = omega (arith, eqb-true (firstFail (λ i. inChain w s (suc i)) (s .used)) (s .used) (a .1)) in
-          rw e at (first-all (λ i. inChain w s (suc i)) (s .used) all (r - 1) (omega arith));
+      whole = λ r lo hi. let e : suc (r - 1) ≡ r = omega arith in rw e at (all-below (λ i. inChain w s (suc i)) (s .used) (a .1) (r - 1) (omega arith));
     }
 
 -- what a case gives that the check accepts, with haplotypes or without

@@ -12,7 +12,7 @@ use Rattle.variants_and_fragments.specs.First.{firstFailFrom, firstFail,
 use Rattle.variants_and_fragments.specs.Sums.{countOver}
 use Rattle.variants_and_fragments.specs.Case.{Case, Fragment}
 use Rattle.variants_and_fragments.specs.Layout.{variantOk, callOk}
-use Rattle.variants_and_fragments.specs.Chain.{chainFrom, chainOf, memb, reached, linkOk, goodChain, fragmentOk, isReached, reachedCallOk}
+use Rattle.variants_and_fragments.specs.Chain.{chainFrom, chainOf, memb, reached, linkOk, goodChain, fragmentOk, isReached, reachedCallOk, freeChain, inChain, freeOk}
 use Rattle.variants_and_fragments.specs.Alleles.{allelesStart, allelesOk}
 use Rattle.variants_and_fragments.specs.Check.{checkCaseAndHaplotypesOutcome, checkCaseOutcome}
 use Rattle.variants_and_fragments.specs.Decode.{tabulateFrom, alleleStart, alleleAt, variantFrom, callFrom, fragmentFrom, decode}

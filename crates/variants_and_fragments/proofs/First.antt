@@ -88,3 +88,10 @@ false-none [] h i = refl
 false-none (true ∷ bs) h zero = refl
 false-none (true ∷ bs) h (suc i) = false-none bs (omega arith) i
 false-none (false ∷ bs) h i = absurd (omega arith)
+
+-- ---- a test of each number below n, as a loop decides it: false where one fails, true at the end
+pub one-fails : (p : ℕ → Bool) (n i : ℕ) → ((j : ℕ) → j < i → p j ≡ true) → i < n → p i ≡ false → false ≡ holdsBelow p n
+one-fails p n i good l bad = sym (below-not p n (omega (arith, first-at p n i good l bad)))
+
+pub none-fails : (p : ℕ → Bool) (n i : ℕ) → ((j : ℕ) → j < i → p j ≡ true) → i ≡ n → true ≡ holdsBelow p n
+none-fails p n i good e = sym (below-all p n (omega (arith, first-end p n i good e)))

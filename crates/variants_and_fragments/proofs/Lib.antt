@@ -27,4 +27,5 @@ pub mod Accepted
 pub mod AlleleBytes
 pub mod Written
 pub mod Linked
+pub mod Free
 pub mod Places

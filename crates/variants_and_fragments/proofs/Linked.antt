@@ -1,26 +1,26 @@
--- An accepted fragment's chain is linked from its first call to the zero that ends it, and so is the free chain from the head's word 5. No record
--- comes twice, along a fragment's chain since the variants rise, so that the steps are enough: there are C records (proofs/Pigeon).
+-- An accepted fragment's chain is linked from its first call to the zero that ends it. Along it the variants rise, so that no record
+-- comes twice, no variant has two calls, and C steps are enough: there are C records (proofs/Pigeon).
 -- Assumes nothing.
 use mathlib.Core.Path.{_≡_, refl, sym, _∙_, ap, subst}
 use mathlib.Core.Bool.{Bool, true, false, cond, not, _&&_}
-use mathlib.Core.List.{List, [], _∷_, _++_}
+use mathlib.Core.List.{List, [], _∷_}
 use Prim.Native.Nat.{ℕ, zero, suc, _+_, _≤_, _<_}
 use native.Mathlib.Nat.{le-refl}
 use native.Mathlib.Omega.{arith}
 use native.Mathlib.Decide.{decLt, ℕ-discrete}
 use borrow.Author.Tests.{ne-eqb}
-use lib.ListN.{length, getD, length-append}
+use lib.ListN.{length, getD}
 use lib.IntN.{ℤ}
 use Rattle.variants_and_fragments.specs.declared.Sizes.{Sizes}
 use Rattle.variants_and_fragments.specs.Layout.{callVariantAt, callOk}
-use Rattle.variants_and_fragments.specs.Chain.{firstCallAt, nextCallAt, isRecord, nextOk, linkOk, chainFrom, chainOf, memb, goodChain, reached, freeChain}
-use Rattle.variants_and_fragments.specs.Inner.Accepted.{allb, CallIn, FragmentIn, CaseIn}
+use Rattle.variants_and_fragments.specs.Chain.{firstCallAt, nextCallAt, isRecord, linkOk, chainFrom, chainOf, memb, goodChain, reached}
+use Rattle.variants_and_fragments.specs.Inner.Accepted.{allb, CallIn, FragmentIn}
 use Rattle.variants_and_fragments.proofs.Bools.{both, off}
 use Rattle.variants_and_fragments.proofs.Records.{call-facts}
 use Rattle.variants_and_fragments.proofs.Walks.{chain-on}
 use Rattle.variants_and_fragments.specs.Inner.Chain.{firstRecordAt}
-use Rattle.variants_and_fragments.proofs.Chain.{next-top, link-top, next-rises, record-top, record-chain}
-use Rattle.variants_and_fragments.proofs.Pigeon.{distinct, Within, none, more, pigeon, distinct-left, good-distinct, chain-within, reached-ok}
+use Rattle.variants_and_fragments.proofs.Chain.{link-top, next-rises, record-top, record-chain}
+use Rattle.variants_and_fragments.proofs.Pigeon.{distinct, Within, none, more, pigeon}
 
 -- rs are the records from r on, each a record of the case with a right link, and zero is met after the last
 pub data Linked (w : List ℤ) (s : Sizes) (right : ℕ → Bool) : ℕ → List ℕ → Type 0 where
@@ -66,19 +66,6 @@ linked-from w s ut (suc k) (suc r) l past top p n g =
     let a = both (not (memb (suc r) l)) (linkOk w s (suc r) && goodChain (linkOk w s) (suc r ∷ l) (chainFrom w s k t)) (rw e at g) in
     let b = both (linkOk w s (suc r)) (goodChain (linkOk w s) (suc r ∷ l) (chainFrom w s k t)) (a .1) in
     rw e (goes {r = suc r} (omega arith) top (b .0) (linked-from w s ut k t (suc r ∷ l) (suc r ∷ past) (link-top w s (suc r) (b .0)) (more-passed (omega arith) p top (b .0)) (omega arith) (b .1)))
-
--- so is a good free chain, with one step more: the records passed are distinct, so that there are no C + 1 of them
-free-from : (w : List ℤ) (s : Sizes) → s .used ≤ s .c → (k r : ℕ) (past l : List ℕ) → r ≤ s .used → distinct (past ++ l) ≡ true → Within (s .used) past → length past + k ≡ suc (s .c)
-    → goodChain (nextOk w s) (past ++ l) (chainFrom w s k r) ≡ true → Linked w s (nextOk w s) r (chainFrom w s k r)
-unfolding chainFrom goodChain distinct
-free-from w s ut zero r past l top d i n g = absurd (omega (arith, pigeon (s .used) past (distinct-left past l d) i))
-free-from w s ut (suc k) zero past l top d i n g = ends
-free-from w s ut (suc k) (suc r) past l top d i n g =
-    let e = chain-on w s k (suc r) (omega arith) top in
-    let t = nextCallAt w s (suc r) in
-    let a = both (not (memb (suc r) (past ++ l))) (nextOk w s (suc r) && goodChain (nextOk w s) (suc r ∷ past ++ l) (chainFrom w s k t)) (rw e at g) in
-    let b = both (nextOk w s (suc r)) (goodChain (nextOk w s) (suc r ∷ past ++ l) (chainFrom w s k t)) (a .1) in
-    rw e (goes {r = suc r} (omega arith) top (b .0) (free-from w s ut k t (suc r ∷ past) l (next-top w s (suc r) (b .0)) (rw (a .0) d) (more (omega arith) top i) (omega arith) (b .1)))
 
 -- k steps give k records at most
 chain-short : (w : List ℤ) (s : Sizes) (k r : ℕ) → length (chainFrom w s k r) ≤ k
@@ -192,23 +179,3 @@ module _ {w : List ℤ} {s : Sizes} {f : ℕ} (used-top : s .used ≤ s .c) (i :
   -- so no variant has two calls
   pub one-call-at : (j k : ℕ) → j < length (chainOf w s f) → k < length (chainOf w s f) → callVariantAt w s (getD (chainOf w s f) j 0) ≡ callVariantAt w s (getD (chainOf w s f) k 0) → j ≡ k
   one-call-at = same (λ j. callVariantAt w s (getD (chainOf w s f) j 0)) (length (chainOf w s f)) variants-rise
-
--- ---- the free chain of an accepted case
-module _ {w : List ℤ} {s : Sizes} (k : CaseIn w s) where
-  pub free-linked : Linked w s (nextOk w s) (s .free) (freeChain w s)
-  unfolding freeChain
-  free-linked =
-      let z = k .sized in
-      free-from w s (z .used-top) (suc (s .c)) (s .free) [] (reached w s (s .f)) (z .free-top) (reached-ok w s k (s .f) (le-refl _) .0) none (omega arith) (k .free-in .right)
-
-  -- no record is in two chains or twice in one, each is a used one, and each used one is among them
-  pub chains-distinct : distinct (freeChain w s ++ reached w s (s .f)) ≡ true
-  chains-distinct = good-distinct (nextOk w s) (freeChain w s) (reached w s (s .f)) (k .free-in .right) (reached-ok w s k (s .f) (le-refl _) .0)
-
-  chains-within : Within (s .used) (freeChain w s ++ reached w s (s .f))
-  unfolding freeChain
-  chains-within = chain-within w s (suc (s .c)) (s .free) (reached w s (s .f)) (reached-ok w s k (s .f) (le-refl _) .1)
-
-  pub free-length : length (freeChain w s) ≤ s .used
-  free-length =
-      omega (arith, pigeon (s .used) (freeChain w s ++ reached w s (s .f)) chains-distinct chains-within, length-append (freeChain w s) (reached w s (s .f)))

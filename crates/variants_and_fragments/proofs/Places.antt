@@ -7,7 +7,7 @@ use lib.IntN.{ℤ, pos, negsuc, negℤ}
 use Rattle.variants_and_fragments.specs.First.{firstFailFrom, firstFail, holdsBelow}
 use Rattle.variants_and_fragments.specs.Words.{within, below}
 use Rattle.variants_and_fragments.specs.Layout.{headWords, fragmentWords, callWords, variantsField, fragmentsField, callsField, cutoffField, usedField, firstField, strandField, variantField, alleleField, qualField, oneMinusQualField, nextField, variantOk, callOk}
-use Rattle.variants_and_fragments.specs.Chain.{chainFrom, chainOf, memb, reached, linkOk, goodChain, fragmentOk, isReached, reachedCallOk}
+use Rattle.variants_and_fragments.specs.Chain.{chainFrom, chainOf, memb, reached, linkOk, goodChain, fragmentOk, isReached, reachedCallOk, freeChain, inChain, freeOk}
 use Rattle.variants_and_fragments.specs.Alleles.{allelesStart, allelesOk}
 use Rattle.variants_and_fragments.specs.Refusals.{refused, done, unless, each}
 use Rattle.variants_and_fragments.specs.Check.{checkCaseAndHaplotypesOutcome, checkCaseOutcome}
