@@ -1,17 +1,18 @@
--- `chains::check_chains` meets its contract: the first reached record that is wrong decides, then the first fragment that is wrong. Where no fragment
--- is wrong, its walks marked what is reached.
+-- `chains::check_chains` meets its contract: the first reached record that is wrong decides, then the first fragment that is wrong,
+-- then the free chain. Where no fragment is wrong, its walks marked what is reached.
 -- Assumes nothing.
-use mathlib.Core.Path.{_≡_, ap, _∙_}
+use mathlib.Core.Path.{_≡_, sym, ap, _∙_}
 use native.Mathlib.Omega.{arith}
 use Rattle.variants_and_fragments.specs.First.{firstFail}
-use Rattle.variants_and_fragments.specs.Chain.{fragmentOk}
-use Rattle.variants_and_fragments.specs.Refusals.{refused}
+use Rattle.variants_and_fragments.specs.Chain.{fragmentOk, freeOk}
+use Rattle.variants_and_fragments.specs.Refusals.{done, refused, unless}
 use Rattle.variants_and_fragments.specs.Check.{outcomeOf}
 use Rattle.variants_and_fragments.specs.Inner.Chain.{chainsOutcome}
 use Rattle.variants_and_fragments.proofs.First.{first-le}
-use Rattle.variants_and_fragments.proofs.Outcomes.{each-on, each-at}
+use Rattle.variants_and_fragments.proofs.Outcomes.{unless-on, unless-at, each-on, each-at}
 use Rattle.variants_and_fragments.proofs.Walks.{clear-marked}
 use borrow.Author.Needs.{needs}
+use borrow.Author.Tests.{not-true, not-false}
 use Rattle.variants_and_fragments.proofs.chains.check_chains.Statement.{statement}
 use Rattle.variants_and_fragments.proofs.chains.check_chains.Tie as tie
 
@@ -62,12 +63,31 @@ returns-3 c =
     let p = c .before .first-bad-call .ensures in
     ap (refused 4) p ∙ each-at 4 _ 1 _ _ (omega (arith, p, c .if3 .taken))
 
+slice-aggregate-free-ok : tie.Need-slice-aggregate-free-ok
+slice-aggregate-free-ok c = search needs
+
+free-ok-requires : tie.Need-free-ok-requires
+free-ok-requires c κs =
+    let e = c .before .before .before .before in
+    let b = e .before .before in
+    (st b .pre .0, b .first-bad-fragment .ensures .marked (all-right e))
+
+-- past 4 and the fragments
+past : (c : tie.After-free-ok) → let x = st (c .before .before .before .before .before .before .before) in
+    unless (freeOk (x .args .words .now) (x .args .s)) 5 (x .args .s .f) (done (x .args .s)) ≡ chainsOutcome (x .args .words .now) (x .args .s)
+unfolding chainsOutcome firstFail
+past c =
+    let g = c .before .before in
+    let e = g .before .before .before in
+    each-on 5 _ 0 _ _ (omega (arith, all-right e, e .before .before .first-bad-fragment .ensures .at)) ∙ each-on 4 _ 1 _ _ (omega (arith, g .before .first-bad-call .ensures, g .if3 .left))
+
 returns-4 : tie.Need-returns-4
-unfolding outcomeOf chainsOutcome firstFail
-returns-4 c =
-    let p = c .before .first-bad-call .ensures in
-    let e = c .before .before .before in
-    each-on 5 _ 0 _ _ (omega (arith, all-right e, e .before .before .first-bad-fragment .ensures .at)) ∙ each-on 4 _ 1 _ _ (omega (arith, p, c .if3 .left))
+unfolding outcomeOf
+returns-4 c = let f = c .before .before in unless-at _ 5 _ _ (sym (f .free-ok .ensures) ∙ not-true _ (c .if4 .taken)) ∙ past f
+
+returns-5 : tie.Need-returns-5
+unfolding outcomeOf
+returns-5 c = let f = c .before .before in unless-on _ 5 _ _ (sym (f .free-ok .ensures) ∙ not-false _ (c .if4 .left)) ∙ past f
 
 pub check-chains-spec : {M : Type 1} → statement M
 check-chains-spec =
@@ -81,4 +101,7 @@ check-chains-spec =
     slice-aggregate-first-bad-call
     first-bad-call-requires
     returns-3
-    returns-4)
+    slice-aggregate-free-ok
+    free-ok-requires
+    returns-4
+    returns-5)

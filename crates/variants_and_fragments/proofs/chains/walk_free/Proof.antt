@@ -13,12 +13,12 @@ use Rattle.variants_and_fragments.proofs.chains.walk_free.Statement.{st
 use Rattle.variants_and_fragments.proofs.chains.walk_free.Tie as tie
 
 abbrev Inv-loop : tie.InvT-loop
-Inv-loop words s seen₀ c used r₀ k₀ seen r k = Walking words s (nextOk words s) (suc (s .c)) (reached words s (s .f)) (freeChain words s) seen r k × (length seen ≡ length seen₀)
+Inv-loop words s seen₀ c used t₀ k₀ seen t k = Walking words s (nextOk words s) (suc (s .c)) (reached words s (s .f)) (freeChain words s) seen t k × (length seen ≡ length seen₀)
 
 abbrev μ-loop : tie.MeasureT-loop
-μ-loop words s seen₀ c used r₀ k₀ seen r k = suc c - k
+μ-loop words s seen₀ c used t₀ k₀ seen t k = suc c - k
 
--- where record r is not passed yet: the loop's head, and the entry
+-- where record t is not passed yet: the loop's head, and the entry
 abbrev lp : tie.Else2 Inv-loop μ-loop → tie.At-loop Inv-loop μ-loop
 lp c = c .before .before .before .before
 
