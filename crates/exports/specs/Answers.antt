@@ -27,7 +27,7 @@ unfoldable pub readAnswer : Answer → Outcome Unit
 readAnswer a = readAs (a .number) (a .place) tt
 
 unfoldable pub readCheck : CheckAnswer → Outcome Sizes
-readCheck a = readAs (a .number) (a .place) (record { n = a .n; f = a .f; c = a .c; used = a .used; cutoff = a .cutoff })
+readCheck a = readAs (a .number) (a .place) (record { n = a .n; f = a .f; c = a .c; used = a .used; free = a .free; cutoff = a .cutoff })
 
 unfoldable pub readFlist : FlistAnswer → Outcome Amount
 readFlist a = readAs (a .number) (a .place) (record { bytes = a .bytes; lines = a .lines })
@@ -49,8 +49,8 @@ numbersOf (refused n p) = answerOf n p
 numbersOf (done values) = answerOf 0 0
 
 unfoldable pub checkNumbers : Outcome Sizes → CheckAnswer
-checkNumbers (refused n p) = record { number = n; place = p; n = 0; f = 0; c = 0; used = 0; cutoff = pos 0 }
-checkNumbers (done s) = record { number = 0; place = 0; n = s .n; f = s .f; c = s .c; used = s .used; cutoff = s .cutoff }
+checkNumbers (refused n p) = record { number = n; place = p; n = 0; f = 0; c = 0; used = 0; free = 0; cutoff = pos 0 }
+checkNumbers (done s) = record { number = 0; place = 0; n = s .n; f = s .f; c = s .c; used = s .used; free = s .free; cutoff = s .cutoff }
 
 unfoldable pub flistNumbers : Outcome Amount → FlistAnswer
 flistNumbers (refused n p) = record { number = n; place = p; bytes = 0; lines = 0 }

@@ -22,6 +22,7 @@ pub struct CheckAnswer {
     pub f: usize,
     pub c: usize,
     pub used: usize,
+    pub free: usize,
     pub cutoff: i32,
 }
 

@@ -19,6 +19,7 @@ pub extern "C" fn condorbed_check_case(words: &[i32], bases: &[u8]) -> CheckAnsw
             f: s.f,
             c: s.c,
             used: s.used,
+            free: s.free,
             cutoff: s.cutoff,
         },
         Checked::Refused(x) => CheckAnswer {
@@ -28,6 +29,7 @@ pub extern "C" fn condorbed_check_case(words: &[i32], bases: &[u8]) -> CheckAnsw
             f: 0,
             c: 0,
             used: 0,
+            free: 0,
             cutoff: 0,
         },
     }

@@ -62,7 +62,7 @@ noVariants = record { variants = []; fragments = []; cutoff = neg 2000 }
 
 -- the sizes that the head of such a case gives: each fragment has one call
 abbrev pub sizes : Case → Sizes
-sizes sample = record { n = length (sample .variants); f = length (sample .fragments); c = length (sample .fragments); used = length (sample .fragments); cutoff = neg 2000 }
+sizes sample = record { n = length (sample .variants); f = length (sample .fragments); c = length (sample .fragments); used = length (sample .fragments); free = 0; cutoff = neg 2000 }
 
 -- a round on the words and bases that `encode` makes of a case: these phase bytes, one order, the highest limit
 abbrev pub roundOn : Case → List ℕ → List ℕ → RoundInput

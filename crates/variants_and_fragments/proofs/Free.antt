@@ -60,7 +60,7 @@ module _ {w : List ℤ} {s : Sizes} (k : CaseIn w s) where
   pub chains-distinct : distinct (freeChain w s ++ reached w s (s .f)) ≡ true
   chains-distinct = good-distinct (nextOk w s) (freeChain w s) (reached w s (s .f)) (k .free-in .right) (reached-ok w s k (s .f) (le-refl _) .0)
 
-  chains-within : Within (s .used) (freeChain w s ++ reached w s (s .f))
+  pub chains-within : Within (s .used) (freeChain w s ++ reached w s (s .f))
   unfolding freeChain
   chains-within = chain-within w s (suc (s .c)) (s .free) (reached w s (s .f)) (reached-ok w s k (s .f) (le-refl _) .1)
 

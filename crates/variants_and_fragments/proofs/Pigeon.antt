@@ -77,6 +77,11 @@ pub data Within (c : ℕ) : List ℕ → Type 0 where
   none : Within c []
   more : {x : ℕ} {xs : List ℕ} → 1 ≤ x → x ≤ c → Within c xs → Within c (x ∷ xs)
 
+pub within-memb : (c : ℕ) (l : List ℕ) → Within c l → (x : ℕ) → memb x l ≡ true → (1 ≤ x) × (x ≤ c)
+unfolding memb
+within-memb c [] none x h = true-false h refl
+within-memb c (y ∷ ys) (more lo hi i) x h = elim (ℕ-discrete x y) [ yes e ↦ rw e (lo, hi) | no n ↦ within-memb c ys i x (rw (ne-eqb x y n) at h) ]
+
 within-out : (c : ℕ) (l : List ℕ) → Within (suc c) l → Within c (without (suc c) l)
 unfolding without
 within-out c [] none = none

@@ -1,7 +1,8 @@
 -- Request 2: the walk visits each record in a chain once and no other. The records visited are those reached, and no two of these are the same.
+-- Request 3: each used record lies in just one fragment chain or in the free chain, which shares no record with those reached (proofs/Free).
 -- Assumes nothing.
 use mathlib.Core.Path.{_≡_, refl, _∙_, ap}
-use mathlib.Core.Bool.{Bool, true, false, not}
+use mathlib.Core.Bool.{Bool, true, false, not, or-comm}
 use mathlib.Core.List.{List, [], _∷_, _++_, map, append-nil}
 use Prim.Native.Nat.{ℕ, zero, suc, _+_, _≤_, _<_}
 use native.Mathlib.Nat.{le-refl}
@@ -12,17 +13,18 @@ use lib.Dec.{eqb}
 use lib.IntN.{ℤ}
 use lib.ListN.{length-append}
 use Rattle.variants_and_fragments.specs.declared.Sizes.{Sizes}
-use Rattle.variants_and_fragments.specs.Chain.{chainOf, memb, reached}
+use Rattle.variants_and_fragments.specs.Chain.{chainOf, memb, reached, isReached, inChain, freeChain}
 use Rattle.variants_and_fragments.specs.Check.{checkCaseOutcome}
 use Rattle.variants_and_fragments.specs.Pileup.{only}
 use Rattle.variants_and_fragments.specs.Refusals.{done}
-use Rattle.variants_and_fragments.specs.Visits.{Visit, visit, visitsFrom, visits, numbers, visited, times, VisitsOnce}
+use Rattle.variants_and_fragments.specs.Visits.{Visit, visit, visitsFrom, visits, numbers, visited, times, VisitsOnce, OneChainEach}
 use Rattle.variants_and_fragments.specs.Inner.Accepted.{CaseIn}
 use Rattle.variants_and_fragments.proofs.Accepted.{case-in}
 use Rattle.variants_and_fragments.proofs.Bools.{both, or-off, not-on, off, true-false}
 use Rattle.variants_and_fragments.proofs.Chain.{absent-chain, chain-record}
+use Rattle.variants_and_fragments.proofs.Free.{chains-distinct, chains-within}
 use Rattle.variants_and_fragments.proofs.Only.{only-append, only-map, only-yes, only-no}
-use Rattle.variants_and_fragments.proofs.Pigeon.{distinct, memb-append, reached-ok, reached-has}
+use Rattle.variants_and_fragments.proofs.Pigeon.{distinct, memb-append, within-memb, reached-ok, reached-has}
 use Rattle.variants_and_fragments.proofs.Visits.{numbers-visit, same-total}
 
 -- ---- how often a number is in a list
@@ -43,6 +45,11 @@ times-once r (x ∷ xs) d h =
       | yes e ↦ rw (eq-eqb r x e) (ap suc (times-none r xs (rw e (not-on _ (a .0)))))
       | no n ↦ rw (ne-eqb r x n) (times-once r xs (a .1) (rw (ne-eqb r x n) at h))
     ]
+
+times-some : (r : ℕ) (l : List ℕ) → memb r l ≡ true → 1 ≤ times r l
+unfolding memb only
+times-some r [] h = true-false h refl
+times-some r (x ∷ xs) h = elim (ℕ-discrete r x) [ yes e ↦ rw (eq-eqb r x e) (omega arith) | no n ↦ rw (ne-eqb r x n) (times-some r xs (rw (ne-eqb r x n) at h)) ]
 
 -- ---- the walk
 -- what no chain has is not reached
@@ -97,3 +104,31 @@ visits-once {w} {s} k = record {
 -- of every accepted input
 pub accepted-once : (w : List ℤ) (b : List ℕ) (s : Sizes) → checkCaseOutcome w b ≡ done s → VisitsOnce w s
 accepted-once w b s h = visits-once (case-in w b s h)
+
+-- ---- the walk and the free chain
+module _ {w : List ℤ} {s : Sizes} (k : CaseIn w s) where
+  -- together they are the records that are in a chain
+  chains-times : (r : ℕ) → times r (visited w s ++ freeChain w s) ≡ times r (freeChain w s ++ reached w s (s .f))
+  chains-times r =
+      omega (arith, times-append r (visited w s) (freeChain w s), visited-times w s r, times-append r (freeChain w s) (reached w s (s .f)))
+
+  chains-have : (r : ℕ) → inChain w s r ≡ true → memb r (freeChain w s ++ reached w s (s .f)) ≡ true
+  unfolding inChain isReached
+  chains-have r h = memb-append r (freeChain w s) (reached w s (s .f)) ∙ or-comm (memb r (freeChain w s)) (memb r (reached w s (s .f))) ∙ h
+
+  chains-only : (r : ℕ) → memb r (visited w s ++ freeChain w s) ≡ true → memb r (freeChain w s ++ reached w s (s .f)) ≡ true
+  chains-only r h = go (memb r (freeChain w s ++ reached w s (s .f))) refl
+    where
+      go : (b : Bool) → memb r (freeChain w s ++ reached w s (s .f)) ≡ b → b ≡ true
+      go true e = refl
+      go false e = absurd (omega (arith, times-some r (visited w s ++ freeChain w s) h, chains-times r, times-none r (freeChain w s ++ reached w s (s .f)) e))
+
+  pub one-chain-each : OneChainEach w s
+  one-chain-each = record {
+    once = λ r lo hi. chains-times r ∙ times-once r (freeChain w s ++ reached w s (s .f)) (chains-distinct k) (chains-have r (k .free-in .whole r lo hi));
+    no-other = λ r h. within-memb (s .used) (freeChain w s ++ reached w s (s .f)) (chains-within k) r (chains-only r h);
+  }
+
+-- of every accepted input
+pub accepted-one-chain : (w : List ℤ) (b : List ℕ) (s : Sizes) → checkCaseOutcome w b ≡ done s → OneChainEach w s
+accepted-one-chain w b s h = one-chain-each (case-in w b s h)

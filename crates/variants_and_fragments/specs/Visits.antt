@@ -1,15 +1,16 @@
--- Request 2: the walk along the chains. It goes along each fragment's chain once, fragments rising. w is the words, s the sizes.
+-- Requests 2 and 3: the walk along the chains. It goes along each fragment's chain once, fragments rising; what it does not visit of the used records is
+-- the free chain. w is the words, s the sizes.
 -- Assumes nothing.
 use mathlib.Core.Path.{_≡_}
 use mathlib.Core.Bool.{true, false}
 use mathlib.Core.List.{List, [], _++_, map}
-use Prim.Native.Nat.{ℕ, zero, suc, _<_}
+use Prim.Native.Nat.{ℕ, zero, suc, _≤_, _<_}
 use lib.IntN.{ℤ}
 use lib.Dec.{eqb}
 use lib.ListN.{length, getD}
 use Rattle.variants_and_fragments.specs.declared.Sizes.{Sizes}
 use Rattle.variants_and_fragments.specs.Layout.{callVariantAt}
-use Rattle.variants_and_fragments.specs.Chain.{presentAt, chainOf, memb}
+use Rattle.variants_and_fragments.specs.Chain.{presentAt, chainOf, memb, freeChain}
 use Rattle.variants_and_fragments.specs.Decode.{decode}
 use Rattle.variants_and_fragments.specs.Pileup.{Row, only, pileOf}
 
@@ -50,6 +51,12 @@ pub record VisitsOnce (w : List ℤ) (s : Sizes) : Type 0 where
   -- an absent fragment's chain has no record, and no chain has one of the unused tail
   pub absent : (f : ℕ) → presentAt w s f ≡ false → chainOf w s f ≡ []
   pub unused : (f r : ℕ) → s .used < r → memb r (chainOf w s f) ≡ false
+
+-- ---- "each used record lies in just one fragment chain or in the free chain" (request 3), of every accepted case: `accepted-one-chain` of
+-- proofs/VisitsOnce.antt
+pub record OneChainEach (w : List ℤ) (s : Sizes) : Type 0 where
+  pub once : (r : ℕ) → 1 ≤ r → r ≤ s .used → times r (visited w s ++ freeChain w s) ≡ 1
+  pub no-other : (r : ℕ) → memb r (visited w s ++ freeChain w s) ≡ true → (1 ≤ r) × (r ≤ s .used)
 
 -- ---- "Each variant still lists its calls by rising fragment", of every accepted case: `accepted-by-fragment` of proofs/ByFragment.antt
 -- each number is above those before it

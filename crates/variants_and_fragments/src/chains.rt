@@ -180,7 +180,7 @@ fn first_bad_reached(words: &[i32], s: Sizes) -> usize
     first_bad_call(words, s, &seen)
 }
 
-// The free chain is right; then seen marks its records too. At the loop's head the k records before r are right and marked. One step more than there
+// The free chain is right; then seen marks its records too. At the loop's head the k records before t are right and marked. One step more than there
 // are records: a chain that comes back to one of its own is seen.
 fn walk_free(words: &[i32], s: Sizes, seen: &mut [u8]) -> bool
     requires { ⌜ Sized (now words) s ⌝ }
@@ -189,22 +189,22 @@ fn walk_free(words: &[i32], s: Sizes, seen: &mut [u8]) -> bool
 {
     let c = s.c;
     let used = s.used;
-    let mut r = s.free;
+    let mut t = s.free;
     let mut k = 0;
     while k <= c {
         k += 1;
-        if r == 0 {
+        if t == 0 {
             return true;
         }
-        if seen[r] != 0 {
+        if 0 < seen[t] {
             return false;
         }
-        let next = next_call(words, s, r);
+        let next = next_call(words, s, t);
         if used < next {
             return false;
         }
-        seen[r] = 1;
-        r = next;
+        seen[t] = 1;
+        t = next;
     }
     true
 }
