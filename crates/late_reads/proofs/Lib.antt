@@ -10,6 +10,7 @@ pub mod CountRuns
 pub mod ReadCalls
 pub mod Distinct
 pub mod WordsAfter
+pub mod Room
 pub mod OneChanged
 pub mod AcceptedAfter
 pub mod DecodedAfter
