@@ -2,10 +2,10 @@
 -- (`leftAt`) has record i at its front, and without that it is what is left after i + 1: the calls before i are laid in other records, so that the
 -- free record at hand keeps its next. They are distinct ones of the case, C at most.
 -- Assumes nothing.
-use mathlib.Core.Path.{_≡_, refl, sym, ap, _∙_}
+use mathlib.Core.Path.{_≡_, sym, ap, _∙_}
 use mathlib.Core.Bool.{Bool, true}
 use mathlib.Core.List.{List}
-use Prim.Native.Nat.{ℕ, suc, _+_, _-_, _≤_, _<_, min}
+use Prim.Native.Nat.{ℕ, suc, _+_, _-_, _≤_, _<_}
 use native.Mathlib.Omega.{arith}
 use native.Mathlib.Decide.{decLt}
 use borrow.Author.Tests.{eq-eqb, ne-eqb}
@@ -21,7 +21,6 @@ use Rattle.variants_and_fragments.proofs.Decoded.{tabulate-length, tabulate-at}
 use Rattle.variants_and_fragments.proofs.Free.{free-linked, chains-distinct, free-length}
 use Rattle.variants_and_fragments.proofs.Linked.{Linked, linked-first, linked-in, linked-next}
 use Rattle.variants_and_fragments.proofs.Pigeon.{distinct, distinct-left}
-use Rattle.late_reads.specs.declared.words.Left.{Left}
 use Rattle.late_reads.specs.Arriving.{unusedRecords, room, taken, callsLaid}
 use Rattle.late_reads.specs.Inner.Room.{frontOf, restOf, leftAt}
 use Rattle.late_reads.proofs.Distinct.{distinct-at, distinct-by, distinct-take}

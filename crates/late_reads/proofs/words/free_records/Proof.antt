@@ -3,7 +3,7 @@
 -- Assumes nothing.
 use mathlib.Core.Path.{_≡_, refl, sym, ap, _∙_}
 use mathlib.Core.List.{List, [], _∷_}
-use Prim.Native.Nat.{ℕ, _+_, _-_, _≤_}
+use Prim.Native.Nat.{ℕ, _+_, _-_}
 use native.Mathlib.Omega.{arith}
 use borrow.Author.Needs.{needs}
 use lib.IntN.{ℤ, pos}
@@ -86,7 +86,6 @@ returns-2 c =
     let e = last .before .before in
     let st = e .before .before .before in
     c .before .put-free .ensures ∙ rw (put .put-next .ensures, last .last-record .ensures, first-is (e .before)) (freed-some (st .args .words .now) (st .args .s) (chain st) (first-some e))
-
 
 pub free-records-spec : {M : Type 1} → statement M
 free-records-spec =

@@ -4,7 +4,7 @@
 use mathlib.Core.Path.{_≡_, refl, sym, ap, _∙_}
 use mathlib.Core.List.{List}
 use mathlib.Core.Logic.{inl, inr}
-use Prim.Native.Nat.{ℕ, suc, _+_, _-_, _≤_, _<_}
+use Prim.Native.Nat.{ℕ, suc, _-_, _≤_}
 use native.Mathlib.Numerals.{add-one}
 use native.Mathlib.Omega.{arith}
 use lib.IntN.{ℤ}
@@ -14,7 +14,7 @@ use Rattle.variants_and_fragments.specs.declared.CallWords.{CallWords}
 use Rattle.variants_and_fragments.specs.Layout.{callPut}
 use Rattle.variants_and_fragments.specs.Inner.Layout.{Sized}
 use Rattle.late_reads.specs.declared.words.Left.{Left}
-use Rattle.late_reads.specs.Arriving.{wholeCalls, room, taken, callsLaid}
+use Rattle.late_reads.specs.Arriving.{wholeCalls, taken, callsLaid}
 use Rattle.late_reads.specs.Inner.Room.{frontOf, restOf, leftAt}
 use Rattle.late_reads.proofs.Room.{taken-past, taken-length, taken-in, taken-top, left-start, left-in, taken-front, taken-rest}
 use Rattle.late_reads.proofs.WordsAfter.{sized-as, laid-length, laid-more}
@@ -125,13 +125,12 @@ loop-again c =
     let j = read .before .before in
     let front = j .before .before .before in
     let l = front .before .before in
-    let w = st l .args .words .now in
-    (
+    let w = st l .args .words .now in (
       omega (arith, front .before .loop-test .taken),
       rest-is (j .before) ∙ ap (leftAt w (st l .args .s)) (sym (add-one (l .loop .i))),
       c .before .put-call .ensures
-      ∙ same-put (st l .args .s) (l .loop .inv .2) (front-is front) (read .arriving-at .ensures) (next-is j)
-      ∙ laid-more w (st l .args .s) (st l .args .calls .now) (rs l) (l .loop .i),
+          ∙ same-put (st l .args .s) (l .loop .inv .2) (front-is front) (read .arriving-at .ensures) (next-is j)
+          ∙ laid-more w (st l .args .s) (st l .args .calls .now) (rs l) (l .loop .i),
     )
 
 same-length : tie.Need-same-length Inv-loop μ-loop
@@ -140,8 +139,7 @@ same-length c = let l = c .before in ap length (l .loop .inv .2) ∙ laid-length
 returns : tie.Need-returns Inv-loop μ-loop
 returns c =
     let l = c .before in
-    let e : l .loop .i ≡ m l = omega (arith, l .loop .inv .0, c .loop-test .left) in
-    (
+    let e : l .loop .i ≡ m l = omega (arith, l .loop .inv .0, c .loop-test .left) in (
       l .loop .inv .2 ∙ ap (callsLaid (st l .args .words .now) (st l .args .s) (st l .args .calls .now) (rs l)) e,
       l .loop .inv .1 ∙ ap (leftAt (st l .args .words .now) (st l .args .s)) e,
     )

@@ -1,6 +1,6 @@
 -- `words::lay_departure` meets its contract: the records are freed, and then the first call is set.
 -- Assumes nothing.
-use mathlib.Core.Path.{_≡_, _∙_}
+use mathlib.Core.Path.{_∙_}
 use borrow.Author.Needs.{needs}
 use Rattle.late_reads.specs.Arriving.{departedWords}
 use Rattle.late_reads.proofs.words.lay_departure.Statement.{statement}
