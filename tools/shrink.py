@@ -40,8 +40,13 @@ def without_orders(trial, gone):
     trial.orders = [order for i, order in enumerate(trial.orders) if i not in gone] or trial.orders[:1]
 
 
+def in_order(trial, _):
+    """The records lie in order; none is free or unused."""
+    trial.places = None
+
+
 def plain(trial, _):
-    trial.records, trial.extra = {}, 0
+    trial.extra = 0
 
 
 def steps(trial):
@@ -49,7 +54,9 @@ def steps(trial):
     calls = sum(len(f.calls) for f in trial.case.fragments)
     parts = [(without_variants, len(trial.case.variants)), (without_fragments, len(trial.case.fragments)),
              (without_calls, calls), (without_orders, len(trial.orders) - 1)]
-    if trial.records or trial.extra:
+    if trial.places is not None:
+        yield in_order, ()
+    if trial.extra:
         yield plain, ()
     size = max(count for _, count in parts)
     while size > 0:
@@ -61,7 +68,6 @@ def steps(trial):
 
 def smaller(trial, step, gone):
     out = copy.copy(trial)
-    out.records = {}
     step(out, gone)
     return out
 
