@@ -185,8 +185,9 @@ condorbed_round_answer condorbed_call_genotypes_with_haplotypes(const int32_t *w
 
 /* A fragment arrives: one whose number is absent, with its strand and its calls (4 words each: variant, allele, qual,
    one_minus_qual), which take the free call records from the first on, then unused ones. phase is exactly 1 byte per
-   variant, haplotypes 2 alleles per variant as they stand. Updates the words, 2 likelihoods per fragment, 10 counts per variant (those of
-   condorbed_call_genotypes_no_haplotypes, its third to twelfth value) and the phased total, as the fragment changes them. */
+   variant, haplotypes 2 alleles per variant as they stand. Updates the words, 2 likelihoods per fragment, 10 counts per
+   variant (those of condorbed_call_genotypes_no_haplotypes, its third to twelfth value) and the phased total, as the
+   fragment changes them. */
 condorbed_late_answer condorbed_arrive(int32_t *words, size_t words_len,
                                        const uint8_t *bases, size_t bases_len,
                                        const uint8_t *phase, size_t phase_len,

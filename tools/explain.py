@@ -234,7 +234,7 @@ def told_late(request, case, fields, slices):
     (words, likelihoods, counts), f = slices, request.parts[LatePart.NUMBER]
     at, two, free = Layout.of(words), likelihoods[PAIR * f:PAIR * (f + 1)], len(free_and_unused(words)[0])
     own = check(words, request.bases).fragments[f]
-    happened = "left; its number is free" if not own.present else "arrived with %s, first record %d" % (
+    happened = "left; its number can be taken again" if not own.present else "arrived with %s, first record %d" % (
         count(len(own.calls), "call"), words[at.fragment(f) + FRAGMENT.first])
     rows = [count_cells(x, COUNTED.read(counts, COUNTED.words * v)) for v, x in enumerate(case.variants)]
     return [
