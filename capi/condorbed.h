@@ -48,7 +48,7 @@ enum {
     CONDORBED_NORMALIZE = 12,    /* variant; proved never to happen */
     CONDORBED_FRAGMENT = 13,     /* the fragment's number: it is none, or an arriving one is present, or a departing one
                                     absent */
-    CONDORBED_NO_ROOM = 14       /* the number of arriving calls: there are fewer free and unused records */
+    CONDORBED_NO_ROOM = 14       /* the number of arriving calls: free and unused records together are fewer */
 };
 
 typedef struct {

@@ -197,7 +197,7 @@ def test_late():
     expect("the counts of an arrival", told.splitlines()[-1].split(), ["0", "100", "A/G", "0,1", "0,0", "0,1", "0"])
     back = following("depart", late("arrive"))
     told = command("--explain", "-", text=back.text().encode())[0]
-    expect_in("a departure", told, "1 variant, 2 fragments, 1 call", "Fragment 1 left; its number is free.",
+    expect_in("a departure", told, "1 variant, 2 fragments, 1 call", "Fragment 1 left; its number can be taken again.",
               "Call records used: 1 of 1, 1 of them free.", "Its likelihoods are 0 and 0. Phased total: -49012 steps.")
     told = command("--explain", "-", text=following("arrive", back).text().encode())[0]
     expect_in("an arrival in a free record", told, "1 variant, 2 fragments (1 absent), 0 calls",
