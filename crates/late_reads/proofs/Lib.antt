@@ -8,7 +8,9 @@ pub mod Places
 pub mod Counting
 pub mod CountRuns
 pub mod ReadCalls
+pub mod Distinct
 pub mod WordsAfter
+pub mod Room
 pub mod OneChanged
 pub mod AcceptedAfter
 pub mod DecodedAfter
