@@ -21,7 +21,7 @@ pub record Onward (w : List ℤ) (s : Sizes) (r k : ℕ) : Type 0 where
   pub past : List ℕ
   pub r-top : r ≤ s .used
   pub k-top : k ≤ s .c
-  pub right : goodChain w s past (chainFrom w s (s .c - k) r) ≡ true
+  pub right : goodChain (linkOk w s) past (chainFrom w s (s .c - k) r) ≡ true
   pub calls : allb (callOk w s) (chainFrom w s (s .c - k) r) ≡ true
 
 pub onward-start : (w : List ℤ) (s : Sizes) (f r : ℕ) → r ≡ firstRecordAt w s f → FragmentIn w s f → Onward w s r 0
@@ -36,7 +36,7 @@ onward-start w s f r e i = record {
 
 module _ {w : List ℤ} {s : Sizes} {r k : ℕ} (i : Onward w s r k) (more : k < s .c) (some : r ≡ 0 → ⊥) where
   step-chain : chainFrom w s (s .c - k) r ≡ r ∷ chainFrom w s (s .c - (k + 1)) (nextCallAt w s r)
-  step-chain = chain-step w s k r more (omega arith) (i .r-top)
+  step-chain = chain-step w s (s .c) k r more (omega arith) (i .r-top)
 
   pub onward-call : CallIn w s r
   unfolding allb
@@ -46,8 +46,8 @@ module _ {w : List ℤ} {s : Sizes} {r k : ℕ} (i : Onward w s r k) (more : k <
   unfolding allb goodChain
   onward-next t e =
       let n = chainFrom w s (s .c - (k + 1)) (nextCallAt w s r) in
-      let g = both (not (memb r (i .past))) (linkOk w s r && goodChain w s (r ∷ i .past) n) (rw step-chain at (i .right)) in
-      let h = both (linkOk w s r) (goodChain w s (r ∷ i .past) n) (g .1) in
+      let g = both (not (memb r (i .past))) (linkOk w s r && goodChain (linkOk w s) (r ∷ i .past) n) (rw step-chain at (i .right)) in
+      let h = both (linkOk w s r) (goodChain (linkOk w s) (r ∷ i .past) n) (g .1) in
       record {
         past = r ∷ i .past;
         r-top = rw e (link-top w s r (h .0));
