@@ -14,11 +14,13 @@ use lib.Dec.{eqb}
 use lib.IntN.{ℤ}
 use lib.ListN.{length, getD, List·getD-eq-default}
 use Rattle.variants_and_fragments.specs.declared.Sizes.{Sizes}
-use Rattle.variants_and_fragments.specs.Chain.{chainOf, freeChain, memb, reached, goodChain}
+use Rattle.variants_and_fragments.specs.Chain.{nextCallAt, chainFrom, chainOf, freeChain, memb, reached, goodChain}
 use Rattle.variants_and_fragments.specs.Inner.Accepted.{allb, CaseIn}
 use Rattle.variants_and_fragments.proofs.Bools.{both, or-right, not-on, off, true-false}
 use Rattle.variants_and_fragments.proofs.Free.{chains-distinct, chains-within}
-use Rattle.variants_and_fragments.proofs.Pigeon.{distinct, within-memb, memb-append, memb-left, distinct-left, reached-ok, reached-has}
+use Rattle.variants_and_fragments.proofs.Linked.{Linked, linked-by, linked-fuel}
+use Rattle.variants_and_fragments.proofs.Pigeon.{distinct, Within, none, more, pigeon, within-memb, memb-append, memb-left, distinct-left, reached-ok, reached-has}
+use Rattle.late_reads.proofs.Distinct.{memb-at}
 
 -- ---- members
 pub or-cases : (a b : Bool) → (a || b) ≡ true → (a ≡ true) ⊎ (b ≡ true)
@@ -43,6 +45,10 @@ memb-place (y ∷ l) x h = elim (ℕ-discrete x y) [
 -- what is not 0 stands within the list
 pub some-place : (l : List ℕ) (i : ℕ) → (getD l i 0 ≡ 0 → ⊥) → i < length l
 some-place l i n = elim (decLt i (length l)) [ yes h ↦ h | no h ↦ absurd (n (List·getD-eq-default l 0 {n = i} (omega arith))) ]
+
+-- what stands at a place, or 0 past the end, is no more than the members are
+pub place-top : (l : List ℕ) (i : ℕ) {c : ℕ} → ((x : ℕ) → memb x l ≡ true → x ≤ c) → getD l i 0 ≤ c
+place-top l i each = elim (ℕ-discrete (getD l i 0) 0) [ yes e ↦ omega arith | no e ↦ each (getD l i 0) (memb-at l i (some-place l i e)) ]
 
 -- what holds of all holds of each member
 pub memb-all : (p : ℕ → Bool) (l : List ℕ) (x : ℕ) → allb p l ≡ true → memb x l ≡ true → p x ≡ true
@@ -80,9 +86,14 @@ unfolding distinct
 distinct-join [] l a b n = b
 distinct-join (r ∷ rs) l a b n =
     let d = both (not (memb r rs)) (distinct rs) a in
-    let none : memb r rs ≡ false = not-on _ (d .0) in
-    let fresh : memb r (rs ++ l) ≡ false = memb-append r rs l ∙ rw none (off (memb r l) (n r (memb-here r rs))) in
+    let first : memb r rs ≡ false = not-on _ (d .0) in
+    let fresh : memb r (rs ++ l) ≡ false = memb-append r rs l ∙ rw first (off (memb r l) (n r (memb-here r rs))) in
     rw fresh (distinct-join rs l (d .1) b (λ x m. n x (memb-later x r rs m)))
+
+-- distinct numbers of 1..c are no more than that
+within-by : (c : ℕ) (l : List ℕ) → ((x : ℕ) → memb x l ≡ true → (1 ≤ x) × (x ≤ c)) → Within c l
+within-by c [] each = none
+within-by c (x ∷ l) each = let b = each x (memb-here x l) in more (b .0) (b .1) (within-by c l (λ y m. each y (memb-later y x l m)))
 
 -- a chain is good where no record of it comes twice, each link is right and none was reached before
 pub good-by : (right : ℕ → Bool) (rs l : List ℕ) → distinct rs ≡ true → ((x : ℕ) → memb x rs ≡ true → right x ≡ true) → ((x : ℕ) → memb x rs ≡ true → memb x l ≡ true → ⊥)
@@ -92,15 +103,22 @@ good-by right [] l d links n = refl
 good-by right (r ∷ rs) l d links n =
     let a = both (not (memb r rs)) (distinct rs) d in
     let fresh : memb r l ≡ false = off (memb r l) (n r (memb-here r rs)) in
-    let none : memb r rs ≡ false = not-on _ (a .0) in
+    let fresh-later : memb r rs ≡ false = not-on _ (a .0) in
     rw (fresh, links r (memb-here r rs))
     (good-by right rs (r ∷ l) (a .1) (λ x m. links x (memb-later x r rs m)) (λ x m h. elim (ℕ-discrete x r) [
-      | yes e ↦ true-false (rw e at m) none
+      | yes e ↦ true-false (rw e at m) fresh-later
       | no e ↦ n x (memb-later x r rs m) (rw (ne-eqb x r e) at h)
     ]))
 
 -- ---- chains
 module _ (w : List ℤ) (s : Sizes) where
+  -- records each of which has the one after it as its next are the chain from the first of them
+  pub chain-by : (l : List ℕ) (n : ℕ) → distinct l ≡ true → ((x : ℕ) → memb x l ≡ true → (1 ≤ x) × (x ≤ s .used)) → ((i : ℕ) → i < length l → nextCallAt w s (getD l i 0) ≡ getD l (suc i) 0)
+      → s .used ≤ n → chainFrom w s n (getD l 0 0) ≡ l
+  chain-by l n d each next top =
+      let linked : Linked w s (λ x. true) (getD l 0 0) l = linked-by l (λ i h. let b = each (getD l i 0) (memb-at l i h) in (b .0, b .1, refl, next i h)) in
+      linked-fuel linked n (omega (arith, pigeon (s .used) l d (within-by (s .used) l each)))
+
   -- what is reached is in some fragment's chain
   pub reached-where : (n x : ℕ) → memb x (reached w s n) ≡ true → (g : ℕ) × (g < n) × (memb x (chainOf w s g) ≡ true)
   unfolding reached memb
