@@ -8,6 +8,7 @@ pub mod Places
 pub mod Counting
 pub mod CountRuns
 pub mod ReadCalls
+pub mod Distinct
 pub mod WordsAfter
 pub mod OneChanged
 pub mod AcceptedAfter

@@ -1,28 +1,29 @@
--- What stands at each place of the words after an arrival: the arriving calls' words in the records after those used, the fragment's first call
--- and strand, the number of records used, and at every other place the word that stood there. Each law follows the words as they are set one after
--- the other; where things stand is linear in the sizes, so that omega tells the places apart.
+-- What stands at each place of the words in which arriving calls are laid, call j in record rs j, the records being distinct ones of the case: the
+-- calls' words there, each with the record of the call after it as its next, and at every other place the word that stood there. Each law follows the
+-- words as they are set one after the other; where things stand is linear in the sizes, so that omega tells the places apart.
 -- Assumes nothing.
 use mathlib.Core.Path.{_≡_, refl, sym, ap, _∙_}
-use mathlib.Core.Bool.{cond}
+use mathlib.Core.Bool.{true}
 use mathlib.Core.List.{List}
 use Prim.Native.Nat.{ℕ, zero, suc, _+_, _≤_, _<_}
 use native.Mathlib.Omega.{arith}
 use native.Mathlib.Decide.{ℕ-discrete}
 use native.Mathlib.Numerals.{add-one}
-use lib.Dec.{eqb}
 use lib.IntN.{ℤ, pos}
-use lib.ListN.{length, length-set}
+use lib.ListN.{length, getD, length-set}
 use lib.Seq.{getD-set-same, getD-set-other}
 use Rattle.variants_and_fragments.specs.declared.Sizes.{Sizes}
 use Rattle.variants_and_fragments.specs.declared.CallWords.{CallWords}
 use Rattle.variants_and_fragments.specs.Words.{word}
 use Rattle.variants_and_fragments.specs.Layout.{callWords, variantField, alleleField, qualField, oneMinusQualField, nextField, callAt, callWord, callSet, callPut}
 use Rattle.variants_and_fragments.specs.Inner.Layout.{Sized, callWordsAt}
+use Rattle.variants_and_fragments.proofs.Pigeon.{distinct}
 use Rattle.late_reads.specs.Arriving.{arrivingAt, callLaid, callsLaid}
+use Rattle.late_reads.proofs.Distinct.{distinct-at}
 
 -- words as long are laid out by the same sizes
 pub sized-as : (w w' : List ℤ) (s : Sizes) → length w' ≡ length w → Sized w s → Sized w' s
-sized-as w w' s e z = record { size = e ∙ z .size; n-top = z .n-top; f-top = z .f-top; c-top = z .c-top; used-top = z .used-top }
+sized-as w w' s e z = record { size = e ∙ z .size; n-top = z .n-top; f-top = z .f-top; c-top = z .c-top; used-top = z .used-top; free-top = z .free-top }
 
 -- ---- one call put in its record
 pub put-length : (w : List ℤ) (s : Sizes) (r : ℕ) (call : CallWords) (next : ℕ) → length (callPut w s r call next) ≡ length w
@@ -83,56 +84,67 @@ module _ (w : List ℤ) (s : Sizes) (r : ℕ) (call : CallWords) (next : ℕ) wh
         )
 
 -- ---- the arriving calls
-pub laid-length : (w : List ℤ) (s : Sizes) (calls : List ℤ) (m i : ℕ) → length (callsLaid w s calls m i) ≡ length w
-unfolding callsLaid callLaid
-laid-length w s calls m zero = refl
-laid-length w s calls m (suc i) = put-length (callsLaid w s calls m i) s _ _ _ ∙ laid-length w s calls m i
-
-pub sized-laid : (w : List ℤ) (s : Sizes) (calls : List ℤ) (m i : ℕ) → Sized w s → Sized (callsLaid w s calls m i) s
-sized-laid w s calls m i z = sized-as w (callsLaid w s calls m i) s (laid-length w s calls m i) z
-
--- one call more
-pub laid-more : (w : List ℤ) (s : Sizes) (calls : List ℤ) (m i : ℕ) → let r = s .used + 1 + i in
-    callPut (callsLaid w s calls m i) s r (arrivingAt calls i) (cond (eqb (i + 1) m) 0 (r + 1)) ≡ callsLaid w s calls m (i + 1)
-unfolding callsLaid callLaid
-laid-more w s calls m i = ap (λ (k : ℕ). callsLaid w s calls m k) (sym (add-one i))
-
--- the link of call i of m: the record after it, or 0 after the last
-abbrev pub linkAfter : Sizes → ℕ → ℕ → ℕ
-linkAfter s m i = cond (eqb (i + 1) m) 0 (s .used + 1 + i + 1)
-
--- record r of w' is call i's
-pub record CallAt (w' : List ℤ) (s : Sizes) (calls : List ℤ) (m i : ℕ) : Type 0 where
-  pub words-are : callWordsAt w' s (s .used + 1 + i) ≡ arrivingAt calls i
-  pub next-is : callWord w' s (s .used + 1 + i) nextField ≡ pos (linkAfter s m i)
+-- record j of rs is call j's in w', and its next is the record after it
+pub record CallAt (w' : List ℤ) (s : Sizes) (calls : List ℤ) (rs : List ℕ) (j : ℕ) : Type 0 where
+  pub words-are : callWordsAt w' s (getD rs j 0) ≡ arrivingAt calls j
+  pub next-is : callWord w' s (getD rs j 0) nextField ≡ pos (getD rs (suc j) 0)
 
 -- it stays so in words that agree on the record
-pub call-stays : (w w' : List ℤ) (s : Sizes) (calls : List ℤ) (m i : ℕ) → ((field : ℕ) → field < callWords → callWord w' s (s .used + 1 + i) field ≡ callWord w s (s .used + 1 + i) field)
-    → CallAt w s calls m i → CallAt w' s calls m i
-call-stays w w' s calls m i same c = record {
+pub call-stays : (w w' : List ℤ) (s : Sizes) (calls : List ℤ) (rs : List ℕ) (j : ℕ) → ((field : ℕ) → field < callWords → callWord w' s (getD rs j 0) field ≡ callWord w s (getD rs j 0) field)
+    → CallAt w s calls rs j → CallAt w' s calls rs j
+call-stays w w' s calls rs j same c = record {
   words-are = rw (same variantField (omega arith), same alleleField (omega arith), same qualField (omega arith), same oneMinusQualField (omega arith)) (c .words-are);
   next-is = same nextField (omega arith) ∙ c .next-is;
 }
 
-module _ (w : List ℤ) (s : Sizes) (calls : List ℤ) (m : ℕ) where
-  -- what stands before the records that are laid is kept
-  pub laid-below : (i k : ℕ) → k < callAt s (s .used + 1) → word (callsLaid w s calls m i) k ≡ word w k
+module _ (w : List ℤ) (s : Sizes) (calls : List ℤ) (rs : List ℕ) where
+  pub laid-length : (i : ℕ) → length (callsLaid w s calls rs i) ≡ length w
   unfolding callsLaid callLaid
-  laid-below zero k l = refl
-  laid-below (suc i) k l =
-      put-other (callsLaid w s calls m i) s (s .used + 1 + i) (arrivingAt calls i) (linkAfter s m i) k (λ j h e. omega arith) ∙ laid-below i k l
+  laid-length zero = refl
+  laid-length (suc i) = put-length (callsLaid w s calls rs i) s _ _ _ ∙ laid-length i
 
-  pub laid-at : (i j : ℕ) → j < i → callAt s (s .used + 1 + i) ≤ length w → CallAt (callsLaid w s calls m i) s calls m j
+  pub sized-laid : (i : ℕ) → Sized w s → Sized (callsLaid w s calls rs i) s
+  sized-laid i z = sized-as w (callsLaid w s calls rs i) s (laid-length i) z
+
+  -- one call more
+  pub laid-more : (i : ℕ) → callPut (callsLaid w s calls rs i) s (getD rs i 0) (arrivingAt calls i) (getD rs (suc i) 0) ≡ callsLaid w s calls rs (i + 1)
   unfolding callsLaid callLaid
-  laid-at zero j l room = absurd (omega arith)
-  laid-at (suc i) j l room =
-      let before = callsLaid w s calls m i in
-      let r = s .used + 1 + i in
-      let inside : callAt s r + callWords ≤ length before = omega (arith, laid-length w s calls m i) in
-      elim (ℕ-discrete j i) [
-        | yes e ↦ rw e (record { words-are = put-words before s r (arrivingAt calls i) (linkAfter s m i) inside; next-is = put-next before s r (arrivingAt calls i) (linkAfter s m i) inside })
-        | no e ↦
-            call-stays before (callsLaid w s calls m (suc i)) s calls m j
-            (λ field h. put-other before s r (arrivingAt calls i) (linkAfter s m i) (callAt s (s .used + 1 + j) + field) (λ t q z. e (omega arith)))
-            (laid-at i j (omega arith) (omega arith))
-      ]
+  laid-more i = ap (λ (k : ℕ). callsLaid w s calls rs k) (sym (add-one i))
+
+  -- a place in none of the first i records keeps its word
+  pub laid-other : (i k : ℕ) → ((j field : ℕ) → j < i → field < callWords → k ≡ callAt s (getD rs j 0) + field → ⊥) → word (callsLaid w s calls rs i) k ≡ word w k
+  unfolding callsLaid callLaid
+  laid-other zero k n = refl
+  laid-other (suc i) k n =
+      put-other (callsLaid w s calls rs i) s (getD rs i 0) (arrivingAt calls i) (getD rs (suc i) 0) k (λ field l e. n i field (omega arith) l e)
+      ∙ laid-other i k (λ j field l m e. n j field (omega arith) m e)
+
+  -- such is what stands before the records
+  pub laid-below : (i k : ℕ) → k < callAt s 1 → word (callsLaid w s calls rs i) k ≡ word w k
+  laid-below i k h = laid-other i k (λ j field l m e. omega arith)
+
+  module _ (apart : distinct rs ≡ true) (each-in : (j : ℕ) → j < length rs → (1 ≤ getD rs j 0) × (getD rs j 0 ≤ s .c)) where
+    -- and the words of another record
+    pub laid-record : (i r field : ℕ) → i ≤ length rs → 1 ≤ r → ((j : ℕ) → j < i → getD rs j 0 ≡ r → ⊥) → field < callWords
+        → callWord (callsLaid w s calls rs i) s r field ≡ callWord w s r field
+    laid-record i r field top lo n h = laid-other i (callAt s r + field) (λ j t l m e. n j l (omega (arith, each-in j (omega arith) .0)))
+
+    pub laid-at : Sized w s → (i j : ℕ) → j < i → i ≤ length rs → CallAt (callsLaid w s calls rs i) s calls rs j
+    unfolding callsLaid callLaid
+    laid-at z zero j l top = absurd (omega arith)
+    laid-at z (suc i) j l top =
+        let before = callsLaid w s calls rs i in
+        let r = getD rs i 0 in
+        let t = getD rs (suc i) 0 in
+        let lo = each-in i (omega arith) .0 in
+        let hi = each-in i (omega arith) .1 in
+        let inside : callAt s r + callWords ≤ length before = omega (arith, laid-length i, z .size) in
+        elim (ℕ-discrete j i) [
+          | yes e ↦ rw e (record { words-are = put-words before s r (arrivingAt calls i) t inside; next-is = put-next before s r (arrivingAt calls i) t inside })
+          | no e ↦
+              let low = each-in j (omega arith) .0 in
+              let other : getD rs j 0 ≡ r → ⊥ = λ q. e (distinct-at rs apart j i (omega arith) (omega arith) q) in
+              call-stays before (callsLaid w s calls rs (suc i)) s calls rs j
+              (λ field h. put-other before s r (arrivingAt calls i) t (callAt s (getD rs j 0) + field) (λ q m y. other (omega arith)))
+              (laid-at z i j (omega arith) (omega arith))
+        ]

@@ -196,7 +196,7 @@ fn walk_free(words: &[i32], s: Sizes, seen: &mut [u8]) -> bool
         if t == 0 {
             return true;
         }
-        if seen[t] != 0 {
+        if 0 < seen[t] {
             return false;
         }
         let next = next_call(words, s, t);

@@ -7,7 +7,7 @@ use lib.IntN.{ℤ}
 use lib.ListN.{length, getD}
 use Rattle.variants_and_fragments.specs.declared.Sizes.{Sizes}
 use Rattle.variants_and_fragments.specs.Chain.{nextCallAt, freeChain}
-use Rattle.late_reads.specs.declared.Left.{Left}
+use Rattle.late_reads.specs.declared.words.Left.{Left}
 
 -- the first free record, else the first of the unused tail
 unfoldable pub frontOf : Left → ℕ

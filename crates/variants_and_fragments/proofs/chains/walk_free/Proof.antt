@@ -47,7 +47,7 @@ same-length-2 c = search needs
 returns-2 : tie.Need-returns-2 Inv-loop μ-loop
 returns-2 c =
     let l = c .before .before .before .before in
-    walk-hit (st l .pre .0) (l .loop .inv .0) (omega (arith, c .before .before .before .loop-test .taken)) (c .before .before .if1 .left) (c .if2 .taken)
+    walk-hit (st l .pre .0) (l .loop .inv .0) (omega (arith, c .before .before .before .loop-test .taken)) (c .before .before .if1 .left) (λ q. omega (arith, q, c .if2 .taken))
 
 next-call-requires : tie.Need-next-call-requires Inv-loop μ-loop
 next-call-requires c κs = search needs
@@ -59,7 +59,7 @@ returns-3 : tie.Need-returns-3 Inv-loop μ-loop
 returns-3 c =
     let e = c .before .before in
     let l = lp e in
-    walk-link (st l .pre .0) (l .loop .inv .0) (omega (arith, e .before .before .before .loop-test .taken)) (e .before .before .if1 .left) (e .if2 .left)
+    walk-link (st l .pre .0) (l .loop .inv .0) (omega (arith, e .before .before .before .loop-test .taken)) (e .before .before .if1 .left) (omega (arith, e .if2 .left))
     (next-in _ _ _ (st l .pre .0) ∙ lt-leb _ _ (rw (c .before .next-call .ensures) at (c .if3 .taken)))
 
 slice-write-seen : tie.Need-slice-write-seen Inv-loop μ-loop
@@ -74,7 +74,7 @@ loop-again c =
     let l = lp e in
     let n = c .before .next-call .ensures in
     let top = rw n at (c .if3 .left) in
-    (walk-on (st l .pre .0) (l .loop .inv .0) (omega (arith, e .before .before .before .loop-test .taken)) (e .before .before .if1 .left) (e .if2 .left) (next-in _ _ _ (st l .pre .0) ∙ le-leb _ _ top) top _ n, simp length-set (l .loop .inv .1))
+    (walk-on (st l .pre .0) (l .loop .inv .0) (omega (arith, e .before .before .before .loop-test .taken)) (e .before .before .if1 .left) (omega (arith, e .if2 .left)) (next-in _ _ _ (st l .pre .0) ∙ le-leb _ _ top) top _ n, simp length-set (l .loop .inv .1))
 
 same-length-4 : tie.Need-same-length-4 Inv-loop μ-loop
 same-length-4 c = search needs
