@@ -2,16 +2,16 @@
 -- to what was the first free one, and all else is kept. They are accepted, and stand for the case with that fragment absent.
 -- Assumes nothing.
 use mathlib.Core.Path.{_≡_, refl, sym, ap, _∙_, subst}
-use mathlib.Core.Bool.{Bool, true, false, _&&_, _||_, or-false}
+use mathlib.Core.Bool.{true, false}
 use mathlib.Core.List.{List, [], _∷_, _++_}
 use mathlib.Core.Logic.{inl, inr}
 use Prim.Native.Nat.{ℕ, suc, _+_, _-_, _≤_, _<_}
 use native.Mathlib.Omega.{arith}
 use native.Mathlib.Decide.{decLt, ℕ-discrete}
-use borrow.Author.Tests.{le-leb, lt-leb, lt-ltb, le-ltb}
-use lib.Dec.{ltb, leb, lit<}
+use borrow.Author.Tests.{le-leb}
+use lib.Dec.{lit<}
 use lib.IntN.{ℤ, pos, negsuc}
-use lib.ListN.{length, getD, length-set, length-append, List·getD-append, List·getD-eq-default}
+use lib.ListN.{length, getD, length-set, length-append, List·getD-append}
 use lib.Seq.{getD-set-same, getD-set-other, getD-append-add}
 use Rattle.variants_and_fragments.specs.declared.Sizes.{Sizes}
 use Rattle.variants_and_fragments.specs.Refusals.{done}
@@ -35,10 +35,6 @@ use Rattle.late_reads.proofs.Apart.{memb-cases, memb-place, place-top, 
 use Rattle.late_reads.proofs.OneChanged.{roomAs, Keeps, Changed, sizes-after, sized-after}
 use Rattle.late_reads.proofs.AcceptedAfter.{accepted-changed}
 use Rattle.late_reads.proofs.DecodedAfter.{decoded-changed}
-
--- no number is past n and no more than it
-none-past : (n x : ℕ) → (ltb n x && leb x n) ≡ false
-none-past n x = elim (decLt n x) [ yes h ↦ rw (lt-ltb n x h, lt-leb x n h) refl | no h ↦ rw (le-ltb n x (omega arith)) refl ]
 
 -- ---- records rs put before the free ones
 module _ (w : List ℤ) (s : Sizes) where
@@ -64,8 +60,8 @@ module _ (w : List ℤ) (s : Sizes) where
       let last = callAt s (getD (r ∷ rs) (length rs) 0) + nextField in
       let inside : callAt s (getD (r ∷ rs) (length rs) 0) + callWords ≤ length w = rw q at room in
       rw q (
-        getD-set-other (callSet w s (getD (r ∷ rs) (length rs) 0) nextField (pos (s .free))) freeField last (pos r) (pos 0) (λ z. omega arith)
-        ∙ getD-set-same w last (pos (s .free)) (pos 0) (omega arith))
+      getD-set-other (callSet w s (getD (r ∷ rs) (length rs) 0) nextField (pos (s .free))) freeField last (pos r) (pos 0) (λ z. omega arith)
+      ∙ getD-set-same w last (pos (s .free)) (pos 0) (omega arith))
 
   freed-free : (rs l : List ℕ) → freeField < length w → natAt w freeField ≡ getD l 0 0 → natAt (freedWords w s rs) freeField ≡ getD (rs ++ l) 0 0
   unfolding freedWords
@@ -209,7 +205,9 @@ module _ {w : List ℤ} {s : Sizes} (k : CaseIn w s) (f : ℕ) (l : f < s .f) wh
     rest-is = rest-is;
     nexts = rest-right;
     once = rest-once;
-    has = λ x. sym (rw (none-past (s .used) x) (or-false (memb x rest)));
+    only = λ x m. inl m;
+    had = λ x m. m;
+    since = λ x a b. absurd (omega arith);
   }
 
 -- ---- the case after a departure

@@ -10,6 +10,8 @@ pub mod CountRuns
 pub mod ReadCalls
 pub mod Distinct
 pub mod WordsAfter
+pub mod Room
+pub mod Apart
 pub mod OneChanged
 pub mod AcceptedAfter
 pub mod DecodedAfter

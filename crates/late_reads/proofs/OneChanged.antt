@@ -4,15 +4,14 @@
 -- record is in a chain.
 -- Assumes nothing.
 use mathlib.Core.Path.{_≡_, refl, sym, ap, _∙_}
-use mathlib.Core.Bool.{Bool, true, false, _&&_, _||_}
+use mathlib.Core.Bool.{true}
 use mathlib.Core.List.{List, _++_}
 use mathlib.Core.Logic.{_⊎_, inl, inr}
-use Prim.Native.Nat.{ℕ, zero, suc, _+_, _≤_, _<_}
-use native.Mathlib.Nat.{le-refl}
+use Prim.Native.Nat.{ℕ, suc, _+_, _≤_, _<_}
 use native.Mathlib.Omega.{arith}
 use native.Mathlib.Decide.{decLt, ℕ-discrete}
-use borrow.Author.Tests.{leb-true, ltb-true, lt-ltb, le-leb}
-use lib.Dec.{leb, ltb}
+use borrow.Author.Tests.{leb-true}
+use lib.Dec.{leb}
 use lib.IntN.{ℤ, pos, negsuc}
 use lib.ListN.{length, getD}
 use lib.Signed.{leZ}
@@ -62,7 +61,9 @@ pub record Changed (w w' : List ℤ) (s : Sizes) (u v f : ℕ) (own rest : List 
   pub nexts : (x : ℕ) → memb x rest ≡ true → nextOk w' (roomAs s u v) x ≡ true
   -- no record comes twice, and they are those that f and the free chain had, and those used since
   pub once : distinct (own ++ rest) ≡ true
-  pub has : (x : ℕ) → memb x (own ++ rest) ≡ (memb x (chainOf w s f ++ freeChain w s) || (ltb (s .used) x && leb x u))
+  pub only : (x : ℕ) → memb x (own ++ rest) ≡ true → (memb x (chainOf w s f ++ freeChain w s) ≡ true) ⊎ ((s .used < x) × (x ≤ u))
+  pub had : (x : ℕ) → memb x (chainOf w s f ++ freeChain w s) ≡ true → memb x (own ++ rest) ≡ true
+  pub since : (x : ℕ) → s .used < x → x ≤ u → memb x (own ++ rest) ≡ true
 
 -- a first call that is past the records used is −1
 past-none : (u : ℕ) (z : ℤ) → within (negsuc 0) (pos u) z ≡ true → u < natOf z → natOf z ≡ none
@@ -183,12 +184,12 @@ module _ {w w' : List ℤ} {s : Sizes} {u v f : ℕ} {own rest : List ℕ} (k : 
 
   -- a record of f's or of the free chain is in no other chain
   others-apart : (g x : ℕ) → g < s .f → (g ≡ f → ⊥) → memb x (own ++ rest) ≡ true → memb x (chainOf w s g) ≡ true → ⊥
-  others-apart g x l other m n = elim (or-cases (memb x (chainOf w s f ++ freeChain w s)) _ (sym (changed .has x) ∙ m)) [
+  others-apart g x l other m n = elim (changed .only x m) [
     | inl h ↦ elim (memb-cases x (chainOf w s f) (freeChain w s) h) [
       | inl a ↦ chains-apart k g f x l (changed .inside) other n a
       | inr a ↦ free-apart k g x l a n
     ]
-    | inr h ↦ let past = ltb-true (s .used) x (both (ltb (s .used) x) (leb x u) h .0) in omega (arith, chain-record w s g x n .1)
+    | inr h ↦ omega (arith, h .0, chain-record w s g x n .1)
   ]
 
   -- what is in a chain now
@@ -255,21 +256,17 @@ module _ {w w' : List ℤ} {s : Sizes} {u v f : ℕ} {own rest : List ℕ} (k : 
     | inr h ↦ or-right (memb x (reached w' later (s .f))) (memb x (freeChain w' later)) (rw (changed .rest-is) h)
   ]
 
-  -- those that f and the free chain had
-  had : (x : ℕ) → memb x (chainOf w s f ++ freeChain w s) ≡ true → inChain w' later x ≡ true
-  had x m = both-have x (changed .has x ∙ rw m)
-
   pub whole-after : (x : ℕ) → 1 ≤ x → x ≤ u → inChain w' later x ≡ true
   unfolding inChain isReached
   whole-after x lo hi = elim (decLt (s .used) x) [
-    | yes l ↦ both-have x (changed .has x ∙ or-right (memb x (chainOf w s f ++ freeChain w s)) (ltb (s .used) x && leb x u) (rw (lt-ltb (s .used) x l, le-leb x u hi)))
+    | yes l ↦ both-have x (changed .since x l hi)
     | no l ↦ elim (or-cases (memb x (reached w s (s .f))) (memb x (freeChain w s)) (k .free-in .whole x lo (omega arith))) [
       | inl m ↦
           let g = reached-where w s (s .f) x m in
           elim (ℕ-discrete (g .0) f) [
-            | yes e ↦ had x (memb-left x (chainOf w s f) (freeChain w s) (rw e at (g .2)))
+            | yes e ↦ both-have x (changed .had x (memb-left x (chainOf w s f) (freeChain w s) (rw e at (g .2))))
             | no e ↦ chain-has (g .0) x (g .1) (rw (chain-same k (changed .keeps) (g .0) (g .1) e) (g .2))
           ]
-      | inr m ↦ had x (memb-right x (chainOf w s f) (freeChain w s) m)
+      | inr m ↦ both-have x (changed .had x (memb-right x (chainOf w s f) (freeChain w s) m))
     ]
   ]
