@@ -60,7 +60,7 @@ tests-past w s t f strand calls ok =
         strand-in = a .1;
         below = ltb-true _ _ (b .0);
         absent = not-on _ (b .1);
-        room = leb-true _ _ (h5 .0);
+        fits = leb-true _ _ (h5 .0);
       },
     )
 

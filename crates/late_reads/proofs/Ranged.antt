@@ -130,7 +130,7 @@ module _ {w : List ℤ} {s : Sizes} {phase haps : List ℕ} {lent : Values} (kep
     read h = likelihoodOn (fixedAt w phase haps) (arrivingRead strand calls) h
 
     read-in : (h : ℕ) → DownTo (2 ^ 40) (read h)
-    read-in h = down-more (2 ^ 32) (2 ^ 40) (read h) (omega arith) (arriving-down arriving (fixedAt w phase haps) h (kept .ready .case-in .sized))
+    read-in h = down-more (2 ^ 32) (2 ^ 40) (read h) (omega arith) (arriving-down arriving (fixedAt w phase haps) h (kept .ready .case-in))
 
     pub arrival : Updating s (arrivedAt w s phase haps lent f strand calls) (lent .total +ℤ mixOf (read 0) (read 1)) (countsArrived (cutoffAt w) (s .n) (arrivingRead strand calls) (lent .counts))
     unfolding arrived

@@ -11,7 +11,7 @@ use borrow.Author.Tests.{ne-eqb, ltb-true}
 use lib.IntN.{ℤ}
 use Rattle.variants_and_fragments.specs.declared.Sizes.{Sizes}
 use Rattle.variants_and_fragments.specs.Case.{Call}
-use Rattle.variants_and_fragments.specs.Chain.{chainFrom}
+use Rattle.variants_and_fragments.specs.Chain.{linkOk, chainFrom}
 use Rattle.variants_and_fragments.specs.Decode.{tabulateFrom, callFrom, fragmentFrom}
 use Rattle.variants_and_fragments.specs.Layout.{alleleCountAt, callVariantAt, variantField, alleleField, cutoffAt, callOk}
 use Rattle.variants_and_fragments.specs.Words.{below, natOf}
@@ -89,7 +89,7 @@ module _ (calls : List ℤ) where
   arriving-out = table-end (arrivingCall calls) (wholeCalls calls)
 
 -- ---- a fragment
-linked-rising : (w : List ℤ) (s : Sizes) → VariantsIn w s → (b : ℕ) {r : ℕ} {rs : List ℕ} → Linked w s r rs → (1 ≤ r → b ≤ callVariantAt w s r) → allb (callOk w s) rs ≡ true → Rising (s .n) b (map (callFrom w s) rs)
+linked-rising : (w : List ℤ) (s : Sizes) → VariantsIn w s → (b : ℕ) {r : ℕ} {rs : List ℕ} → Linked w s (linkOk w s) r rs → (1 ≤ r → b ≤ callVariantAt w s r) → allb (callOk w s) rs ≡ true → Rising (s .n) b (map (callFrom w s) rs)
 unfolding allb callFrom
 linked-rising w s vs b ends low ok = none
 linked-rising w s vs b (goes {r} {rs} lo hi link l) low ok =
@@ -136,7 +136,7 @@ chain-turn {w} {s} {k} {r} f {held = held} step i l e g c q z =
     let h = read-here w s r step held e g in
     let some = h .some in
     record {
-      left-is = rw (h .next-is) (ap (map (callFrom w s)) (chain-step w s k r l (omega arith) (i .r-top)));
+      left-is = rw (h .next-is) (ap (map (callFrom w s)) (chain-step w s (s .c) k r l (omega arith) (i .r-top)));
       counted-is = c .is x call (sym z) (h .call-is) ∙ ap (λ (y : ℤ). countedCall y x call) q;
       on = onward-next i l some (step .next) (h .next-is);
     }

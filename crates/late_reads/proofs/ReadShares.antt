@@ -17,7 +17,7 @@ use Rattle.variants_and_fragments.specs.Layout.{lowestQuality, variantField, al
 use Rattle.variants_and_fragments.specs.Pileup.{only, usableCalls}
 use Rattle.variants_and_fragments.specs.Sums.{sumOver, sumTo}
 use Rattle.variants_and_fragments.specs.Words.{within, below, natOf}
-use Rattle.variants_and_fragments.specs.Inner.Layout.{Sized}
+use Rattle.variants_and_fragments.specs.Inner.Accepted.{CaseIn}
 use Rattle.variants_and_fragments.specs.Inner.Sums.{DownTo}
 use Rattle.variants_and_fragments.proofs.Bools.{both}
 use Rattle.variants_and_fragments.proofs.Bounds.{down-zero, down-more, down-add}
@@ -32,6 +32,7 @@ use Rattle.likelihoods.proofs.SweepCases.{likelihood-sum, cond-down}
 use Rattle.late_reads.specs.Arriving.{wholeCalls, arrivingWord, arrivingCall, arrivingRead, arrivingOk}
 use Rattle.late_reads.specs.Values.{Fixed, likelihoodOn}
 use Rattle.late_reads.specs.Inner.Ready.{Arriving, shareOn}
+use Rattle.late_reads.proofs.Room.{room-top}
 
 -- ---- a likelihood is a sum over the calls
 one-more : {X : Type 0} (t : Bool) (x : X) (xs : List X) (g : X → ℤ) (rest : ℤ) → sumOver xs g ≡ rest → sumOver (cond t (x ∷ xs) xs) g ≡ cond t (g x) (pos 0) +ℤ rest
@@ -136,10 +137,10 @@ module _ {w : List ℤ} {s : Sizes} {f : ℕ} {strand : ℤ} {calls : List ℤ} 
       down-more (262144 * i + 262144) (262144 * suc i) _ (omega arith)
       (down-add (262144 * i) 262144 _ _ (some-down fixed h i (omega arith)) (share-down fixed _ h _ (c .qual-in) (c .one-minus-qual-in)))
 
-  pub arriving-few : Sized w s → wholeCalls calls ≤ 16384
-  arriving-few sized = omega (arith, arriving .room, sized .c-top)
+  pub arriving-few : CaseIn w s → wholeCalls calls ≤ 16384
+  arriving-few case = omega (arith, arriving .fits, room-top case, case .sized .c-top)
 
-  pub arriving-down : (fixed : Fixed) (h : ℕ) → Sized w s → DownTo (2 ^ 32) (likelihoodOn fixed (arrivingRead strand calls) h)
-  arriving-down fixed h sized =
+  pub arriving-down : (fixed : Fixed) (h : ℕ) → CaseIn w s → DownTo (2 ^ 32) (likelihoodOn fixed (arrivingRead strand calls) h)
+  arriving-down fixed h case =
       rw (arriving-sum strand calls fixed h)
-      (down-more (262144 * wholeCalls calls) (2 ^ 32) _ (omega (arith, arriving-few sized)) (some-down fixed h (wholeCalls calls) (omega arith)))
+      (down-more (262144 * wholeCalls calls) (2 ^ 32) _ (omega (arith, arriving-few case)) (some-down fixed h (wholeCalls calls) (omega arith)))

@@ -6,7 +6,7 @@ use mathlib.Core.List.{List}
 use Prim.Native.Nat.{ℕ, _+_, _*_}
 use native.Mathlib.Omega.{arith}
 use borrow.Author.Needs.{needs}
-use borrow.Author.Tests.{le-leb, lt-leb, lt-ltb, le-ltb}
+use borrow.Author.Tests.{lt-ltb, le-ltb, not-true, not-false}
 use denote.Ref.{now}
 use mir.Syntax.{w32}
 use mir.Val.{SFits}
@@ -21,7 +21,7 @@ use Rattle.variants_and_fragments.specs.First.{firstFail}
 use Rattle.variants_and_fragments.specs.Refusals.{Outcome, refused, done, unless, each}
 use Rattle.variants_and_fragments.specs.Words.{natOf, within}
 use Rattle.variants_and_fragments.proofs.Outcomes.{unless-on, unless-at, each-on, each-at}
-use Rattle.late_reads.specs.Arriving.{arrivingWords, wholeCalls, arrivingRises}
+use Rattle.late_reads.specs.Arriving.{arrivingWords, wholeCalls, arrivingRises, room}
 use Rattle.late_reads.specs.Inner.Ready.{arrivingTests}
 use Rattle.late_reads.proofs.ArrivalTests.{length-and-strand}
 use Rattle.late_reads.proofs.arriving.arriving_fault.Statement.{statement}
@@ -51,7 +51,7 @@ tests st = arrivingTests (W st) (S st) (F st) (Strand st) (Calls st)
 
 -- ---- what is left of the outcome past each test, from the last one back
 abbrev roomLine : tie.Start → Outcome Sizes
-roomLine st = unless (leb (S st .used + M st) (S st .c)) 14 (M st) (done (S st))
+roomLine st = unless (leb (M st) (length (room (W st) (S st)))) 14 (M st) (done (S st))
 
 abbrev absentLine : tie.Start → Outcome Sizes
 absentLine st = unless (ltb (F st) (S st .f) && not (presentAt (W st) (S st) (F st))) 13 (F st) (roomLine st)
@@ -158,22 +158,20 @@ returns-5 c =
     let st = st5 p in
     unless-at _ 13 _ _ (rw (lt-ltb (F st) (S st .f) (p .before .if4 .left), sym (p .is-present .ensures) ∙ c .if5 .taken)) ∙ after-strand (p .before .before .before)
 
-sub-if6 : tie.Need-sub-if6
-sub-if6 c = search needs
+has-room-requires : tie.Need-has-room-requires
+has-room-requires c κs = search needs
 
 returns-6 : tie.Need-returns-6
 unfolding outcomeOf
 returns-6 c =
-    let e = c .before .before in
-    let st = st5 (e .before) in
-    unless-at _ 14 _ _ (lt-leb (S st .used + M st) (S st .c) (omega (arith, c .if6 .taken))) ∙ after-absent e
+    let h = c .before in
+    unless-at _ 14 _ _ (sym (h .has-room .ensures) ∙ not-true _ (c .if6 .taken)) ∙ after-absent (h .before)
 
 returns-7 : tie.Need-returns-7
 unfolding outcomeOf
 returns-7 c =
-    let e = c .before .before in
-    let st = st5 (e .before) in
-    unless-on _ 14 _ _ (le-leb (S st .used + M st) (S st .c) (omega (arith, c .if6 .left, st .pre .sized .used-top))) ∙ after-absent e
+    let h = c .before in
+    unless-on _ 14 _ _ (sym (h .has-room .ensures) ∙ not-false _ (c .if6 .left)) ∙ after-absent (h .before)
 
 pub arriving-fault-spec : {M : Type 1} → statement M
 arriving-fault-spec =
@@ -189,6 +187,6 @@ arriving-fault-spec =
     returns-4
     is-present-requires
     returns-5
-    sub-if6
+    has-room-requires
     returns-6
     returns-7)

@@ -36,7 +36,7 @@ abbrev count : tie.Start Inv-loop μ-loop → ℕ
 count s = wholeCalls (now (s .args .calls))
 
 few : (s : tie.Start Inv-loop μ-loop) → count s ≤ 16384
-few s = arriving-few (s .pre .1) (s .pre .0 .case-in .sized)
+few s = arriving-few (s .pre .1) (s .pre .0 .case-in)
 
 loop-holds : tie.Need-loop-holds Inv-loop μ-loop
 loop-holds c = let s = c .before .before in (running-start (shares s 0) top (count s), running-start (shares s 1) top (count s))
