@@ -8,11 +8,11 @@ use mathlib.Core.Logic.{_⊎_, inl, inr}
 use Prim.Native.Nat.{ℕ, zero, suc, _≤_, _<_}
 use native.Mathlib.Nat.{le-refl}
 use native.Mathlib.Omega.{arith}
-use native.Mathlib.Decide.{decLt, ℕ-discrete}
+use native.Mathlib.Decide.{ℕ-discrete}
 use borrow.Author.Tests.{eq-eqb, ne-eqb}
 use lib.Dec.{eqb}
 use lib.IntN.{ℤ}
-use lib.ListN.{length, getD, List·getD-eq-default}
+use lib.ListN.{length, getD}
 use Rattle.variants_and_fragments.specs.declared.Sizes.{Sizes}
 use Rattle.variants_and_fragments.specs.Chain.{nextCallAt, chainFrom, chainOf, freeChain, memb, reached, goodChain}
 use Rattle.variants_and_fragments.specs.Inner.Accepted.{allb, CaseIn}
@@ -21,6 +21,7 @@ use Rattle.variants_and_fragments.proofs.Free.{chains-distinct, chains-within}
 use Rattle.variants_and_fragments.proofs.Linked.{Linked, linked-by, linked-fuel}
 use Rattle.variants_and_fragments.proofs.Pigeon.{distinct, Within, none, more, pigeon, within-memb, memb-append, memb-left, distinct-left, reached-ok, reached-has}
 use Rattle.late_reads.proofs.Distinct.{memb-at}
+use Rattle.late_reads.proofs.Room.{place-in}
 
 -- ---- members
 pub or-cases : (a b : Bool) → (a || b) ≡ true → (a ≡ true) ⊎ (b ≡ true)
@@ -42,13 +43,9 @@ memb-place (y ∷ l) x h = elim (ℕ-discrete x y) [
   | no n ↦ let i = memb-place l x (rw (ne-eqb x y n) at h) in (suc (i .0), omega (arith, i .1), i .2)
 ]
 
--- what is not 0 stands within the list
-pub some-place : (l : List ℕ) (i : ℕ) → (getD l i 0 ≡ 0 → ⊥) → i < length l
-some-place l i n = elim (decLt i (length l)) [ yes h ↦ h | no h ↦ absurd (n (List·getD-eq-default l 0 {n = i} (omega arith))) ]
-
 -- what stands at a place, or 0 past the end, is no more than the members are
 pub place-top : (l : List ℕ) (i : ℕ) {c : ℕ} → ((x : ℕ) → memb x l ≡ true → x ≤ c) → getD l i 0 ≤ c
-place-top l i each = elim (ℕ-discrete (getD l i 0) 0) [ yes e ↦ omega arith | no e ↦ each (getD l i 0) (memb-at l i (some-place l i e)) ]
+place-top l i each = elim (ℕ-discrete (getD l i 0) 0) [ yes e ↦ omega arith | no e ↦ each (getD l i 0) (memb-at l i (place-in l i e)) ]
 
 -- what holds of all holds of each member
 pub memb-all : (p : ℕ → Bool) (l : List ℕ) (x : ℕ) → allb p l ≡ true → memb x l ≡ true → p x ≡ true
@@ -157,9 +154,6 @@ module _ {w : List ℤ} {s : Sizes} (k : CaseIn w s) where
 
   pub chains-apart : (g h x : ℕ) → g < s .f → h < s .f → (g ≡ h → ⊥) → memb x (chainOf w s g) ≡ true → memb x (chainOf w s h) ≡ true → ⊥
   chains-apart g h x l m other = each-apart w s (s .f) g h x all-distinct l m other
-
-  pub free-distinct : distinct (freeChain w s) ≡ true
-  free-distinct = distinct-left (freeChain w s) (reached w s (s .f)) (chains-distinct k)
 
   pub free-apart : (g x : ℕ) → g < s .f → memb x (freeChain w s) ≡ true → memb x (chainOf w s g) ≡ true → ⊥
   free-apart g x l a b = distinct-apart (freeChain w s) (reached w s (s .f)) (chains-distinct k) x a (reached-has w s x g (s .f) l b)

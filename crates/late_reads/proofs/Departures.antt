@@ -31,7 +31,8 @@ use Rattle.variants_and_fragments.proofs.Accepted.{Passed, passed, checked-in}
 use Rattle.late_reads.specs.Values.{exchanged}
 use Rattle.late_reads.specs.Arriving.{freedWords, departedWords}
 use Rattle.late_reads.proofs.Distinct.{memb-at, distinct-at}
-use Rattle.late_reads.proofs.Apart.{memb-cases, memb-place, place-top, distinct-join, chain-by, chain-distinct, free-distinct, free-apart, free-record, chains-apart}
+use Rattle.late_reads.proofs.Room.{free-distinct}
+use Rattle.late_reads.proofs.Apart.{memb-cases, memb-place, place-top, distinct-join, chain-by, chain-distinct, free-apart, free-record, chains-apart}
 use Rattle.late_reads.proofs.OneChanged.{roomAs, Keeps, Changed, sizes-after, sized-after}
 use Rattle.late_reads.proofs.AcceptedAfter.{accepted-changed}
 use Rattle.late_reads.proofs.DecodedAfter.{decoded-changed}

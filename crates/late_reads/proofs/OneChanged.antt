@@ -28,8 +28,9 @@ use Rattle.variants_and_fragments.proofs.Ranges.{below-less}
 use Rattle.variants_and_fragments.proofs.Chain.{link-top, link-end, link-in, record-none, record-some, record-chain, chain-record}
 use Rattle.variants_and_fragments.proofs.Linked.{Linked, linked-fuel, linked-first, linked-in, linked-right, linked-next, linked-by, chain-linked, chain-length}
 use Rattle.variants_and_fragments.proofs.Pigeon.{distinct, distinct-left, memb-left, reached-has}
-use Rattle.late_reads.proofs.Apart.{or-cases, memb-cases, memb-right, memb-place, memb-all, some-place, distinct-right, distinct-apart, good-by, reached-where, chain-distinct, chains-apart, free-apart}
+use Rattle.late_reads.proofs.Apart.{or-cases, memb-cases, memb-right, memb-place, memb-all, distinct-right, distinct-apart, good-by, reached-where, chain-distinct, chains-apart, free-apart}
 use Rattle.late_reads.proofs.Distinct.{memb-at}
+use Rattle.late_reads.proofs.Room.{place-in}
 
 -- the sizes with `used` records used, `free` the first free one
 abbrev pub roomAs : Sizes → ℕ → ℕ → Sizes
@@ -142,7 +143,7 @@ module _ {w w' : List ℤ} {s : Sizes} {u v f : ℕ} (k : CaseIn w s) (keeps : K
           | yes e ↦ sym (link-end w' after r sized-after (same ∙ e))
           | no e ↦
               let along : t ≡ getD (chainOf w s g) (suc i) 0 = linked-next linked i l in
-              let there : memb t (chainOf w s g) ≡ true = rw along (memb-at (chainOf w s g) (suc i) (some-place (chainOf w s g) (suc i) (λ z. e (along ∙ z)))) in
+              let there : memb t (chainOf w s g) ≡ true = rw along (memb-at (chainOf w s g) (suc i) (place-in (chainOf w s g) (suc i) (λ z. e (along ∙ z)))) in
               let top : t ≤ s .used = link-top w s r right in
               let low = keeps .low in
               sym (link-in w' after r sized-after (λ z. e (sym same ∙ z)) (omega arith))
