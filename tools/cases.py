@@ -49,7 +49,8 @@ def random_words(rng):
 
 # How many records are free, and how many unused: a number of either is drawn. Room for lists of arrivals and departures:
 # ample, and so little that they go over the same records again and again.
-ROOM, AMPLE, LITTLE = [(0, 0, 1, 5), (0, 1, 3, 8)], [(0, 0, 1, 5), (0, 2, 8, 30)], [(0, 1, 3), (0, 0, 1, 2)]
+ROOM, NO_ROOM = [(0, 0, 1, 5), (0, 1, 3, 8)], [(0,), (0,)]
+AMPLE, LITTLE = [(0, 0, 1, 5), (0, 2, 8, 30)], [(0, 1, 3), (0, 0, 1, 2)]
 
 
 def random_records(rng, case, room=ROOM):
@@ -224,14 +225,14 @@ def random_update(rng, standing):
 
 
 class Trial:
-    """A case, and the parts of every operation on it; `places` is the seed of its records' places (None: in order), orders
-    are a list of orders, `extra` is the room that every output slice has past its need, `late` the seed of its arrivals
-    and departures."""
+    """A case, and the parts of every operation on it; `places` is the seed of its records' places (None: in order), `room`
+    says how many more records there are, orders are a list of orders, `extra` is the room that every output slice has past
+    its need, `late` the seed of its arrivals and departures."""
 
     def __init__(self, rng, case, phase=None):
         n = len(case.variants)
         self.case = with_absent(rng, case)
-        self.places = rng.getrandbits(64) if rng.random() < 0.5 else None
+        self.places, self.room = rng.getrandbits(64) if rng.random() < 0.5 else None, ROOM
         self.rates = random_rates(rng)
         self.phase = phase or [rng.choice([48, 49, 48, 49, 45, 0]) for _ in range(n)]
         self.sets = [rng.randrange(-1, n) for _ in range(n)]
@@ -263,7 +264,7 @@ class Trial:
 
     def encoded(self):
         """The words and bases of the case."""
-        placed = {} if self.places is None else random_records(random.Random(self.places), self.case)
+        placed = {} if self.places is None else random_records(random.Random(self.places), self.case, self.room)
         return encode(self.case, **placed)
 
     def requests(self, words):

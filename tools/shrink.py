@@ -1,6 +1,7 @@
 """Makes a trial smaller as long as it still shows a difference."""
 import copy
 
+from cases import NO_ROOM
 from model import Case, Fragment
 
 GROUP = 16
@@ -45,6 +46,11 @@ def in_order(trial, _):
     trial.places = None
 
 
+def without_room(trial, _):
+    """No record is free or unused."""
+    trial.room = NO_ROOM
+
+
 def plain(trial, _):
     trial.extra = 0
 
@@ -56,6 +62,8 @@ def steps(trial):
              (without_calls, calls), (without_orders, len(trial.orders) - 1)]
     if trial.places is not None:
         yield in_order, ()
+        if trial.room != NO_ROOM:
+            yield without_room, ()
     if trial.extra:
         yield plain, ()
     size = max(count for _, count in parts)
