@@ -69,8 +69,7 @@ loop-again c =
     let l = c .before .before .before in
     let s = st l .args .s in
     let p = place l (c .before .if1 .left) in
-    let e : l .loop .i + 1 - (s .c - s .used) ≡ suc (l .loop .i - (s .c - s .used)) = omega (arith, l .loop .inv .0) in
-    (
+    let e : l .loop .i + 1 - (s .c - s .used) ≡ suc (l .loop .i - (s .c - s .used)) = omega (arith, l .loop .inv .0) in (
       omega (arith, l .loop .inv .0),
       omega (arith, p, l .loop .inv .0, room-length (st l .args .words .now) s),
       c .next-call .ensures ∙ rw (l .loop .inv .2, e) (linked-next (free-linked (st l .pre)) _ p),
