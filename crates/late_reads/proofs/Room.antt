@@ -2,14 +2,13 @@
 -- (`leftAt`) has record i at its front, and without that it is what is left after i + 1: the calls before i are laid in other records, so that the
 -- free record at hand keeps its next. They are distinct ones of the case, C at most.
 -- Assumes nothing.
-use mathlib.Core.Path.{_≡_, refl, sym, ap, _∙_}
-use mathlib.Core.Bool.{Bool, true, cond}
+use mathlib.Core.Path.{_≡_, sym, ap, _∙_}
+use mathlib.Core.Bool.{Bool, true}
 use mathlib.Core.List.{List}
-use Prim.Native.Nat.{ℕ, suc, _+_, _-_, _≤_, _<_, min}
+use Prim.Native.Nat.{ℕ, suc, _+_, _-_, _≤_, _<_}
 use native.Mathlib.Omega.{arith}
 use native.Mathlib.Decide.{decLt}
 use borrow.Author.Tests.{eq-eqb, ne-eqb}
-use lib.Dec.{eqb}
 use lib.IntN.{ℤ}
 use lib.ListN.{length, getD, take, length-append, length-take, List·getD-append, List·getD-eq-default}
 use lib.Seq.{getD-append-add, getD-take, length-take-le}
@@ -22,7 +21,6 @@ use Rattle.variants_and_fragments.proofs.Decoded.{tabulate-length, tabulate-at}
 use Rattle.variants_and_fragments.proofs.Free.{free-linked, chains-distinct, free-length}
 use Rattle.variants_and_fragments.proofs.Linked.{Linked, linked-first, linked-in, linked-next}
 use Rattle.variants_and_fragments.proofs.Pigeon.{distinct, distinct-left}
-use Rattle.late_reads.specs.declared.words.Left.{Left}
 use Rattle.late_reads.specs.Arriving.{unusedRecords, room, taken, callsLaid}
 use Rattle.late_reads.specs.Inner.Room.{frontOf, restOf, leftAt}
 use Rattle.late_reads.proofs.Distinct.{distinct-at, distinct-by, distinct-take}
@@ -102,6 +100,12 @@ module _ {w : List ℤ} {s : Sizes} (k : CaseIn w s) where
   pub taken-in : (m : ℕ) → m ≤ length (room w s) → (i : ℕ) → i < length (taken w s m) → (1 ≤ getD (taken w s m) i 0) × (getD (taken w s m) i 0 ≤ s .c)
   taken-in m h i l = let n = taken-length w s m h in rw (taken-at w s m i (omega arith)) (room-in i (omega arith))
 
+  pub taken-top : (m : ℕ) → m ≤ length (room w s) → (i : ℕ) → getD (taken w s m) i 0 ≤ s .c
+  taken-top m h i = elim (decLt i m) [
+    | yes l ↦ taken-in m h i (omega (arith, taken-length w s m h)) .1
+    | no l ↦ omega (arith, taken-past w s m i (omega arith))
+  ]
+
   -- ---- what is left
   pub left-start : record { free = s .free; used = s .used } ≡ leftAt w s 0
   unfolding leftAt
@@ -147,19 +151,12 @@ module _ {w : List ℤ} {s : Sizes} (k : CaseIn w s) where
   ]
 
   -- ---- while m calls are laid in the first m of them
-  module _ (calls : List ℤ) (m : ℕ) (fits : m ≤ length (room w s)) (i : ℕ) (more : i < m) where
+  module _ (m : ℕ) (fits : m ≤ length (room w s)) (i : ℕ) (more : i < m) where
     pub taken-front : frontOf (leftAt w s i) ≡ getD (taken w s m) i 0
     taken-front = front-is i (omega arith) ∙ sym (taken-at w s m i more)
 
-    -- the link of the record
-    pub taken-next : cond (eqb (i + 1) m) 0 (frontOf (leftAt w s (suc i))) ≡ getD (taken w s m) (suc i) 0
-    taken-next = elim (decLt (suc i) m) [
-      | yes l ↦ rw (ne-eqb (i + 1) m (λ e. omega arith)) (front-is (suc i) (omega arith) ∙ sym (taken-at w s m (suc i) l))
-      | no l ↦ rw (eq-eqb (i + 1) m (omega arith)) (sym (taken-past w s m (suc i) (omega arith)))
-    ]
-
-    pub taken-rest : restOf (callsLaid w s calls (taken w s m) i) s (leftAt w s i) ≡ leftAt w s (suc i)
-    taken-rest = rest-is (callsLaid w s calls (taken w s m) i) i (λ l.
+    pub taken-rest : (calls : List ℤ) → restOf (callsLaid w s calls (taken w s m) i) s (leftAt w s i) ≡ leftAt w s (suc i)
+    taken-rest calls = rest-is (callsLaid w s calls (taken w s m) i) i (λ l.
         let n = taken-length w s m fits in
         let r = getD (freeChain w s) i 0 in
         let here : getD (taken w s m) i 0 ≡ r = taken-at w s m i more ∙ room-free w s i l in

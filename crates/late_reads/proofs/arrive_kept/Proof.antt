@@ -117,7 +117,7 @@ count-arriving-requires c κs =
 lay-arrival-requires : tie.Need-lay-arrival-requires
 lay-arrival-requires c κs =
     let s = origin (c .before .before .before .before .before .before .before .before) in
-    (s .pre .0 .ready .case-in .sized, s .pre .1)
+    (s .pre .0 .ready .case-in, s .pre .1)
 
 same-length-4 : tie.Need-same-length-4
 same-length-4 c = search needs

@@ -14,7 +14,6 @@ use mir.Val.{toZ, ofZ}
 use Rattle.steps.specs.Logs.{mixOf}
 use Rattle.steps.proofs.Signed.{read-small}
 use Rattle.variants_and_fragments.specs.Words.{within}
-use Rattle.late_reads.specs.Arriving.{departedWords}
 use Rattle.late_reads.specs.Values.{lowestTotal, departed}
 use Rattle.late_reads.proofs.Moved.{times-less}
 use Rattle.late_reads.proofs.Ranged.{total-small, likelihood-small, counts-in, refuses-total, refuses-counts, updates, same-slices, same-mix, departure}
@@ -141,10 +140,10 @@ count-departing-requires c κs =
     let s = origin (c .before .before .before .before .before) in
     (s .pre .0 .ready .case-in, (s .pre .1 .0, (counts-in (s .pre .0), s .pre .0 .counts-long)))
 
-put-first-requires : tie.Need-put-first-requires
-put-first-requires c κs =
+lay-departure-requires : tie.Need-lay-departure-requires
+lay-departure-requires c κs =
     let s = origin (c .before .before .before .before .before .before .before .before) in
-    (s .pre .0 .ready .case-in .sized, s .pre .1 .0)
+    (s .pre .0 .ready .case-in, s .pre .1 .0)
 
 same-length-3 : tie.Need-same-length-3
 same-length-3 c = search needs
@@ -156,7 +155,7 @@ same-length-5 : tie.Need-same-length-5
 same-length-5 c = search needs
 
 returns-3 : tie.Need-returns-3
-unfolding departed departedWords
+unfolding departed
 returns-3 c =
     let gone = c .before in
     let counted = gone .before .before .before in
@@ -167,7 +166,7 @@ returns-3 c =
     let m = e .before .before in
     let s = start (shared m) in
     updates (departure (s .pre .0) (s .args .f) (s .pre .1 .0)) _ (rest-is m) (total-good e) (sym (a .departing-fits .ensures) ∙ not-false (a .departing-fits .result) (k .if2 .left))
-    (same-slices (gone .put-first .ensures) (put .put-likelihoods .ensures) (counted .count-departing .ensures))
+    (same-slices (gone .lay-departure .ensures) (put .put-likelihoods .ensures) (counted .count-departing .ensures))
 
 pub depart-kept-spec : {M : Type 1} → statement M
 depart-kept-spec =
@@ -191,7 +190,7 @@ depart-kept-spec =
     returns-2
     put-likelihoods-requires
     count-departing-requires
-    put-first-requires
+    lay-departure-requires
     same-length-3
     same-length-4
     same-length-5

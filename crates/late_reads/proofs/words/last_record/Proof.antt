@@ -3,11 +3,11 @@
 -- Assumes nothing.
 use mathlib.Core.Path.{_≡_, sym, ap, _∙_}
 use mathlib.Core.List.{List}
-use Prim.Native.Nat.{ℕ, suc, _+_, _-_, _≤_, _<_}
+use Prim.Native.Nat.{ℕ, suc, _+_, _-_, _≤_}
 use native.Mathlib.Omega.{arith}
 use borrow.Author.Needs.{needs}
 use lib.ListN.{length, getD}
-use Rattle.variants_and_fragments.specs.Chain.{linkOk, chainOf}
+use Rattle.variants_and_fragments.specs.Chain.{nextCallAt, linkOk, chainOf}
 use Rattle.variants_and_fragments.specs.Inner.Chain.{firstRecordAt}
 use Rattle.variants_and_fragments.proofs.Linked.{Linked, linked-first, linked-in, linked-next, chain-linked, chain-length}
 use Rattle.late_reads.proofs.Room.{place-in, place-end}
@@ -44,7 +44,10 @@ next-is : (c : tie.After-next-call Inv-loop μ-loop) → let l = c .before .befo
 next-is c =
     let l = c .before .before in
     let e : suc (l .loop .k - 1) ≡ l .loop .k = omega (arith, l .loop .inv .0) in
-    c .next-call .ensures ∙ rw (l .loop .inv .2) (rw e at (linked-next (linked (st l)) (l .loop .k - 1) (omega (arith, l .loop .inv .0, l .loop .inv .1))))
+    c .next-call .ensures
+    ∙ ap (nextCallAt (st l .args .words .now) (st l .args .s)) (l .loop .inv .2)
+    ∙ linked-next (linked (st l)) (l .loop .k - 1) (omega (arith, l .loop .inv .0, l .loop .inv .1))
+    ∙ ap (λ (i : ℕ). getD (chain (st l)) i 0) e
 
 add-k : tie.Need-add-k Inv-loop μ-loop
 add-k c = search needs
