@@ -102,7 +102,7 @@ pub fn lay_arrival(words: &mut [i32], s: Sizes, arrival: Arrival, calls: &[i32])
     put_free(words, left.free);
 }
 
-// The last record of fragment f's chain, which has one. At the loop's head last is the chain's k-th record.
+// The last record of fragment f's chain, which is not empty. At the loop's head last is the chain's k-th record.
 fn last_record(words: &[i32], s: Sizes, f: usize) -> usize
     requires { ⌜ CaseIn (now words) s ⌝ }
     requires { ⌜ (f < s .f) × (1 ≤ firstRecordAt (now words) s f) ⌝ }
