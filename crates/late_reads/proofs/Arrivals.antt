@@ -66,10 +66,10 @@ module _ {w : List ℤ} {s : Sizes} (k : CaseIn w s) (m : ℕ) (fits : m ≤ len
   abbrev v : ℕ
   v = getD (freeChain w s) m 0
 
-  rs-length : length rs ≡ m
+  pub rs-length : length rs ≡ m
   rs-length = taken-length w s m fits
 
-  used-high : u ≤ s .c
+  pub used-high : u ≤ s .c
   used-high = omega (arith, room-length w s, k .sized .used-top)
 
   rest-at : (i : ℕ) → getD rest i 0 ≡ getD (freeChain w s) (m + i) 0
@@ -92,7 +92,7 @@ module _ {w : List ℤ} {s : Sizes} (k : CaseIn w s) (m : ℕ) (fits : m ≤ len
         | no a ↦ let z = room-tail w s (i .0) (omega arith) (omega arith) in inr (omega arith, omega arith)
       ]
 
-  both-only : (x : ℕ) → memb x (rs ++ rest) ≡ true → (memb x (freeChain w s) ≡ true) ⊎ ((s .used < x) × (x ≤ u))
+  pub both-only : (x : ℕ) → memb x (rs ++ rest) ≡ true → (memb x (freeChain w s) ≡ true) ⊎ ((s .used < x) × (x ≤ u))
   both-only x h = elim (memb-cases x rs rest h) [ inl a ↦ rs-only x a | inr a ↦ inl (rest-free x a) ]
 
   both-in : (x : ℕ) → memb x (rs ++ rest) ≡ true → (1 ≤ x) × (x ≤ u)
@@ -105,7 +105,7 @@ module _ {w : List ℤ} {s : Sizes} (k : CaseIn w s) (m : ℕ) (fits : m ≤ len
   taken-has : (i : ℕ) → i < m → memb (getD (room w s) i 0) rs ≡ true
   taken-has i l = rw (← taken-at w s m i l) (memb-at rs i (omega (arith, rs-length)))
 
-  both-free : (x : ℕ) → memb x (freeChain w s) ≡ true → memb x (rs ++ rest) ≡ true
+  pub both-free : (x : ℕ) → memb x (freeChain w s) ≡ true → memb x (rs ++ rest) ≡ true
   both-free x h =
       let i = memb-place (freeChain w s) x h in
       let l = i .1 in
@@ -117,7 +117,7 @@ module _ {w : List ℤ} {s : Sizes} (k : CaseIn w s) (m : ℕ) (fits : m ≤ len
             memb-right x rs rest (rw e (memb-at rest j (omega (arith, length-drop m (freeChain w s)))))
       ]
 
-  both-since : (x : ℕ) → s .used < x → x ≤ u → memb x (rs ++ rest) ≡ true
+  pub both-since : (x : ℕ) → s .used < x → x ≤ u → memb x (rs ++ rest) ≡ true
   both-since x a b =
       let i = n + (x - s .used - 1) in
       let e : x ≡ getD (room w s) i 0 = sym (room-tail w s i (omega arith) (omega (arith, room-length w s)) ∙ omega arith) in
@@ -180,12 +180,12 @@ module _ {w : List ℤ} {s : Sizes} {f : ℕ} {strand : ℤ} {calls : List ℤ} 
   laid-long : length laid ≡ length w
   laid-long = laid-length w s calls own m
 
-  arrived-long : length w' ≡ length w
+  pub arrived-long : length w' ≡ length w
   unfolding arrivedWords
   arrived-long = simp length-set laid-long
 
   -- but for the four words set last, the words are those with the calls laid
-  arrived-other : (i : ℕ) → (i ≡ usedField → ⊥) → (i ≡ freeField → ⊥) → (i ≡ fragmentAt s f + firstField → ⊥) → (i ≡ fragmentAt s f + strandField → ⊥) → word w' i ≡ word laid i
+  pub arrived-other : (i : ℕ) → (i ≡ usedField → ⊥) → (i ≡ freeField → ⊥) → (i ≡ fragmentAt s f + firstField → ⊥) → (i ≡ fragmentAt s f + strandField → ⊥) → word w' i ≡ word laid i
   unfolding arrivedWords
   arrived-other i a b c d =
       getD-set-other w3 freeField i (pos free-then) (pos 0) b

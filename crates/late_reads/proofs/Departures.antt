@@ -84,16 +84,16 @@ module _ {w : List ℤ} {s : Sizes} (k : CaseIn w s) (f : ℕ) (l : f < s .f) wh
   v = getD (chainOf w s f ++ freeChain w s) 0 0
 
   -- ---- what stands at each place
-  departed-other : (i : ℕ) → (i ≡ fragmentAt s f + firstField → ⊥) → (i ≡ freeField → ⊥) → ((t : ℕ) → suc t ≡ length (chainOf w s f) → i ≡ callAt s (getD (chainOf w s f) t 0) + nextField → ⊥)
+  pub departed-other : (i : ℕ) → (i ≡ fragmentAt s f + firstField → ⊥) → (i ≡ freeField → ⊥) → ((t : ℕ) → suc t ≡ length (chainOf w s f) → i ≡ callAt s (getD (chainOf w s f) t 0) + nextField → ⊥)
       → word (departedWords w s f) i ≡ word w i
   unfolding departedWords
   departed-other i a b c = getD-set-other (freedWords w s chain) (fragmentAt s f + firstField) i (negsuc 0) (pos 0) a ∙ freed-other w s chain i b c
 
-  departed-long : length (departedWords w s f) ≡ length w
+  pub departed-long : length (departedWords w s f) ≡ length w
   unfolding departedWords
   departed-long = length-set (freedWords w s chain) (fragmentAt s f + firstField) (negsuc 0) ∙ freed-long w s chain
 
-  departed-first : fragmentWord (departedWords w s f) s f firstField ≡ negsuc 0
+  pub departed-first : fragmentWord (departedWords w s f) s f firstField ≡ negsuc 0
   unfolding departedWords
   departed-first = getD-set-same (freedWords w s chain) (fragmentAt s f + firstField) (negsuc 0) (pos 0) (omega (arith, k .sized .size, freed-long w s chain))
 
