@@ -31,12 +31,13 @@ extern "C" {
 /* The number of an answer; the comment says what its place is. */
 enum {
     CONDORBED_DONE = 0,          /* 0 */
-    CONDORBED_HEAD = 1,          /* word 0..4; 5: wrong length; 0: fewer than five words */
+    CONDORBED_HEAD = 1,          /* word 0..5; 6: wrong length; 0: fewer than six words */
     CONDORBED_VARIANT = 2,       /* variant; also of a haplotype lent as input that is not below k */
     CONDORBED_ALLELES = 3,       /* variant; N: wrong length */
     CONDORBED_CALL = 4,          /* call record, from 1; of an arriving call its index, from 0 */
-    CONDORBED_CHAIN = 5,         /* fragment; of an arriving call that does not rise its index, from 0; the number of
-                                    whole arriving calls: a broken length, or no such strand */
+    CONDORBED_CHAIN = 5,         /* fragment; F: the free chain, or a used record in no chain; of an arriving call that does
+                                    not rise its index, from 0; the number of whole arriving calls: a broken length, or no
+                                    such strand */
     CONDORBED_RATES = 6,         /* rate 0..5; 6: their sum */
     CONDORBED_PHASE = 7,         /* variant; N: wrong length */
     CONDORBED_ORDERS = 8,        /* order; 0: wrong length */
@@ -47,7 +48,7 @@ enum {
     CONDORBED_NORMALIZE = 12,    /* variant; proved never to happen */
     CONDORBED_FRAGMENT = 13,     /* the fragment's number: it is none, or an arriving one is present, or a departing one
                                     absent */
-    CONDORBED_NO_ROOM = 14       /* the number of arriving calls: there are fewer unused records */
+    CONDORBED_NO_ROOM = 14       /* the number of arriving calls: free and unused records together are fewer */
 };
 
 typedef struct {
@@ -55,7 +56,7 @@ typedef struct {
     size_t place;
 } condorbed_answer;
 
-/* If done: N, F, C, the number of call records used and the cutoff; else zeros. */
+/* If done: N, F, C, the number of call records used, the first free one (0: none) and the cutoff; else zeros. */
 typedef struct {
     size_t number;
     size_t place;
@@ -63,6 +64,7 @@ typedef struct {
     size_t f;
     size_t c;
     size_t used;
+    size_t free;
     int32_t cutoff;
 } condorbed_check_answer;
 
@@ -182,9 +184,10 @@ condorbed_round_answer condorbed_call_genotypes_with_haplotypes(const int32_t *w
                                                                 double *gqs, size_t gqs_len);
 
 /* A fragment arrives: one whose number is absent, with its strand and its calls (4 words each: variant, allele, qual,
-   one_minus_qual), which take the next unused call records. phase is exactly 1 byte per variant, haplotypes 2 alleles per
-   variant as they stand. Updates the words, 2 likelihoods per fragment, 10 counts per variant (those of
-   condorbed_call_genotypes_no_haplotypes, its third to twelfth value) and the phased total, as the fragment changes them. */
+   one_minus_qual), which take the free call records from the first on, then unused ones. phase is exactly 1 byte per
+   variant, haplotypes 2 alleles per variant as they stand. Updates the words, 2 likelihoods per fragment, 10 counts per
+   variant (those of condorbed_call_genotypes_no_haplotypes, its third to twelfth value) and the phased total, as the
+   fragment changes them. */
 condorbed_late_answer condorbed_arrive(int32_t *words, size_t words_len,
                                        const uint8_t *bases, size_t bases_len,
                                        const uint8_t *phase, size_t phase_len,
@@ -194,8 +197,8 @@ condorbed_late_answer condorbed_arrive(int32_t *words, size_t words_len,
                                        int64_t total, uint32_t fragment, int32_t strand,
                                        const int32_t *calls, size_t calls_len);
 
-/* A fragment departs: it is absent afterwards, with likelihoods of 0. Its calls leave the counts, and the share of its
-   lent likelihoods leaves the total. */
+/* A fragment departs: it is absent afterwards, with likelihoods of 0. Its call records are free, and are the next to be
+   taken. Its calls leave the counts, and the share of its lent likelihoods leaves the total. */
 condorbed_late_answer condorbed_depart(int32_t *words, size_t words_len,
                                        const uint8_t *bases, size_t bases_len,
                                        const uint8_t *phase, size_t phase_len,

@@ -21,13 +21,14 @@ impl fmt::Display for Refused {
 
 impl std::error::Error for Refused {}
 
-/// N, F, C, the number of call records used and the cutoff.
+/// N, F, C, the number of call records used, the first free one (0: none) and the cutoff.
 #[derive(Clone, Copy, Debug, PartialEq, Eq)]
 pub struct Sizes {
     pub n: usize,
     pub f: usize,
     pub c: usize,
     pub used: usize,
+    pub free: usize,
     pub cutoff: i32,
 }
 
@@ -90,7 +91,7 @@ pub struct DensityParameters {
 /// The check of a case, which every other operation makes as well: numbers 1 to 5.
 pub fn check_case(words: &[i32], bases: &[u8]) -> Result<Sizes, Refused> {
     let a = unsafe { c::condorbed_check_case(words.as_ptr(), words.len(), bases.as_ptr(), bases.len()) };
-    result(a.number, a.place, Sizes { n: a.n, f: a.f, c: a.c, used: a.used, cutoff: a.cutoff })
+    result(a.number, a.place, Sizes { n: a.n, f: a.f, c: a.c, used: a.used, free: a.free, cutoff: a.cutoff })
 }
 
 /// Writes N filters.
@@ -214,8 +215,8 @@ pub fn call_genotypes_with_haplotypes(
     result(a.number, a.place, round)
 }
 
-/// A fragment arrives: one whose number is absent, with its strand and its calls (4 words each), which take the next unused
-/// call records. `phase` has a byte a variant, `haplotypes` 2 alleles a variant as they stand.
+/// A fragment arrives: one whose number is absent, with its strand and its calls (4 words each), which take the free call
+/// records from the first on, then unused ones. `phase` has a byte a variant, `haplotypes` 2 alleles a variant as they stand.
 pub fn arrive(
     words: &mut [i32],
     bases: &[u8],
@@ -236,7 +237,8 @@ pub fn arrive(
     updated(a, values)
 }
 
-/// A fragment departs: it is absent afterwards, with likelihoods of 0.
+/// A fragment departs: it is absent afterwards, with likelihoods of 0. Its call records are free, and are the next to be
+/// taken.
 pub fn depart(
     words: &mut [i32],
     bases: &[u8],
@@ -288,6 +290,7 @@ mod c {
         pub f: usize,
         pub c: usize,
         pub used: usize,
+        pub free: usize,
         pub cutoff: i32,
     }
 

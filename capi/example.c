@@ -13,7 +13,7 @@
     } while (0)
 
 static const int32_t words[] = {
-    4, 1, 3, -2000, 3,         /* N, F, C, cutoff, records used */
+    4, 1, 3, -2000, 3, 0,      /* N, F, C, cutoff, records used, the first free one */
     100, 31, 0, 1, 2, 1, 1, 0, /* pos0, depth, genotype, k, allele lengths */
     110, 28, 0, 1, 2, 1, 1, 0,
     120, 90, 0, 1, 2, 1, 2, 0,
@@ -37,14 +37,16 @@ static void first_line(const char *operation, size_t number, size_t place)
         printf("%s: refused %zu %zu\n", operation, number, place);
 }
 
+static void check_line(condorbed_check_answer a)
+{
+    first_line("check_case", a.number, a.place);
+    printf("%zu %zu %zu %zu %zu %ld\n", a.n, a.f, a.c, a.used, a.free, (long)a.cutoff);
+}
+
 static void check_case(void)
 {
-    condorbed_check_answer a = condorbed_check_case(CASE);
-    first_line("check_case", a.number, a.place);
-    printf("%zu %zu %zu %zu %ld\n", a.n, a.f, a.c, a.used, (long)a.cutoff);
-    a = condorbed_check_case(words, LEN(words) - 1, bases, LEN(bases)); /* a word is missing */
-    first_line("check_case", a.number, a.place);
-    printf("%zu %zu %zu %zu %ld\n", a.n, a.f, a.c, a.used, (long)a.cutoff);
+    check_line(condorbed_check_case(CASE));
+    check_line(condorbed_check_case(words, LEN(words) - 1, bases, LEN(bases))); /* a word is missing */
 }
 
 static void var_filter(void)
@@ -138,42 +140,44 @@ static void call_genotypes_with_haplotypes(void)
 
 /* Two variants A/G and no read yet; fragment 0 is absent, and there are two unused records. */
 static int32_t growing[] = {
-    2, 1, 2, -2000, 0,
+    2, 1, 2, -2000, 0, 0,
     100, 31, 0, 1, 2, 1, 1, 0,
     110, 28, 0, 1, 2, 1, 1, 0,
     -1, 0,
     0, 0, 0, 0, 0,
     0, 0, 0, 0, 0,
 };
+static const uint8_t alleles[] = {'A', 'G', 'A', 'G'};
+#define GROWING growing, LEN(growing), alleles, LEN(alleles)
 
-static void late_line(const char *operation, condorbed_late_answer a)
+/* What arrivals and departures read besides, and what they update. The total is that of a run at its start. */
+static const uint8_t phase[2] = {'0', '1'}, haplotypes[2 * 2] = {0, 1, 1, 0};
+static int64_t likelihoods[2 * 1] = {0}, total = -32590;
+static int32_t counts[10 * 2] = {0};
+#define VALUES \
+    phase, LEN(phase), haplotypes, LEN(haplotypes), likelihoods, LEN(likelihoods), counts, LEN(counts), total
+
+static void late_lines(const char *operation, condorbed_late_answer a)
 {
     first_line(operation, a.number, a.place);
     printf("%s %" PRId64 "\n", a.settled ? "settled" : "unsettled", a.total);
+    total = a.number == CONDORBED_DONE ? a.total : total;
+    LINE("%" PRId32, growing);
+    LINE("%" PRId64, likelihoods);
+    LINE("%" PRId32, counts);
 }
 
-/* A read of A and G arrives, cannot arrive again, and departs. The total is that of a run at its start. */
+/* A read of A and G arrives and cannot arrive again. It departs, and its records 1 and 2 are free. Another read arrives,
+   of A alone: it takes record 1. */
 static void arrive_and_depart(void)
 {
-    const uint8_t alleles[] = {'A', 'G', 'A', 'G'}, phase[2] = {'0', '1'}, haplotypes[2 * 2] = {0, 1, 1, 0};
-    const int32_t calls[2 * 4] = {0, 0, -13607, -622, 1, 1, -13607, -622};
-    int64_t likelihoods[2 * 1] = {0}, total = -32590;
-    int32_t counts[10 * 2] = {0};
-    for (int i = 0; i < 2; i++) {
-        condorbed_late_answer a = condorbed_arrive(growing, LEN(growing), alleles, LEN(alleles), phase, LEN(phase),
-                                                   haplotypes, LEN(haplotypes), likelihoods, LEN(likelihoods), counts,
-                                                   LEN(counts), total, 0, 0, calls, LEN(calls));
-        late_line("arrive", a);
-        total = a.number == CONDORBED_DONE ? a.total : total;
-    }
-    LINE("%" PRId32, growing);
-    LINE("%" PRId64, likelihoods);
-    LINE("%" PRId32, counts);
-    late_line("depart", condorbed_depart(growing, LEN(growing), alleles, LEN(alleles), phase, LEN(phase), haplotypes,
-                                         LEN(haplotypes), likelihoods, LEN(likelihoods), counts, LEN(counts), total, 0));
-    LINE("%" PRId32, growing);
-    LINE("%" PRId64, likelihoods);
-    LINE("%" PRId32, counts);
+    const int32_t calls[2 * 4] = {0, 0, -13607, -622, 1, 1, -13607, -622}, call[1 * 4] = {1, 0, -13607, -622};
+    for (int i = 0; i < 2; i++)
+        late_lines("arrive", condorbed_arrive(GROWING, VALUES, 0, 0, calls, LEN(calls)));
+    late_lines("depart", condorbed_depart(GROWING, VALUES, 0));
+    check_line(condorbed_check_case(GROWING));
+    late_lines("arrive", condorbed_arrive(GROWING, VALUES, 0, 1, call, LEN(call)));
+    check_line(condorbed_check_case(GROWING));
 }
 
 int main(void)

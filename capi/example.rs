@@ -1,10 +1,10 @@
 //! Every function, on a small case: variants A/G, A/C, A/AC, A/G, and one read of G, A and G at variants 0, 1 and 3.
 
-use condorbed::{DensityParameters, Rates, Refused, Round, Updated, Values};
+use condorbed::{DensityParameters, Rates, Refused, Round, Sizes, Updated, Values};
 use std::fmt::Display;
 
 const WORDS: &[i32] = &[
-    4, 1, 3, -2000, 3, // N, F, C, cutoff, records used
+    4, 1, 3, -2000, 3, 0, // N, F, C, cutoff, records used, the first free one
     100, 31, 0, 1, 2, 1, 1, 0, // pos0, depth, genotype, k, allele lengths
     110, 28, 0, 1, 2, 1, 1, 0,
     120, 90, 0, 1, 2, 1, 2, 0,
@@ -36,12 +36,16 @@ fn line<T: Display>(slice: &[T]) {
     println!("{}", slice.iter().map(T::to_string).collect::<Vec<_>>().join(" "));
 }
 
+fn check_line(answer: Result<Sizes, Refused>) {
+    let none = Sizes { n: 0, f: 0, c: 0, used: 0, free: 0, cutoff: 0 };
+    let s = first_line("check_case", answer).unwrap_or(none);
+    println!("{} {} {} {} {} {}", s.n, s.f, s.c, s.used, s.free, s.cutoff);
+}
+
 fn check_case() {
-    // the second time a word is missing
-    for words in [WORDS, &WORDS[..WORDS.len() - 1]] {
-        let sizes = first_line("check_case", condorbed::check_case(words, BASES));
-        line(&sizes.map_or([0; 5], |s| [s.n as i64, s.f as i64, s.c as i64, s.used as i64, s.cutoff as i64]));
-    }
+    check_line(condorbed::check_case(WORDS, BASES));
+    // a word is missing
+    check_line(condorbed::check_case(&WORDS[..WORDS.len() - 1], BASES));
 }
 
 fn var_filter() {
@@ -121,31 +125,36 @@ fn call_genotypes_with_haplotypes() {
     line(&gqs.map(|q| format!("{:.4}", q)));
 }
 
-fn late_line(operation: &str, answer: Result<Updated, Refused>) {
+fn late_lines(operation: &str, answer: Result<Updated, Refused>, words: &[i32], values: &Values) {
     let u = first_line(operation, answer).unwrap_or(Updated { settled: false, total: 0 });
     println!("{} {}", if u.settled { "settled" } else { "unsettled" }, u.total);
+    line(words);
+    line(values.likelihoods);
+    line(values.counts);
 }
 
 fn arrive_and_depart() {
     // two variants A/G and no read yet; fragment 0 is absent, and there are two unused records
     let mut words = [
-        2, 1, 2, -2000, 0, 100, 31, 0, 1, 2, 1, 1, 0, 110, 28, 0, 1, 2, 1, 1, 0, -1, 0, 0, 0, 0, 0, 0, 0, 0, 0, 0, 0,
+        2, 1, 2, -2000, 0, 0, 100, 31, 0, 1, 2, 1, 1, 0, 110, 28, 0, 1, 2, 1, 1, 0, -1, 0, 0, 0, 0, 0, 0, 0, 0, 0, 0, 0,
     ];
     let (bases, phase, haplotypes) = (b"AGAG", b"01", [0, 1, 1, 0]);
-    let calls = [0, 0, -13607, -622, 1, 1, -13607, -622];
+    let (calls, call) = ([0, 0, -13607, -622, 1, 1, -13607, -622], [1, 0, -13607, -622]);
     // the total is that of a run at its start
     let mut values = Values { likelihoods: &mut [0; 2], counts: &mut [0; 10 * 2], total: -32590 };
     // a read of A and G arrives, and cannot arrive again
     for _ in 0..2 {
-        late_line("arrive", condorbed::arrive(&mut words, bases, phase, &haplotypes, &mut values, 0, 0, &calls));
+        let answer = condorbed::arrive(&mut words, bases, phase, &haplotypes, &mut values, 0, 0, &calls);
+        late_lines("arrive", answer, &words, &values);
     }
-    line(&words);
-    line(values.likelihoods);
-    line(values.counts);
-    late_line("depart", condorbed::depart(&mut words, bases, phase, &haplotypes, &mut values, 0));
-    line(&words);
-    line(values.likelihoods);
-    line(values.counts);
+    // it departs, and its records 1 and 2 are free
+    let answer = condorbed::depart(&mut words, bases, phase, &haplotypes, &mut values, 0);
+    late_lines("depart", answer, &words, &values);
+    check_line(condorbed::check_case(&words, bases));
+    // another read arrives, of A alone: it takes record 1
+    let answer = condorbed::arrive(&mut words, bases, phase, &haplotypes, &mut values, 0, 1, &call);
+    late_lines("arrive", answer, &words, &values);
+    check_line(condorbed::check_case(&words, bases));
 }
 
 fn main() {

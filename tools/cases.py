@@ -5,8 +5,9 @@ Everything is drawn from the generator that is handed in, so that a seed fixes i
 import itertools
 import random
 
-from layout import CALL, HEAD, LOWEST, MAX_ALLELES, MAX_CALLS, MAX_FRAGMENTS, MAX_LENGTH, MAX_VARIANTS, needs
-from model import Call, Case, Fragment, Variant, check, check_rates, encode, fresh_values, start_haplotypes, Refused
+from layout import CALL, LOWEST, MAX_ALLELES, MAX_CALLS, MAX_FRAGMENTS, MAX_LENGTH, MAX_VARIANTS, needs
+from model import (Call, Case, Fragment, Variant, check, check_rates, encode, free_and_unused, fresh_values,
+                   start_haplotypes, Refused)
 from protocol import LATE, Request, Update
 
 RATES = [-70000] * 4 + [-4096, -8192]
@@ -42,21 +43,29 @@ def with_absent(rng, case):
 
 
 def random_words(rng):
-    """The words of a record in no chain: nothing looks at them."""
+    """The words of a free or unused record: nothing looks at them, but for a free one's next."""
     return [rng.choice([0, 1, 2, -1, 5, LOWEST - 1, 2147483647, -2147483648]) for _ in range(CALL.words)]
 
 
-def random_records(rng, case, tails=(0, 1, 3, 8)):
-    """How the records of a case lie, for `encode`: chains among one another, records that departed fragments left between
-    them, and an unused tail."""
+# How many records are free, and how many unused: a number of either is drawn. Room for lists of arrivals and departures:
+# ample, and so little that they go over the same records again and again.
+ROOM, NO_ROOM = [(0, 0, 1, 5), (0, 1, 3, 8)], [(0,), (0,)]
+AMPLE, LITTLE = [(0, 0, 1, 5), (0, 2, 8, 30)], [(0, 1, 3), (0, 0, 1, 2)]
+
+
+def random_records(rng, case, room=ROOM):
+    """How the records of a case lie, for `encode`: chains among one another, each forwards, backwards or in any order,
+    free records between them in any order, and an unused tail."""
     calls = sum(len(f.calls) for f in case.fragments)
-    used = min(calls + rng.choice([0, 0, 1, 5]), MAX_CALLS)
+    used = min(calls + rng.choice(room[0]), MAX_CALLS)
     places, numbering = iter(rng.sample(range(1, used + 1), calls)), []
     for f in case.fragments:
-        numbering += sorted(itertools.islice(places, len(f.calls)))
-    c, taken = min(used + rng.choice(tails), MAX_CALLS), set(numbering)
+        own = list(itertools.islice(places, len(f.calls)))
+        numbering += rng.choice([own, sorted(own), sorted(own, reverse=True)])
+    c, taken = min(used + rng.choice(room[1]), MAX_CALLS), set(numbering)
     idle = {r: random_words(rng) for r in range(1, c + 1) if r not in taken}
-    return {"numbering": numbering, "idle": idle, "used": used}
+    free = [r for r in idle if r <= used]
+    return {"numbering": numbering, "idle": idle, "used": used, "free": rng.sample(free, len(free))}
 
 
 # ---- Variants, reads and rates.
@@ -200,12 +209,13 @@ def updates(rng, standing, count):
 
 
 def random_update(rng, standing):
-    """An accepted arrival or departure; None where there are no fragments."""
-    case, head = check(standing.words, standing.bases), HEAD.read(standing.words, 0)
+    """An accepted arrival or departure; None where there are no fragments. Some arrivals take all records that are left."""
+    case, left = check(standing.words, standing.bases), sum(map(len, free_and_unused(standing.words)))
     absent = [f for f, x in enumerate(case.fragments) if not x.present]
     present = [f for f, x in enumerate(case.fragments) if x.present]
     if absent and (not present or rng.random() < 0.6):
-        places = random_places(rng, head.n)[:head.c - head.used]
+        n = len(case.variants)
+        places = sorted(rng.sample(range(n), left)) if left <= n and rng.random() < 0.3 else random_places(rng, n)[:left]
         quality = random_qualities(rng, case.cutoff)
         return standing.arrive(rng.choice(absent), random_read(rng, case.variants, quality, places))
     return standing.depart(rng.choice(present)) if present else None
@@ -215,13 +225,14 @@ def random_update(rng, standing):
 
 
 class Trial:
-    """A case with its records' places, and the parts of every operation on it; orders are a list of orders, `extra` is
-    the room that every output slice has past its need, `late` the seed of its arrivals and departures."""
+    """A case, and the parts of every operation on it; `places` is the seed of its records' places (None: in order), `room`
+    says how many more records there are, orders are a list of orders, `extra` is the room that every output slice has past
+    its need, `late` the seed of its arrivals and departures."""
 
     def __init__(self, rng, case, phase=None):
         n = len(case.variants)
         self.case = with_absent(rng, case)
-        self.records = random_records(rng, self.case) if rng.random() < 0.5 else {}
+        self.places, self.room = rng.getrandbits(64) if rng.random() < 0.5 else None, ROOM
         self.rates = random_rates(rng)
         self.phase = phase or [rng.choice([48, 49, 48, 49, 45, 0]) for _ in range(n)]
         self.sets = [rng.randrange(-1, n) for _ in range(n)]
@@ -251,9 +262,14 @@ class Trial:
             return [min(lines, MOST_LINES) + self.extra]
         return [need + self.extra for need in needs(word, n, f)]
 
+    def encoded(self):
+        """The words and bases of the case."""
+        placed = {} if self.places is None else random_records(random.Random(self.places), self.case, self.room)
+        return encode(self.case, **placed)
+
     def requests(self, words):
         """The requests of these words; an arrival or a departure is left out where there is none among the first."""
-        data, out = encode(self.case, **self.records), []
+        data, out = self.encoded(), []
         for word in words:
             if word in LATE:
                 out += [request for request in self.updates(4) if request.word == word][:1]
@@ -261,10 +277,10 @@ class Trial:
                 out.append(Request(word, *data, self.parts(word), self.rooms(word)))
         return out
 
-    def updates(self, count):
-        """Up to so many arrivals and departures, each on what the last one left."""
+    def updates(self, count, room=None):
+        """Up to so many arrivals and departures, each on what the last one left, on a case with this room or any."""
         rng = random.Random(self.late)
-        words, bases = encode(self.case, **random_records(rng, self.case, (0, 2, 8, 30)))
+        words, bases = encode(self.case, **random_records(rng, self.case, room or rng.choice([AMPLE, LITTLE])))
         haplotypes = start_haplotypes(self.case, self.phase)
         if rng.random() < 0.3:
             haplotypes = [rng.randrange(len(v.alleles)) for v in self.case.variants for _ in range(2)]
@@ -272,7 +288,7 @@ class Trial:
 
     def reference(self):
         """The run by document 01's own orders: as many of them as sweeps are allowed."""
-        words, bases = encode(self.case, **self.records)
+        words, bases = self.encoded()
         count = min(self.limit, 12)
         orders = Request("orders", words, bases, [0], [len(self.case.variants) * count]).result()[1][0]
         return Request("run", words, bases, [self.rates, self.phase, self.sets, orders, count], self.rooms("run"))
@@ -353,12 +369,12 @@ def largest(rng):
 
 
 def largest_updates(rng, count):
-    """Arrivals and departures on a case with N, F and C at their limits, some fragments absent and some records unused."""
+    """Arrivals and departures on a case with N, F and C at their limits, some fragments absent, some records free and some
+    unused."""
     trial = largest(rng)
     gone = set(rng.sample(range(MAX_FRAGMENTS), 64))
     fragments = [Fragment(x.strand, [], False) if f in gone else x for f, x in enumerate(trial.case.fragments)]
-    case, unused = Case(trial.case.variants, fragments, trial.case.cutoff), 64 * (MAX_CALLS // MAX_FRAGMENTS)
-    records = {"idle": {r: random_words(rng) for r in range(MAX_CALLS - unused + 1, MAX_CALLS + 1)},
-               "used": MAX_CALLS - unused}
+    case, left = Case(trial.case.variants, fragments, trial.case.cutoff), 64 * (MAX_CALLS // MAX_FRAGMENTS)
+    data = encode(case, **random_records(rng, case, [(5, left // 2), (left,)]))
     haplotypes = start_haplotypes(case, trial.phase)
-    return updates(rng, fresh(*encode(case, **records), trial.rates, trial.phase, haplotypes), count)
+    return updates(rng, fresh(*data, trial.rates, trial.phase, haplotypes), count)

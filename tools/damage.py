@@ -3,6 +3,7 @@ import copy
 
 from layout import (ARRIVING, CALL, FRAGMENT, HEAD, LOWEST, LOWEST_LENT, MAX_ALLELES, MAX_COUNT, MAX_LENGTH,
                     MAX_VARIANTS, VARIANT, Layout)
+from model import free_and_unused
 from protocol import LatePart, Request
 
 LARGEST = 2147483647
@@ -49,7 +50,7 @@ def past(at):
 
 
 def link(rng, request):
-    """A first or a next that names some other record: shared, in the tail, back, not rising; or none: -2, -1."""
+    """A first or a next that names some other record: shared, free, in the tail, not rising; or none: -2, -1."""
     at = layout(request)
     if at.c <= 0 or at.f <= 0:
         return
@@ -60,10 +61,63 @@ def link(rng, request):
 
 
 def used(rng, request):
-    """Another number of used records: the tail grows or goes, chains run into it."""
+    """Another number of used records: chains run into the tail, or used records lie in no chain."""
     at = layout(request)
     if len(request.words) >= HEAD.words:
         request.words[HEAD.used] = rng.choice([-1, past(at), at.c, 0, rng.randint(0, max(at.c, 0))])
+
+
+def free(rng, request):
+    """Another first free record: none, a later one, one of a fragment, or out of range."""
+    if len(request.words) >= HEAD.words:
+        most = request.words[HEAD.used]
+        request.words[HEAD.free] = rng.choice(
+            [-1, 0, min(most + 1, LARGEST)] + [rng.randint(0, max(most, 0)) for _ in range(3)])
+
+
+def walked(request, place):
+    """The records from the first that this word names, along next, as far as they are there and new."""
+    at, out = layout(request), []
+    r = request.words[place] if 0 <= place < len(request.words) else 0
+    while 1 <= r <= at.c and r not in out and 0 <= at.call(r) <= len(request.words) - CALL.words:
+        out.append(r)
+        r = request.words[at.call(r) + CALL.next]
+    return out
+
+
+def any_chain(rng, request):
+    """The word that names the first record of a fragment's chain; now and then that of the free chain."""
+    at = layout(request)
+    return HEAD.free if at.f <= 0 or rng.random() < 0.4 else at.fragment(rng.randrange(at.f)) + FRAGMENT.first
+
+
+def cycle(rng, request):
+    """A chain whose end leads back into it, or to a value that is out of range."""
+    own, at = walked(request, any_chain(rng, request)), layout(request)
+    if own:
+        request.words[at.call(own[-1]) + CALL.next] = rng.choice([own[0], rng.choice(own), -1, past(at)])
+
+
+def free_link(rng, request):
+    """A next within the free chain: cut off, back, into another chain or the tail, out of range."""
+    own, at = walked(request, HEAD.free), layout(request)
+    if own:
+        others = [rng.randint(1, past(at)) for _ in range(3)]
+        request.words[at.call(rng.choice(own)) + CALL.next] = rng.choice([0, own[0], -1, -LARGEST - 1] + others)
+
+
+def into_free(rng, request):
+    """A fragment's chain that goes on at a free record; most of these get words that fit."""
+    place, at = any_chain(rng, request), layout(request)
+    taken = walked(request, HEAD.free)
+    if place == HEAD.free or not taken or not 0 <= place < len(request.words):
+        return
+    own, r = walked(request, place), rng.choice([taken[-1], rng.choice(taken)])
+    request.words[at.call(own[-1]) + CALL.next if own else place] = r
+    if rng.random() < 0.7:
+        variants = [request.words[at.call(x) + CALL.variant] for x in own[-1:]]
+        call = ARRIVING.make(variant=min(variants[0] + 1, LARGEST) if variants else 0)
+        request.words[at.call(r):at.call(r) + ARRIVING.words] = call
 
 
 def length(rng, values, added):
@@ -194,14 +248,23 @@ def more_calls(rng, request):
         calls[-ARRIVING.words] += 1
 
 
+def all_records(rng, request):
+    """As many arriving calls as records are free or unused, or one more; there must be as many variants."""
+    if Request("check", request.words, request.bases).refusal() is None:
+        count = sum(map(len, free_and_unused(request.words))) + rng.randrange(2)
+        if count <= layout(request).n:
+            request.parts[LatePart.CALLS] = [x for v in range(count) for x in ARRIVING.make(variant=v)]
+
+
 LATE = [late_phase, late_slice, late_value, late_value, late_number, late_number]
 
-CASE = [head, variant, variant, fragment, call, call, link, link, used, words, bases]
+CASE = [head, variant, variant, fragment, call, call, link, link, used, free, cycle, free_link, into_free, words, bases]
 DAMAGES = {
     "check": CASE, "priors": [rates, room], "nohap": [rates, room, room], "phase": [given_phase, given_phase, room],
     "run": [rates, given_phase, orders, limit, room], "flist": [room, line_room, line_room],
     "filter": [qualities, density_qual, room], "orders": [order_room],
-    "arrive": LATE + [late_strand, arriving_call, arriving_call, more_calls, more_calls], "depart": LATE,
+    "arrive": LATE + [late_strand, arriving_call, arriving_call, more_calls] + 3 * [all_records],
+    "depart": LATE,
 }
 
 

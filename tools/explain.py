@@ -4,7 +4,7 @@ import re
 
 from layout import (ARRIVING, CALL, CALLED, COUNTED, FRAGMENT, HEAD, LOWEST, LOWEST_LENT, MAX_ALLELES, MAX_CALLS,
                     MAX_COUNT, MAX_FRAGMENTS, MAX_LENGTH, MAX_VARIANTS, PAIR, TABLE, VARIANT, Layout, needs)
-from model import check, number, pairs, phred
+from model import check, free_and_unused, number, pairs, phred
 from protocol import LATE, OUTPUTS, PARTS, LatePart, Request, plain_text
 
 REQUESTS = {
@@ -232,13 +232,13 @@ def told_orders(_request, case, _fields, slices):
 def told_late(request, case, fields, slices):
     """After an arrival or a departure; the case is the one before."""
     (words, likelihoods, counts), f = slices, request.parts[LatePart.NUMBER]
-    at, two = Layout.of(words), likelihoods[PAIR * f:PAIR * (f + 1)]
+    at, two, free = Layout.of(words), likelihoods[PAIR * f:PAIR * (f + 1)], len(free_and_unused(words)[0])
     own = check(words, request.bases).fragments[f]
-    happened = "left; its number is free" if not own.present else "arrived with %s, first record %d" % (
+    happened = "left; its number can be taken again" if not own.present else "arrived with %s, first record %d" % (
         count(len(own.calls), "call"), words[at.fragment(f) + FRAGMENT.first])
     rows = [count_cells(x, COUNTED.read(counts, COUNTED.words * v)) for v, x in enumerate(case.variants)]
     return [
-        "Fragment %d %s. Call records used: %d of %d." % (f, happened, words[HEAD.used], at.c),
+        "Fragment %d %s. Call records used: %d of %d, %d of them free." % (f, happened, words[HEAD.used], at.c, free),
         "Its likelihoods are %d and %d. Phased total: %s steps. The sample is now %s." % (*two, *fields[::-1]),
         ABOUT_COUNTS] + variant_table(case, COUNTS, rows)
 
@@ -249,11 +249,15 @@ TOLD = {"check": told_check, "priors": told_priors, "nohap": told_nohap, "phase"
 
 # ---- Refusals. Each function takes the request and the place: what is wrong there, and what is expected.
 
-OF_HEAD = {
-    HEAD.n: ("N, the number of variants,", 0, MAX_VARIANTS), HEAD.f: ("F, the number of fragments,", 0, MAX_FRAGMENTS),
-    HEAD.c: ("C, the number of call records,", 0, MAX_CALLS), HEAD.cutoff: ("the cutoff", LOWEST, 0),
-    HEAD.used: ("the number of call records used", 0, None),
-}
+
+def head_ranges(words):
+    """Each word of the head: what it is, its lowest and its highest value."""
+    return {
+        HEAD.n: ("N, the number of variants,", 0, MAX_VARIANTS), HEAD.f: ("F, the number of fragments,", 0, MAX_FRAGMENTS),
+        HEAD.c: ("C, the number of call records,", 0, MAX_CALLS), HEAD.cutoff: ("the cutoff", LOWEST, 0),
+        HEAD.used: ("the number of call records used", 0, words[HEAD.c]),
+        HEAD.free: ("the first free call record, or 0,", 0, words[HEAD.used]),
+    }
 
 
 def wrong_head(request, place):
@@ -261,8 +265,7 @@ def wrong_head(request, place):
     if size < HEAD.words:
         return "`words` has %s; the head alone has %d" % (count(size, "element"), HEAD.words)
     if place < HEAD.words:
-        name, low, high = OF_HEAD[place]
-        high = request.words[HEAD.c] if high is None else high
+        name, low, high = head_ranges(request.words)[place]
         return "word %d of the head is %d: %s must be in %d..%d" % (place, request.words[place], name, low, high)
     at = Layout.of(request.words)
     return "`words` has %s: with N = %d, F = %d and C = %d it must have %d" % (
@@ -310,10 +313,18 @@ def wrong_fragment(request, place):
     if arriving(request):
         return wrong_arrival(request, place)
     at, used = Layout.of(request.words), request.words[HEAD.used]
+    if place == at.f:
+        return wrong_free(request.words[HEAD.free], used)
     own = record(request, FRAGMENT, at.fragment(place))
     return ("fragment %d is wrong: its first record must be -1, if it is absent, or in 0..%d, the records used, and its "
-            "strand 0 or 1; along its chain each next must be 0 or above its record and at most %d, and the variants must "
-            "rise; no record may be an earlier fragment's. %s" % (place, used, used, own))
+            "strand 0 or 1; along its chain each next must be in 0..%d, and the variants must rise; no record may be an "
+            "earlier fragment's. %s" % (place, used, used, own))
+
+
+def wrong_free(first, used):
+    return ("the free chain is wrong, which starts at record %d (0: there is none): each next in it must be in 0..%d, and no "
+            "record of it may come twice or be a fragment's; each of the records 1..%d must be in a fragment's chain or in "
+            "this one" % (first, used, used))
 
 
 def wrong_arrival(request, place):
@@ -386,8 +397,8 @@ def wrong_number(request, place):
 
 
 def no_records(request, place):
-    left = request.words[HEAD.c] - request.words[HEAD.used]
-    return "the arrival has %s and there are %d unused records" % (count(place, "call"), left)
+    free, unused = map(len, free_and_unused(request.words))
+    return "the arrival has %s and there are %d free and %d unused records" % (count(place, "call"), free, unused)
 
 
 WRONG = {1: wrong_head, 2: wrong_variant, 3: wrong_bases, 4: wrong_call, 5: wrong_fragment, 6: wrong_rates,

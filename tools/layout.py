@@ -1,5 +1,5 @@
-"""The layout of a case (document 01, section 2, as amended by request 1) and of the slices that the operations write,
-with its limits.
+"""The layout of a case (document 01, section 2, as amended by requests 1 and 3) and of the slices that the operations
+write, with its limits.
 
 No other script has the offset of a field, the stride of a record or a limit: a change of the layout is a change here.
 Run by itself it prints the same as a C header, for bench/limit.c: python3 tools/layout.py > FILE
@@ -45,7 +45,7 @@ class Record:
         return SimpleNamespace(**values)
 
 
-HEAD = Record(n=1, f=1, c=1, cutoff=1, used=1)
+HEAD = Record(n=1, f=1, c=1, cutoff=1, used=1, free=1)
 VARIANT = Record(pos0=1, dp=1, genotype=2, k=1, lengths=MAX_ALLELES)
 FRAGMENT = Record(first=1, strand=1)
 # A call as an arrival gives it; its record has one word more.

@@ -51,20 +51,25 @@ class Case:
         return [call for call in fragment.calls if self.usable(fragment, call)]
 
 
-def encode(case, numbering=None, idle=None, used=None):
+def encode(case, numbering=None, idle=None, used=None, free=None):
     """Words and bases of a case. numbering: for each call, fragment after fragment, its record number; in order where it
-    is left out. idle: the words of records in no chain, by their numbers. used: all records where it is left out."""
+    is left out. idle: the words of the other records, by their numbers; the next of a free one is made to fit. used: all
+    records where it is left out. free: the free records in their order; the used idle ones where it is left out."""
     calls, idle = [(f, i) for f, x in enumerate(case.fragments) for i in range(len(x.calls))], idle or {}
     c = len(calls) + len(idle)
+    used = c if used is None else used
+    free = [r for r in sorted(idle) if r <= used] if free is None else free
     number = dict(zip(calls, numbering or [r for r in range(1, c + 1) if r not in idle]))
-    words = HEAD.make(n=len(case.variants), f=len(case.fragments), c=c, cutoff=case.cutoff,
-                      used=c if used is None else used)
+    words = HEAD.make(n=len(case.variants), f=len(case.fragments), c=c, cutoff=case.cutoff, used=used,
+                      free=(free + [0])[0])
     for v in case.variants:
         words += VARIANT.make(pos0=v.pos0, dp=v.dp, genotype=list(v.genotype), k=len(v.alleles),
                               lengths=[len(a) for a in v.alleles])
     for f, x in enumerate(case.fragments):
         words += FRAGMENT.make(first=number.get((f, 0), 0) if x.present else ABSENT, strand=x.strand)
-    records = dict(idle)
+    records = {r: list(own) for r, own in idle.items()}
+    for r, following in zip(free, free[1:] + [0]):
+        records[r][CALL.next] = following
     for f, i in calls:
         x, following = case.fragments[f].calls[i], number.get((f, i + 1), 0)
         records[number[f, i]] = CALL.make(variant=x.variant, allele=x.allele, qual=x.qual,
@@ -78,7 +83,7 @@ def check_head(words):
     if len(words) < HEAD.words:
         raise Refused(1, 0)
     ranges = [(HEAD.n, 0, MAX_VARIANTS), (HEAD.f, 0, MAX_FRAGMENTS), (HEAD.c, 0, MAX_CALLS), (HEAD.cutoff, LOWEST, 0),
-              (HEAD.used, 0, words[HEAD.c])]
+              (HEAD.used, 0, words[HEAD.c]), (HEAD.free, 0, words[HEAD.used])]
     for place, low, high in ranges:
         if not low <= words[place] <= high:
             raise Refused(1, place)
@@ -147,19 +152,19 @@ def check_calls(at, words, used, alleles):
 STRANDS = (0, 1)
 
 
-def check_fragments(at, words, used):
-    """Number 5: the fragments."""
-    fragments, taken = [], set()
+def check_fragments(at, words, used, taken):
+    """Number 5, place the fragment: the fragments. The records of their chains join those taken."""
+    fragments = []
     for f in range(at.f):
         fragment, calls = FRAGMENT.read(words, at.fragment(f)), []
         present, r = fragment.first != ABSENT, fragment.first
-        if fragment.strand not in STRANDS or (present and not 0 <= r <= used):
+        if fragment.strand not in STRANDS:
             raise Refused(5, f)
-        while present and r:
-            x = CALL.read(words, at.call(r))
-            if r in taken or (x.next != 0 and not r < x.next <= used):
+        while present and r != 0:
+            if not 1 <= r <= used or r in taken:
                 raise Refused(5, f)
-            if x.next != 0 and not x.variant < words[at.call(x.next) + CALL.variant]:
+            x = CALL.read(words, at.call(r))
+            if calls and not calls[-1].variant < x.variant:
                 raise Refused(5, f)
             taken.add(r)
             calls.append(Call(x.variant, x.allele, x.qual, x.one_minus_qual))
@@ -168,14 +173,28 @@ def check_fragments(at, words, used):
     return fragments
 
 
+def check_free(at, words, head, taken):
+    """Number 5, place F: the free chain, and that each used record lies in a chain. Of a free record only next counts."""
+    r = head.free
+    while r != 0:
+        if not 1 <= r <= head.used or r in taken:
+            raise Refused(5, at.f)
+        taken.add(r)
+        r = words[at.call(r) + CALL.next]
+    if taken != set(range(1, head.used + 1)):
+        raise Refused(5, at.f)
+
+
 def check(words, bases, haplotypes=()):
-    """01, section 2 and the table of refusals, numbers 1 to 5, as amended by request 1: the case, or Refused. Haplotypes
-    are those lent as input."""
+    """01, section 2 and the table of refusals, numbers 1 to 5, as amended by requests 1 and 3: the case, or Refused.
+    Haplotypes are those lent as input."""
     at, head = check_head(words)
     check_variants(at, words, haplotypes)
     alleles = check_alleles(at, words, bases)
     check_calls(at, words, head.used, alleles)
-    fragments = check_fragments(at, words, head.used)
+    taken = set()
+    fragments = check_fragments(at, words, head.used, taken)
+    check_free(at, words, head, taken)
     variants = []
     for v in range(at.n):
         x = VARIANT.read(words, at.variant(v))
@@ -652,7 +671,7 @@ def sweep_orders(words, bases, seed, orders):
     return [], [out]
 
 
-# ---- 02, request 1: arrivals and departures.
+# ---- 02, requests 1 and 3: arrivals and departures.
 
 
 def fresh_values(case, rates, phase, haps):
@@ -720,20 +739,37 @@ def updated(case, f, two, likelihoods, counts, total):
     return ["unsettled", total], [likelihoods, counts]
 
 
+def chain(words, r):
+    """The records of an accepted case from r on, along next."""
+    at, out = Layout.of(words), []
+    while r > 0:
+        out.append(r)
+        r = words[at.call(r) + CALL.next]
+    return out
+
+
+def free_and_unused(words):
+    """The free records of an accepted case and the unused ones, each in the order in which arrivals take them."""
+    head = HEAD.read(words, 0)
+    return chain(words, head.free), list(range(head.used + 1, head.c + 1))
+
+
 def arrive(words, bases, phase, haplotypes, likelihoods, counts, total, f, strand, calls):
-    """A fragment comes: its chain in the next unused records; likelihoods, counts and total with its share."""
+    """A fragment comes: its chain in the first free records, then in the next unused ones; likelihoods, counts and total
+    with its share."""
     case = check_lent(words, bases, phase, haplotypes, likelihoods, counts, total)
     fragment = arriving(case, strand, calls)
     if f >= len(case.fragments) or case.fragments[f].present:
         raise Refused(13, f)
-    at, head, whole = Layout.of(words), HEAD.read(words, 0), len(fragment.calls)
-    if head.c - head.used < whole:
+    at, whole, (free, unused) = Layout.of(words), len(fragment.calls), free_and_unused(words)
+    if len(free) + len(unused) < whole:
         raise Refused(14, whole)
     phased = phased_flags(case, phase)
     two = likelihoods_of(case.usable_calls(fragment), haplotypes, lambda v: phased[v])
     fields, lent = updated(case, f, two, list(likelihoods), recounted(case, fragment, counts, 1), total + share(two))
-    words, numbers = list(words), list(range(head.used + 1, head.used + whole + 1))
-    words[HEAD.used] += whole
+    words, numbers = list(words), (free + unused)[:whole]
+    words[HEAD.used] += len(numbers) - len(free[:whole])
+    words[HEAD.free] = (free[whole:] + [0])[0]
     words[at.fragment(f):at.fragment(f + 1)] = FRAGMENT.make(first=(numbers + [0])[0], strand=strand)
     for r, following, call in zip(numbers, numbers[1:] + [0], fragment.calls):
         words[at.call(r):at.call(r + 1)] = CALL.make(next=following, **vars(call))
@@ -741,15 +777,19 @@ def arrive(words, bases, phase, haplotypes, likelihoods, counts, total, f, stran
 
 
 def depart(words, bases, phase, haplotypes, likelihoods, counts, total, f):
-    """A fragment goes: what its lent likelihoods added is taken off the total."""
+    """A fragment goes: what its lent likelihoods added is taken off the total. Its records go before the free ones."""
     case = check_lent(words, bases, phase, haplotypes, likelihoods, counts, total)
     if f >= len(case.fragments) or not case.fragments[f].present:
         raise Refused(13, f)
     off = share(likelihoods[PAIR * f:PAIR * (f + 1)])
     fields, lent = updated(case, f, [0, 0], list(likelihoods), recounted(case, case.fragments[f], counts, -1),
                            total - off)
-    words = list(words)
-    words[Layout.of(words).fragment(f) + FRAGMENT.first] = ABSENT
+    words, at = list(words), Layout.of(words)
+    own = chain(words, words[at.fragment(f) + FRAGMENT.first])
+    if own:
+        words[at.call(own[-1]) + CALL.next] = words[HEAD.free]
+        words[HEAD.free] = own[0]
+    words[at.fragment(f) + FRAGMENT.first] = ABSENT
     return fields, [words] + lent
 
 

@@ -24,8 +24,8 @@ HEADER = """# Written by tools/record.py: %d requests and one that cannot be rea
 """
 
 # The request that cannot be read, up to the number that does not fit its type and from it on; it is the fifth token.
-UNREADABLE = ("# an integer that does not fit its type ends the program\ncheck 5 0 0\n  # a comment is no token\n  ",
-              "2147483648 0 0 0\ncheck 5 0 0 0 0 0 0\n")
+UNREADABLE = ("# an integer that does not fit its type ends the program\ncheck 6 0 0\n  # a comment is no token\n  ",
+              "2147483648 0 0 0 0\ncheck 6 0 0 0 0 0 0 0\n")
 
 
 class Record:
@@ -97,18 +97,20 @@ def rooms(word, n, f=0, more=()):
 
 
 def heads(rec):
-    rec.note("number 1: fewer than five words, each word out of its range, the length")
+    rec.note("number 1: fewer than six words, each word out of its range, the length")
     words, bases = encode(sample())
     for short in range(HEAD.words):
         rec.check(words[:short], bases)
     ranges = [(HEAD.n, 0, MAX_VARIANTS), (HEAD.f, 0, MAX_FRAGMENTS), (HEAD.c, 0, MAX_CALLS), (HEAD.cutoff, LOWEST, 0),
-              (HEAD.used, 0, words[HEAD.c])]
+              (HEAD.used, 0, words[HEAD.c]), (HEAD.free, 0, words[HEAD.used])]
     for field, low, high in ranges:
         for value in (low - 1, high + 1):
             rec.check(with_word(words, field, value), bases)
     rec.check(words[:-1], bases)
     rec.check(words + [0], bases)
     rec.check(with_word(words, HEAD.used, 9) + [0], bases)
+    rec.check(with_word(words, HEAD.free, 9) + [0], bases)
+    rec.check(changed_words(words, [(HEAD.used, 9), (HEAD.free, -1)]), bases)
     rec.check(HEAD.make(n=MAX_VARIANTS + 1, f=-1, cutoff=1), [])
     rec.check(HEAD.make(c=-1, cutoff=1, used=7), [])
     rec.check(HEAD.make(used=1), [])
@@ -144,7 +146,7 @@ def alleles(rec):
 
 
 def calls(rec):
-    rec.note("number 4: the record's number, from 1; a record in no chain is no fault")
+    rec.note("number 4: the record's number, from 1; a record that no fragment reaches is none of them")
     words, bases = encode(sample())
     at = Layout.of(words)
     variant, allele, qual, one_minus_qual = CALL.variant, CALL.allele, CALL.qual, CALL.one_minus_qual
@@ -157,7 +159,7 @@ def calls(rec):
 
 
 def chains(rec):
-    rec.note("number 5: the fragment, the later one where a record is shared; a record that none reaches is no fault")
+    rec.note("number 5: the fragment, the later one where a record is shared; F where a record is in no chain")
     words, bases = encode(sample())
     at = Layout.of(words)
     first, strand = FRAGMENT.first, FRAGMENT.strand
@@ -187,22 +189,60 @@ def changed_words(words, changes):
 
 
 def idle_records(rec):
-    rec.note("absent fragments, records in no chain and an unused tail: nothing looks at their records")
+    rec.note("absent fragments, a free chain and an unused tail: nothing looks at their records, but for next")
     case = sample()
     case.fragments[1:2] = [Fragment(1, [], False)]
     case.fragments.append(Fragment(0, [], False))
     idle = {r: NO_RECORD for r in (2, 7, 10, 11)}
-    words, bases = encode(case, idle=idle, used=9)
+    words, bases = encode(case, idle=idle, used=9, free=[7, 2])
     at, first, strand = Layout.of(words), FRAGMENT.first, FRAGMENT.strand
     rec.check(words, bases)
     rec.check(with_word(words, at.fragment(1) + strand, 2), bases)
     rec.check(with_word(words, at.fragment(5) + strand, -1), bases)
     rec.check(with_word(words, HEAD.used, 8), bases)
-    rec.note("a chain into the tail or to an idle record: 5 at its fragment; 4 where a used record is bad")
+    rec.note("a chain into the tail: 5 at its fragment; to a free record: 4 there")
     for f, r in [(5, 10), (5, 11), (5, 12), (2, 10), (5, 2), (5, 7)]:
         rec.check(with_word(words, at.fragment(f) + first, r), bases)
     for r, following in [(9, 10), (4, 10), (4, 7), (1, 2), (3, 12)]:
         rec.check(with_word(words, at.call(r) + CALL.next, following), bases)
+
+
+def freed_sample():
+    """Two variants; read 0 in the records 6 and 3, read 1 absent, read 2 in the record 1; free 5, 2 and 4; 7 unused."""
+    variants = [Variant(10, 30, (0, 1), ["A", "G"]), Variant(25, 7, (1, 1), ["C", "T"])]
+    fragments = [Fragment(0, [Call(0, 1, -5796, -1700), Call(1, 0, -9000, -40)]), Fragment(1, [], False),
+                 Fragment(1, [Call(0, 0, -2001, -3)])]
+    idle = {r: NO_RECORD for r in (2, 4, 5, 7)}
+    return encode(Case(variants, fragments, -2000), [6, 3, 1], idle, 6, [5, 2, 4])
+
+
+def free_chains(rec):
+    words, bases = freed_sample()
+    at = Layout.of(words)
+    after = lambda r: at.call(r) + CALL.next
+    fits = [(at.call(4) + i, x) for i, x in enumerate(ARRIVING.make(variant=1))]
+    rec.note("the free chain: 1 where it starts in the tail; what it has twice, shares or leaves out is 5, place F; a next of "
+             "it out of range too")
+    rec.check(words, bases)
+    for changes in (
+            [(HEAD.free, 7)], [(HEAD.free, 0)], [(HEAD.free, 3)], [(after(4), 1)], [(after(4), 5)], [(after(4), 4)],
+            [(after(2), 0)], [(after(4), 7)], [(after(4), -1)], [(after(5), -2147483648)], [(HEAD.used, 7)]):
+        rec.check(changed_words(words, changes), bases)
+    rec.note("a fragment runs into it: 4 where the words are wrong, place F where they fit; a chain that cycles")
+    for changes in (
+            [(at.fragment(1), 4)], [(at.fragment(1), 4)] + fits, [(after(1), 4)] + fits, [(after(3), 4)] + fits,
+            [(after(1), 5)], [(after(3), 6)]):
+        rec.check(changed_words(words, changes), bases)
+    rec.note("4, then 5 at a fragment, then place F")
+    faults = [(at.call(3) + CALL.allele, 2), (at.fragment(2) + FRAGMENT.strand, 2), (after(4), 5)]
+    for i in range(2):
+        rec.check(changed_words(words, faults[i:]), bases)
+    rec.note("all records free, in order and in another one; the last next leads back to the first")
+    idle = {r: NO_RECORD for r in (1, 2, 3)}
+    for free in ([1, 2, 3], [3, 1, 2]):
+        words, _ = encode(Case([], [], 0), idle=idle, free=free)
+        rec.check(words, [])
+    rec.check(with_word(words, Layout.of(words).call(2) + CALL.next, 3), [])
 
 
 def past_faults(rec):
@@ -239,6 +279,7 @@ def accepted(rec):
     words, bases = encode(sample())
     rec.check(words, bases)
     rec.check(*encode(sample(), [2, 5, 8, 1, 3, 4, 6, 7]))
+    rec.check(*encode(sample(), [8, 2, 5, 7, 4, 1, 6, 3]))
     rec.check(*encode(Case([], [Fragment(1, [], False)], 0), idle={1: NO_RECORD}, used=0))
     wide = Case([Variant(0, 0, (0, 0), [base * MAX_LENGTH for base in "ACG"]),
                  Variant(2147483647, 2147483647, (2, 2), ["A", "A", "A"])],
@@ -360,7 +401,7 @@ def nohap(rec, rng):
         case = random_case(rng)
         n = len(case.variants)
         rates = [-rng.randint(20000, -LOWEST) for _ in range(4)] + [-rng.randrange(1, 30000) for _ in range(2)]
-        rec.nohap(*encode(case), rates, rooms("nohap", n))
+        rec.nohap(*encode(case, **random_records(rng, case)), rates, rooms("nohap", n))
 
 
 def phase(rec, rng):
@@ -402,7 +443,8 @@ def flist(rec, rng):
     rec.flist(*encode(sample()), 1, 60)
     rec.flist(*NOTHING, 0, 0)
     for _ in range(25):
-        rec.flist(*encode(random_case(rng)), rng.randrange(2), 200)
+        case = random_case(rng)
+        rec.flist(*encode(case, **random_records(rng, case)), rng.randrange(2), 200)
 
 
 def orders(rec, rng):
@@ -474,8 +516,8 @@ def random_runs(rec, rng):
         m = rng.randint(1, 3)
         lists = [v for _ in range(m) for v in rng.sample(range(n), n)] if n else []
         phase, sets = [rng.choice([48, 49, 45]) for _ in range(n)], [rng.randrange(-1, n) for _ in range(n)]
-        limit = rng.choice([1, 2, 50])
-        rec.run(*encode(case), RATES, phase, sets, lists, limit, rooms("run", n, f, more=[rng.randrange(2)]))
+        data, limit = encode(case, **random_records(rng, case)), rng.choice([1, 2, 50])
+        rec.run(*data, RATES, phase, sets, lists, limit, rooms("run", n, f, more=[rng.randrange(2)]))
     rec.note("reads that disagree: several sweeps, the later ones by other orders, settled and not")
     for _ in range(25):
         rec.entries += tangled(rng).requests(["run"])
@@ -492,8 +534,8 @@ def runs(rec, rng):
 LATE_PHASE = [48, 49, 48, 49]
 
 
-def late_sample():
-    """The variants of the sample; fragments 1 and 4 absent, 2 without calls; seven unused records, two left behind."""
+def late_sample(unused=7):
+    """The variants of the sample; fragments 1 and 4 absent, 2 without calls; the records 4 and 1 free, so many unused."""
     variants = sample().variants
     variants[1] = Variant(10, 0, (2, 0), ["C", "T", "G"])
     fragments = [
@@ -503,12 +545,12 @@ def late_sample():
         Fragment(1, [Call(0, 0, -9000, -40), Call(2, 1, -2001, -3)]),
         Fragment(1, [], False),
     ]
-    idle = {r: NO_RECORD for r in (1, 4, 8, 9, 10, 11, 12, 13, 14)}
-    return encode(Case(variants, fragments, -2000), idle=idle, used=7)
+    idle = {r: NO_RECORD for r in [1, 4] + list(range(8, 8 + unused))}
+    return encode(Case(variants, fragments, -2000), idle=idle, used=7, free=[4, 1])
 
 
-def late_standing(extra=0):
-    words, bases = late_sample()
+def late_standing(extra=0, unused=7):
+    words, bases = late_sample(unused)
     haplotypes = start_haplotypes(check(words, bases), LATE_PHASE)
     return fresh(words, bases, RATES, LATE_PHASE, haplotypes, extra)
 
@@ -538,11 +580,15 @@ def departure(f):
 
 def late_lists(rec, rng):
     rec.note("arrivals and departures from fresh values, each on what the last one left")
-    left = follow(rec, late_standing(), [
+    follow(rec, late_standing(), [
         arrival(1, LONG), departure(0), arrival(0, SHORT), departure(1), arrival(1, EMPTY), departure(1), departure(2),
         arrival(4, SINGLE), arrival(2, SINGLE), departure(3), departure(0), departure(4), departure(2)])
-    rec.note("all records are used: one call more is refused, none is not")
-    rec.entries += [left.arrive(1, SINGLE), left.arrive(1, EMPTY)]
+    rec.note("little room, over and over: the last free and unused records are taken, one call more is refused, none is not")
+    left = follow(rec, late_standing(unused=1), [arrival(1, LONG)])
+    rec.entries += [left.arrive(4, SINGLE), left.arrive(4, EMPTY)]
+    left = follow(rec, left, [
+        departure(3), arrival(3, SHORT), departure(1), arrival(4, SHORT), departure(0), arrival(1, LONG)])
+    rec.entries += [left.arrive(0, SHORT), left.arrive(0, SINGLE)]
     rec.note("slices that are longer, with values past their needs that are out of range")
     follow(rec, late_standing(3), [arrival(4, LONG), departure(3), arrival(3, LONG)])
     rec.note("what is left goes through the other operations; absent fragments have likelihoods 0 and 0")
@@ -593,7 +639,8 @@ def lent_faults(rec):
     rec.note("refusals that arrivals and departures share: 1 to 5, haplotypes under 2, 7, 10")
     words, bases = late_sample()
     at, part = Layout.of(words), late_parts("depart")
-    bad = [(HEAD.used, 15), (at.variant(2) + VARIANT.dp, -1), (at.call(7) + CALL.qual, 1), (at.fragment(4) + 1, 2)]
+    bad = [(HEAD.used, 15), (at.variant(2) + VARIANT.dp, -1), (at.call(7) + CALL.qual, 1), (at.fragment(4) + 1, 2),
+           (at.call(1) + CALL.next, 4)]
     short = [(i, None, part[i][:-1]) for i in (LatePart.HAPLOTYPES, LatePart.LIKELIHOODS, LatePart.COUNTS)]
     for word in LATE:
         for i in range(len(bad)):
@@ -671,11 +718,10 @@ def number_faults(rec):
         refuse(rec, "arrive", (LatePart.NUMBER, None, f))
     for f in (1, 4, 5, 4294967295):
         refuse(rec, "depart", (LatePart.NUMBER, None, f))
-    words, bases = late_sample()
-    for used in (10, 11, 14):
-        refuse(rec, "arrive", (LatePart.CALLS, None, calls), words=with_word(words, HEAD.used, used))
-    refuse(rec, "arrive", words=with_word(words, HEAD.used, 11))
-    refuse(rec, "arrive", (LatePart.CALLS, None, []), words=with_word(words, HEAD.used, 14))
+    for unused in (2, 1, 0):
+        refuse(rec, "arrive", (LatePart.CALLS, None, calls), words=late_sample(unused)[0])
+    refuse(rec, "arrive", words=late_sample(1)[0])
+    refuse(rec, "arrive", (LatePart.CALLS, None, []), words=late_sample(0)[0])
     nothing = [[], [], [], [], 0]
     for number in (0, 1):
         rec.add("arrive", *NOTHING, nothing + [number, 0, []])
@@ -687,7 +733,7 @@ def number_faults(rec):
     faults = [(LatePart.TOTAL, None, 1), (LatePart.CALLS, 2 * ARRIVING.words + ARRIVING.qual, 1),
               (LatePart.CALLS, ARRIVING.words, 0), (LatePart.STRAND, None, 2), (LatePart.NUMBER, None, 0),
               (LatePart.COUNTS, 0, MAX_COUNT)]
-    full = with_word(words, HEAD.used, 12)
+    full = late_sample(0)[0]
     for i in range(len(faults)):
         refuse(rec, "arrive", *faults[i:], words=full)
     refuse(rec, "arrive", words=full)
@@ -708,7 +754,8 @@ LATER = [priors, orders, phase, flist, nohap, runs, late]
 def recorded():
     """The whole list."""
     rec, rng = Record(), random.Random(1)
-    for part in (accepted, heads, variants, alleles, calls, chains, idle_records, past_faults, order_of_numbers, filters):
+    for part in (accepted, heads, variants, alleles, calls, chains, idle_records, free_chains, past_faults,
+                 order_of_numbers, filters):
         part(rec)
     damaged(rec, rng, 150)
     random_filters(rec, rng, 60)

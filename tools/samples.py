@@ -12,12 +12,12 @@ RATES = [-44916, -40820, -58522, -54426, -4096, -8192]
 PHASE = [48, 49]
 
 
-def two_variants(absent=0, unused=0):
-    """The worked case of docs/FORMAT.md, with so many absent fragments and unused records besides."""
+def two_variants(absent=0, free=0, unused=0):
+    """The worked case of docs/FORMAT.md, with so many absent fragments, free and unused records besides."""
     variants = [Variant(99, 12, (0, 1), ["A", "G"]), Variant(149, 11, (0, 1), ["C", "T"])]
     reads = [Fragment(1, [Call(0, 1, -27213, -59), Call(1, 0, -13607, -623)])]
     reads += [Fragment(0, [], present=False)] * absent
-    return encode(Case(variants, reads, -9525), idle={3 + i: CALL.make() for i in range(unused)}, used=2)
+    return encode(Case(variants, reads, -9525), idle={3 + i: CALL.make() for i in range(free + unused)}, used=2 + free)
 
 
 def records(words):
@@ -28,12 +28,13 @@ def records(words):
         return plain_text(words[start:start + kind.words])
 
     return [
-        ("head: variants, fragments, call records, cutoff, call records used", [text(HEAD, 0)]),
+        ("head: variants, fragments, call records, cutoff, call records used, the first free one (0: none)",
+         [text(HEAD, 0)]),
         ("each variant: pos0, depth, genotype (2), alleles, their lengths (3)",
          [text(VARIANT, at.variant(v)) for v in range(at.n)]),
         ("each read: its first call record, its strand (0 forward, 1 reverse); an absent one has -1 as its first",
          [text(FRAGMENT, at.fragment(f)) for f in range(at.f)]),
-        ("each call record: variant, allele, qual, one_minus_qual, next record; an unused one is not looked at",
+        ("each call record: variant, allele, qual, one_minus_qual, next record (of a free one only next counts)",
          [text(CALL, at.call(r)) for r in range(1, at.c + 1)])]
 
 
@@ -89,7 +90,7 @@ def every_request():
 
 def late_requests():
     """A read arrives at a case with room for it; then it departs, from what the arrival left."""
-    words, bases = two_variants(absent=1, unused=2)
+    words, bases = two_variants(absent=1, free=1, unused=1)
     haplotypes = start_haplotypes(check(words, bases), PHASE)
     before = fresh(words, bases, RATES, PHASE, haplotypes)
     arrival = before.arrive(1, Fragment(0, [Call(0, 0, -27213, -59), Call(1, 0, -9525, -1315)]))
@@ -98,9 +99,10 @@ def late_requests():
                 3: "ten counts for each variant: alleles (3), forward (3), reverse (3), ambiguous"}
     total = "the total, the read's number"
     return [
-        (arrival, {"front": "A read arrives late: read 1 is absent, and two records are unused.", "spell": True,
+        (arrival, {"front": "A read arrives late: read 1 is absent, record 3 is free and record 4 unused.", "spell": True,
                    "comments": {**comments, 4: total + ", its strand", 5: "its calls, four words each"}}),
-        (departure, {"front": "The same read leaves again; the words and values are those that its arrival left.",
+        (departure, {"front": "The same read leaves again, and its records are free; the words and values are those that "
+                              "its arrival left.",
                      "comments": {4: total}})]
 
 

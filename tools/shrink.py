@@ -1,6 +1,7 @@
 """Makes a trial smaller as long as it still shows a difference."""
 import copy
 
+from cases import NO_ROOM
 from model import Case, Fragment
 
 GROUP = 16
@@ -40,8 +41,18 @@ def without_orders(trial, gone):
     trial.orders = [order for i, order in enumerate(trial.orders) if i not in gone] or trial.orders[:1]
 
 
+def in_order(trial, _):
+    """The records lie in order; none is free or unused."""
+    trial.places = None
+
+
+def without_room(trial, _):
+    """No record is free or unused."""
+    trial.room = NO_ROOM
+
+
 def plain(trial, _):
-    trial.records, trial.extra = {}, 0
+    trial.extra = 0
 
 
 def steps(trial):
@@ -49,7 +60,11 @@ def steps(trial):
     calls = sum(len(f.calls) for f in trial.case.fragments)
     parts = [(without_variants, len(trial.case.variants)), (without_fragments, len(trial.case.fragments)),
              (without_calls, calls), (without_orders, len(trial.orders) - 1)]
-    if trial.records or trial.extra:
+    if trial.places is not None:
+        yield in_order, ()
+        if trial.room != NO_ROOM:
+            yield without_room, ()
+    if trial.extra:
         yield plain, ()
     size = max(count for _, count in parts)
     while size > 0:
@@ -61,7 +76,6 @@ def steps(trial):
 
 def smaller(trial, step, gone):
     out = copy.copy(trial)
-    out.records = {}
     step(out, gone)
     return out
 

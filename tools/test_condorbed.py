@@ -102,8 +102,8 @@ def request(word, words=None, bases=None, rates=RATES, phase=(48, 49), sets=(0, 
 AT = Layout.of(CASE[0])
 
 # An arrival on a case without values to update but the total: fragment 0 is present, 1 is absent, one record is unused.
-LATE_CASE = encode(Case([Variant(99, 12, (0, 1), ["A", "G"])], [Fragment(0, []), Fragment(1, [], False)], -9525),
-                   idle={1: CALL.make()}, used=0)
+LATE = Case([Variant(99, 12, (0, 1), ["A", "G"])], [Fragment(0, []), Fragment(1, [], False)], -9525)
+LATE_CASE = encode(LATE, idle={1: CALL.make()}, used=0)
 LATE_PARTS = [[48], [0, 1], [0] * 4, [0] * 10, -49012, 1, 1, [0, 1, -27213, -59]]
 
 
@@ -115,17 +115,17 @@ def late(word, **changed):
     return Request(word, *LATE_CASE, parts[:LatePart.STRAND] if word == "depart" else parts)
 
 
-# The arrival where the one record is used.
-FULL = Request("arrive", HEAD.make(n=1, f=2, c=1, cutoff=-9525, used=1) + LATE_CASE[0][HEAD.words:], LATE_CASE[1],
-               LATE_PARTS)
+# The arrival where there is no record.
+FULL = Request("arrive", *encode(LATE), LATE_PARTS)
 
 # A request, its refusal, and what the explanation says of the place and of what is expected there.
 REFUSALS = [
     (request("check", {HEAD.n: 2000}), "refused 1 0", ["word 0 of the head is 2000", "number of variants", "0..1024"]),
     (request("check", {HEAD.cutoff: 1}), "refused 1 3", ["word 3 of the head is 1", "the cutoff", "-262144..0"]),
     (request("check", {HEAD.used: 3}), "refused 1 4", ["word 4 of the head is 3", "call records used", "0..2"]),
-    (request("check", {HEAD.c: 3}), "refused 1 5", ["`words` has 33 elements", "C = 3", "must have 38"]),
-    (Request("check", [2, 1], []), "refused 1 0", ["`words` has 2 elements", "the head alone has 5"]),
+    (request("check", {HEAD.free: 3}), "refused 1 5", ["word 5 of the head is 3", "the first free call record", "0..2"]),
+    (request("check", {HEAD.c: 3}), "refused 1 6", ["`words` has 34 elements", "C = 3", "must have 39"]),
+    (Request("check", [2, 1], []), "refused 1 0", ["`words` has 2 elements", "the head alone has 6"]),
     (request("check", {AT.variant(0) + VARIANT.k: 4}), "refused 2 0", [
         "variant 0 is out of range", "k in 1..3", "99 12 0 1 4 1 1 0"]),
     (request("check", {AT.variant(1) + VARIANT.pos0: 98}), "refused 2 1", [
@@ -141,6 +141,11 @@ REFUSALS = [
     (request("check", {AT.fragment(0) + FRAGMENT.strand: 2}), "refused 5 0", [
         "fragment 0 is wrong", "strand 0 or 1", "Its words are 1 2"]),
     (request("check", {AT.fragment(0) + FRAGMENT.first: -2}), "refused 5 0", ["-1, if it is absent, or in 0..2"]),
+    (request("check", {AT.call(2) + CALL.next: 1}), "refused 5 0", ["each next must be in 0..2, and the variants must rise"]),
+    (request("check", {HEAD.free: 2}), "refused 5 1", [
+        "the free chain is wrong, which starts at record 2", "no record of it may come twice or be a fragment's"]),
+    (request("check", {AT.fragment(0) + FRAGMENT.first: -1}), "refused 5 1", [
+        "starts at record 0 (0: there is none)", "each of the records 1..2 must be in a fragment's chain or in this one"]),
     (late("arrive", CALLS=[0, 1, -27213, -59] * 2), "refused 5 1", ["arriving call 1 does not rise"]),
     (late("arrive", STRAND=2), "refused 5 1", ["the arrival has 4 words and the strand 2", "the strand 0 or 1"]),
     (late("arrive", CALLS=[0, 1, -27213]), "refused 5 0", ["the arrival has 3 words", "4 words for each call"]),
@@ -164,7 +169,7 @@ REFUSALS = [
     (late("arrive", NUMBER=0), "refused 13 0", ["fragment 0 is present", "an absent one can arrive"]),
     (late("depart"), "refused 13 1", ["fragment 1 is absent", "a present one can depart"]),
     (late("depart", NUMBER=2), "refused 13 2", ["there is no fragment 2", "those below 2"]),
-    (FULL, "refused 14 1", ["the arrival has 1 call and there are 0 unused records"]),
+    (FULL, "refused 14 1", ["the arrival has 1 call and there are 0 free and 0 unused records"]),
 ]
 
 
@@ -183,18 +188,28 @@ def test_unsettled():
 
 
 def test_late():
-    """An arrival and the departure of the same read: the second gives back the values of the first."""
+    """An arrival and the departure of the same read, which gives back the values before the arrival and frees its record;
+    the next arrival takes it."""
     told = command("--explain", "-", text=late("arrive").text().encode())[0]
     expect_in("an arrival", told, "1 variant, 2 fragments (1 absent), 0 calls",
-              "Fragment 1 arrived with 1 call, first record 1. Call records used: 1 of 1.",
+              "Fragment 1 arrived with 1 call, first record 1. Call records used: 1 of 1, 0 of them free.",
               "Its likelihoods are -27213 and -59. Phased total: -53108 steps. The sample is now unsettled.")
     expect("the counts of an arrival", told.splitlines()[-1].split(), ["0", "100", "A/G", "0,1", "0,0", "0,1", "0"])
-    first, *lent = own_answer(late("arrive").text().encode()).splitlines()
-    words, likelihoods, counts = [[int(x) for x in line.split()] for line in lent]
-    back = Request("depart", words, LATE_CASE[1], [[48], [0, 1], likelihoods, counts, int(first.split()[2]), 1])
+    back = following("depart", late("arrive"))
     told = command("--explain", "-", text=back.text().encode())[0]
-    expect_in("a departure", told, "1 variant, 2 fragments, 1 call", "Fragment 1 left; its number is free.",
-              "Call records used: 1 of 1.", "Its likelihoods are 0 and 0. Phased total: -49012 steps.")
+    expect_in("a departure", told, "1 variant, 2 fragments, 1 call", "Fragment 1 left; its number can be taken again.",
+              "Call records used: 1 of 1, 1 of them free.", "Its likelihoods are 0 and 0. Phased total: -49012 steps.")
+    told = command("--explain", "-", text=following("arrive", back).text().encode())[0]
+    expect_in("an arrival in a free record", told, "1 variant, 2 fragments (1 absent), 0 calls",
+              "Fragment 1 arrived with 1 call, first record 1. Call records used: 1 of 1, 0 of them free.")
+
+
+def following(word, asked):
+    """An arrival or a departure of the same read, on what the program left after one."""
+    first, *lent = own_answer(asked.text().encode()).splitlines()
+    words, likelihoods, counts = [[int(x) for x in line.split()] for line in lent]
+    parts = LATE_PARTS[:2] + [likelihoods, counts, int(first.split()[2])] + LATE_PARTS[LatePart.NUMBER:]
+    return Request(word, words, LATE_CASE[1], parts[:LatePart.STRAND] if word == "depart" else parts)
 
 
 # ---- Unreadable inputs: a text, its answer, what is said, the input's line and the mark below the token.
@@ -203,9 +218,9 @@ UNREADABLE = [
     ("\n chekc 1\n", "unreadable 2 1 request",
      "token 1 of the request, in line 2, is no word of a request; the words are check, priors",
      "  line 2:  chekc 1\n           ^\n"),
-    ("check 5 0 0\n0 zero 0", "unreadable 2 6 number", "is no whole number", "  line 2: 0 zero 0\n            ^\n"),
-    ("check 98326 " + "1 " * 99, "unreadable 1 2 length", "cannot hold", "  line 1: check 98326 1 1"),
-    ("check 5 0 # x\n0 0\n", "unreadable 3 6 end", "is missing: the input ends", "  line 3:\n          ^\n"),
+    ("check 6 0 0\n0 zero 0", "unreadable 2 6 number", "is no whole number", "  line 2: 0 zero 0\n            ^\n"),
+    ("check 98327 " + "1 " * 99, "unreadable 1 2 length", "cannot hold", "  line 1: check 98327 1 1"),
+    ("check 6 0 # x\n0 0\n", "unreadable 3 6 end", "is missing: the input ends", "  line 3:\n          ^\n"),
     ("check 99 " + "1 " * 80 + "y", "unreadable 1 83 number", "is no whole number", "  line 1: ... 1 1 1"),
 ]
 

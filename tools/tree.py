@@ -95,7 +95,8 @@ def words_text(case, words):
     def record(kind):
         return plain_text(next(at) for _ in range(kind.words))
 
-    lines = ["# the words: how many; then the head: variants, fragments, call records, cutoff, call records used",
+    lines = ["# the words: how many; then the head: variants, fragments, call records, cutoff, call records used, the first",
+             "# free one (0: none)",
              "# (the cutoff is an error probability of 0.2, Phred 6.99; a call is used if its qual is below it)",
              "%d  %s" % (len(words), record(HEAD)),
              "# each variant: pos0, depth, genotype (2), alleles, their lengths (3)"]

@@ -7,14 +7,14 @@ Each answer is written here from the protocol's text; a difference ends the scri
 import subprocess
 import sys
 
-CHECKED = "check 5 0 0 0 0 0 0\n"
+CHECKED = "check 6 0 0 0 0 0 0 0\n"
 
 # An input, and the whole of what the program writes.
 INPUTS = [
     # an unknown word: alone, with no line feed, one letter off, a request's word in capitals, too long
     ("what 1 2\n", "unreadable 1 1 request"),
     ("what", "unreadable 1 1 request"),
-    ("chec 5 0 0 0 0 0 0\n", "unreadable 1 1 request"),
+    ("chec 6 0 0 0 0 0 0 0\n", "unreadable 1 1 request"),
     ("afresh 0 0", "unreadable 1 1 request"),
     ("CHECK", "unreadable 1 1 request"),
     ("checkcheckcheck", "unreadable 1 1 request"),
@@ -49,19 +49,19 @@ INPUTS = [
     ("\n\n  what", "unreadable 3 1 request"),
     ("# a\n\t# b # c\r\n\ncheck # d\n1\r\n\tx\n", "unreadable 6 3 number"),
     ("check\r1\rx\r0", "unreadable 1 3 number"),
-    ("check 5 0\n0 0 0\nx 0", "unreadable 3 7 number"),
+    ("check 6 0\n0 0 0\nx 0 0", "unreadable 3 7 number"),
     # after an answered request
     (CHECKED + CHECKED + "what", "done\ndone\nunreadable 3 1 request"),
     (CHECKED + "check 0 0\ncheck\n1 x", "done\nrefused 1 0\nunreadable 4 3 number"),
-    (CHECKED * 2 + "orders 5 0 0 0 0 0 0 1 65537", "done\ndone\nunreadable 3 10 length"),
+    (CHECKED * 2 + "orders 6 0 0 0 0 0 0 0 1 65537", "done\ndone\nunreadable 3 11 length"),
     # the input ends within a request: behind its word, in a slice, in front of a part, in a comment
     ("check", "unreadable 1 2 end"),
     ("check\n", "unreadable 2 2 end"),
-    ("check 5 0 0", "unreadable 1 5 end"),
-    ("check 5\n0 0\n", "unreadable 3 5 end"),
-    ("check 5 0 0 0 0 0\n# no bases", "unreadable 2 8 end"),
+    ("check 6 0 0", "unreadable 1 5 end"),
+    ("check 6\n0 0\n", "unreadable 3 5 end"),
+    ("check 6 0 0 0 0 0 0\n# no bases", "unreadable 2 9 end"),
     ("priors 0 0 -1 -1 -1\n-1 -1", "unreadable 2 9 end"),
-    (CHECKED + "run 5 0 0 0 0 0 0\n-1 -1 -1 -1 -1 -1\n0 0 0 1\n0 0 0 0", "done\nunreadable 5 23 end"),
+    (CHECKED + "run 6 0 0 0 0 0 0 0\n-1 -1 -1 -1 -1 -1\n0 0 0 1\n0 0 0 0", "done\nunreadable 5 24 end"),
     ("depart 0 0 0 0 0 0 0", "unreadable 1 9 end"),
     ("arrive 0 0 0 0 0 0 0 0 0", "unreadable 1 11 end"),
     # no fault: nothing, comments alone, a last token with no line feed
@@ -75,9 +75,9 @@ INPUTS = [
 
 # The elements that each slice's array holds, with the request up to its length; inputs, then outputs.
 RATES = " -1 -1 -1 -1 -1 -1"
-READ = [("check", 98325), ("check 0", 196624), ("phase 0 0", 1040), ("phase 0 0 0", 1040), ("filter 0 0", 1040),
+READ = [("check", 98326), ("check 0", 196624), ("phase 0 0", 1040), ("phase 0 0 0", 1040), ("filter 0 0", 1040),
         ("run 0 0" + RATES + " 0 0", 65536), ("arrive 0 0", 1040), ("arrive 0 0 0", 2064), ("arrive 0 0 0 0", 8208),
-        ("arrive 0 0 0 0 0", 10256), ("arrive 0 0 0 0 0 0 0 0 0", 4112), ("depart", 98325), ("depart 0 0 0", 2064),
+        ("arrive 0 0 0 0 0", 10256), ("arrive 0 0 0 0 0 0 0 0 0", 4112), ("depart", 98326), ("depart 0 0 0", 2064),
         ("depart 0 0 0 0", 8208), ("depart 0 0 0 0 0", 10256)]
 WRITTEN = [("priors 0 0" + RATES, 9232, 1), ("nohap 0 0" + RATES, 13328, 3), ("nohap 0 0" + RATES + " 0", 1040, 2),
            ("nohap 0 0" + RATES + " 0 0", 1040, 1), ("phase 0 0 0 0", 2064, 3), ("phase 0 0 0 0 0", 1040, 2),

@@ -1,8 +1,9 @@
 //! An arrival and a departure against the same values taken afresh.
 //!
-//! The case is a request's, its last fragment out. It arrives and departs again and again. Afresh: the library's calling
-//! without haplotypes, for the counts, and the likelihoods of all fragments by a plain loop over the words. The total, the
-//! phased flags and the copying of the counts are left out of that time.
+//! The case is a request's, its last fragment out. It arrives and departs again and again: the first time into unused
+//! records, then into those that its departure freed. Afresh: the library's calling without haplotypes, for the counts, and
+//! the likelihoods of all fragments by a plain loop over the words. The total, the phased flags and the copying of the
+//! counts are left out of that time.
 
 use case::layout::{take_last, Words, CALLED, COUNTED, PAIR};
 use condorbed::{self, Refused, Updated, Values};
@@ -107,20 +108,21 @@ impl<'a> Late<'a> {
     fn agreed(&self) {
         let (mut words, mut values) = (self.words.clone(), self.afresh(&self.words).0);
         let before = values.clone();
-        self.arrive(&mut words, &mut values);
-        assert!(words == self.request.words, "an arrival has not put the fragment back");
-        assert!(values == self.afresh(&words).0, "an arrival leaves other values than those afresh");
-        self.depart(&mut words, &mut values);
-        assert!(values == before, "a departure leaves other values than those before");
+        for _ in 0..2 {
+            self.arrive(&mut words, &mut values);
+            assert!(words == self.request.words, "an arrival has not put the fragment back");
+            assert!(values == self.afresh(&words).0, "an arrival leaves other values than those afresh");
+            self.depart(&mut words, &mut values);
+            assert!(values == before, "a departure leaves other values than those before");
+        }
     }
 
     /// The times, in turn, for so long, as two lines.
     pub fn measured(&self, time: Duration) -> String {
         self.agreed();
-        let (mut values, mut times) = (self.afresh(&self.words).0, Times::default());
+        let (mut words, mut values, mut times) = (self.words.clone(), self.afresh(&self.words).0, Times::default());
         let start = Instant::now();
         while times.arrival.len() < TURNS || start.elapsed() < time {
-            let mut words = self.words.clone();
             times.arrival.push(self.arrive(&mut words, &mut values));
             times.afresh.push(self.afresh(&words).1);
             times.check.push(checked(&words, &self.request.bases));

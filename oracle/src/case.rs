@@ -1,5 +1,5 @@
-//! A case of document 01, section 2, as amended by request 1, as the source's variants and fragments. The case is an
-//! accepted one. An absent fragment is read as one without calls.
+//! A case of document 01, section 2, as amended by requests 1 and 3, as the source's variants and fragments. The case is
+//! an accepted one. An absent fragment is read as one without calls; free and unused records are not read.
 //!
 //! Here, in `layout`, stand all strides, offsets and limits that the oracle and the benchmark know.
 
@@ -19,7 +19,7 @@ pub mod layout {
     pub const LOWEST: i32 = -262144;
 
     /// Words of the head and of each record.
-    const HEAD: usize = 5;
+    const HEAD: usize = 6;
     const VARIANT: usize = 8;
     const FRAGMENT: usize = 2;
     const CALL: usize = 5;
@@ -63,6 +63,10 @@ pub mod layout {
             self.0[4] as usize
         }
 
+        pub fn free(&self) -> usize {
+            self.0[5] as usize
+        }
+
         pub fn variant(&self, v: usize) -> VariantWords<'a> {
             VariantWords(self.record(HEAD + VARIANT * v, VARIANT))
         }
@@ -84,8 +88,8 @@ pub mod layout {
         /// Whether the head is within its limits and gives this number of words: a test that both sides mean the same
         /// layout, not the check of a case.
         pub fn sized(&self) -> bool {
-            let (n, f, c) = (self.n(), self.f(), self.c());
-            let within = n <= MAX_VARIANTS && f <= MAX_FRAGMENTS && c <= MAX_CALLS && self.used() <= c;
+            let (n, f, c, used) = (self.n(), self.f(), self.c(), self.used());
+            let within = n <= MAX_VARIANTS && f <= MAX_FRAGMENTS && c <= MAX_CALLS && used <= c && self.free() <= used;
             within && ranged(self.cutoff()) && self.0.len() == HEAD + VARIANT * n + FRAGMENT * f + CALL * c
         }
     }

@@ -2,12 +2,12 @@
 -- case is accepted, and no operation is refused with 10 at place 0. One operation at a time: past its tests the words decode to the case with
 -- one fragment exchanged, and there `Updated` has the values. Assumes nothing.
 use mathlib.Core.Path.{_≡_, refl, sym, ap, _∙_, subst}
-use mathlib.Core.Bool.{Bool, true, false, _&&_}
+use mathlib.Core.Bool.{true, false, _&&_}
 use mathlib.Core.List.{List, []}
-use Prim.Native.Nat.{ℕ, _+_, _*_, _≤_, _<_}
+use Prim.Native.Nat.{ℕ, _*_, _≤_, _<_}
 use native.Mathlib.Omega.{arith}
-use borrow.Author.Tests.{eqb-false, ltb-true}
-use lib.Dec.{eqb, ltb}
+use borrow.Author.Tests.{ltb-true}
+use lib.Dec.{ltb}
 use lib.IntN.{ℤ}
 use lib.ListN.{length}
 use Rattle.variants_and_fragments.specs.declared.Sizes.{Sizes}
@@ -15,7 +15,7 @@ use Rattle.variants_and_fragments.specs.Case.{Case, fragmentOf}
 use Rattle.variants_and_fragments.specs.Decode.{decode}
 use Rattle.variants_and_fragments.specs.First.{firstFail}
 use Rattle.variants_and_fragments.specs.Layout.{sizesOf}
-use Rattle.variants_and_fragments.specs.Refusals.{Outcome, refused, done, unless, each, andThen, smallestShort, longEnough}
+use Rattle.variants_and_fragments.specs.Refusals.{refused, done}
 use Rattle.variants_and_fragments.specs.Inner.Accepted.{CaseIn}
 use Rattle.variants_and_fragments.specs.Inner.Case.{GoodCase}
 use Rattle.variants_and_fragments.proofs.Accepted.{checked-in, checked-case}
@@ -27,42 +27,17 @@ use Rattle.genotype_probs.specs.declared.Rates.{Rates}
 use Rattle.genotype_probs.specs.Rates.{rateTest}
 use Rattle.genotype_probs.specs.Inner.Rates.{ratesFault}
 use Rattle.late_reads.specs.Values.{inRange, exchanged}
-use Rattle.late_reads.specs.Arriving.{wholeCalls, arrivingRead, arrivedWords, departedWords}
+use Rattle.late_reads.specs.Arriving.{arrivingRead, arrivedWords, departedWords}
 use Rattle.late_reads.specs.LateReads.{LateInput, LateAnswer, unsettled, keptOutcome, arrivingOutcome, arrivedValues, arriveOutcome, arriveWritten, departedValues, departOutcome, departWritten}
 use Rattle.late_reads.specs.Inner.Ready.{Kept, Arriving}
-use Rattle.late_reads.proofs.Arrivals.{sizes-arrival, accepted-arrival, decoded-arrival}
-use Rattle.late_reads.proofs.Departures.{sizes-departure, accepted-departure, decoded-departure}
-use Rattle.late_reads.proofs.OneChanged.{usedAs}
+use Rattle.late_reads.proofs.Arrivals.{arrivedSizes, sizes-arrival, accepted-arrival, decoded-arrival}
+use Rattle.late_reads.proofs.Departures.{departedSizes, sizes-departure, accepted-departure, decoded-departure}
 use Rattle.late_reads.proofs.KeptCase.{kept-checked, kept-past}
 use Rattle.late_reads.proofs.ArrivalTests.{tests-past, tests-are, present-is}
 use Rattle.afresh.specs.Lists.{Stand, standing, inputOf, Leaves, none, arrives, departs, FreshStand, ExchangesOne, KeepsFresh}
+use Rattle.afresh.proofs.Refused.{unless-refused, other-refused, each-refused, short-refused, then-refused}
 use Rattle.afresh.proofs.Updated.{fresh-arrival, fresh-departure}
 use Rattle.afresh.proofs.Ranges.{fresh-in-range}
-
--- ---- an outcome that is not 10 at place 0
-module _ {X : Type 0} where
-  unless-not : (b : Bool) (n p : ℕ) (rest : Outcome X) → (b ≡ false → n ≡ 10 → p ≡ 0 → ⊥) → (b ≡ true → rest ≡ refused 10 0 → ⊥) → unless b n p rest ≡ refused 10 0 → ⊥
-  unfolding unless
-  unless-not true n p rest stops goes h = goes refl h
-  unless-not false n p rest stops goes h = let e : n ≡ 10 = cc in let z : p ≡ 0 = cc in stops refl e z
-
-  -- a test with another number
-  other-not : (b : Bool) (n p : ℕ) (rest : Outcome X) → (n ≡ 10 → ⊥) → (b ≡ true → rest ≡ refused 10 0 → ⊥) → unless b n p rest ≡ refused 10 0 → ⊥
-  other-not b n p rest other goes = unless-not b n p rest (λ _ e _. other e) goes
-
-  each-not : (n : ℕ) (test : ℕ → Bool) (i k : ℕ) (rest : Outcome X) → (n ≡ 10 → ⊥) → (rest ≡ refused 10 0 → ⊥) → each n test i k rest ≡ refused 10 0 → ⊥
-  unfolding each
-  each-not n test i k rest other goes = other-not _ n _ rest other (λ _ h. goes h)
-
-  -- slices that are too short have a place that is not 0
-  short-not : (slices : List (ℕ × ℕ)) (rest : Outcome X) → (rest ≡ refused 10 0 → ⊥) → longEnough slices rest ≡ refused 10 0 → ⊥
-  unfolding longEnough
-  short-not slices rest goes = unless-not (eqb (smallestShort slices) 0) 10 (smallestShort slices) rest (λ off _ zero. eqb-false (smallestShort slices) 0 off zero) (λ _ h. goes h)
-
-  then-not : {Y : Type 0} (o : Outcome Y) (next : Y → Outcome X) → (o ≡ refused 10 0 → ⊥) → ((y : Y) → o ≡ done y → next y ≡ refused 10 0 → ⊥) → andThen o next ≡ refused 10 0 → ⊥
-  unfolding andThen
-  then-not (refused n p) next stops goes h = let e : n ≡ 10 = cc in let z : p ≡ 0 = cc in stops (rw (e, z))
-  then-not (done y) next stops goes h = goes y refl h
 
 -- ---- one stand
 stand-good : {bases phase haps : List ℕ} {rates : Rates} {x : Stand} → FreshStand bases phase haps rates x → GoodCase (decode (x .words) bases)
@@ -129,7 +104,7 @@ module _ {bases phase haps : List ℕ} {rates : Rates} {x : Stand} (here : Fresh
       unfolding arriveWritten
       arrival-ranged rated =
           let after = arrivedWords (x .words) z f strand calls in
-          let same : sizesOf after ≡ usedAs z (z .used + wholeCalls calls) = sizes-arrival (x .words) bases haps z (here .accepted) f strand calls arriving in
+          let same : sizesOf after ≡ arrivedSizes (x .words) z calls = sizes-arrival (x .words) bases haps z (here .accepted) f strand calls arriving in
           let n-is : t .n ≡ sizesOf after .n = ap (λ (t : Sizes). t .n) (sym (tested .0) ∙ sizes) ∙ sym (ap (λ (t : Sizes). t .n) same) in
           let f-is : t .f ≡ sizesOf after .f = ap (λ (t : Sizes). t .f) (sym (tested .0) ∙ sizes) ∙ sym (ap (λ (t : Sizes). t .f) same) in
           rw (n-is, f-is) (stand-in-range arrival-fresh rated)
@@ -152,9 +127,10 @@ module _ {bases phase haps : List ℕ} {rates : Rates} {x : Stand} (here : Fresh
       departure-ranged : firstFail (rateTest rates) 7 ≡ 7 → inRange (s .n) (s .f) (departedValues input f) ≡ true
       unfolding departWritten
       departure-ranged rated =
-          let same : sizesOf (departedWords (x .words) z f) ≡ s = sizes-departure (x .words) bases haps z (here .accepted) f departing-below ∙ sym sizes in
-          let n-is : s .n ≡ sizesOf (departedWords (x .words) z f) .n = sym (ap (λ (t : Sizes). t .n) same) in
-          let f-is : s .f ≡ sizesOf (departedWords (x .words) z f) .f = sym (ap (λ (t : Sizes). t .f) same) in
+          let after = departedWords (x .words) z f in
+          let same : sizesOf after ≡ departedSizes (x .words) z f = sizes-departure (x .words) bases haps z (here .accepted) f departing-below in
+          let n-is : s .n ≡ sizesOf after .n = ap (λ (t : Sizes). t .n) sizes ∙ sym (ap (λ (t : Sizes). t .n) same) in
+          let f-is : s .f ≡ sizesOf after .f = ap (λ (t : Sizes). t .f) sizes ∙ sym (ap (λ (t : Sizes). t .f) same) in
           rw (n-is, f-is) (stand-in-range departure-fresh rated)
 
 -- past the tests of an operation: what it answers, and that what it leaves is fresh
@@ -183,28 +159,29 @@ module _ {bases phase haps : List ℕ} {rates : Rates} {x : Stand} (here : Fresh
   kept-not : keptOutcome (inputOf bases phase haps x) ≡ refused 10 0 → ⊥
   unfolding keptOutcome
   kept-not =
-      then-not _ _ (λ h. not-done (sym h ∙ here .accepted)) (λ s ok.
+      then-refused _ _ (λ h. not-done (sym h ∙ here .accepted)) (λ s ok.
       let e : s ≡ sizesOf (x .words) = checked-in (x .words) bases haps s ok .shape in
-      other-not _ 7 _ _ (λ q. omega arith) (λ _. short-not _ _ (unless-not _ 10 0 _ (λ off _ _. true-false (rw e (stand-in-range here right)) off) (λ _ h. not-done (sym h)))))
+      other-refused _ 7 _ _ (λ q. omega arith) (λ _.
+      short-refused _ _ (λ _ some. some refl) (unless-refused _ 10 0 _ (λ off _ _. true-false (rw e (stand-in-range here right)) off) (λ _ h. not-done (sym h)))))
 
   arrives-in-range : (f : ℕ) (strand : ℤ) (calls : List ℤ) → arriveOutcome (inputOf bases phase haps x) f strand calls ≡ refused 10 0 → ⊥
   unfolding arriveOutcome arrivingOutcome
   arrives-in-range f strand calls =
-      then-not _ _ kept-not (λ s ok.
-      then-not _ _
-      (each-not 4 _ 0 _ _ (λ q. omega arith)
-      (each-not 5 _ 0 _ _ (λ q. omega arith)
-      (other-not _ 5 _ _ (λ q. omega arith) (λ _.
-      other-not _ 13 _ _ (λ q. omega arith) (λ _.
-      other-not _ 14 _ _ (λ q. omega arith) (λ _ h. not-done (sym h)))))))
-      (λ t past. unless-not _ 10 0 _ (λ off _ _. true-false (arrival-ranged here ok f strand calls past right) off) (λ _ h. not-done (sym h))))
+      then-refused _ _ kept-not (λ s ok.
+      then-refused _ _
+      (each-refused 4 _ 0 _ _ (λ q. omega arith) (λ _.
+      each-refused 5 _ 0 _ _ (λ q. omega arith) (λ _.
+      other-refused _ 5 _ _ (λ q. omega arith) (λ _.
+      other-refused _ 13 _ _ (λ q. omega arith) (λ _.
+      other-refused _ 14 _ _ (λ q. omega arith) (λ _ h. not-done (sym h)))))))
+      (λ t past. unless-refused _ 10 0 _ (λ off _ _. true-false (arrival-ranged here ok f strand calls past right) off) (λ _ h. not-done (sym h))))
 
   departs-in-range : (f : ℕ) → departOutcome (inputOf bases phase haps x) f ≡ refused 10 0 → ⊥
   unfolding departOutcome
   departs-in-range f =
-      then-not _ _ kept-not (λ s ok.
-      other-not _ 13 _ _ (λ q. omega arith) (λ there.
-      unless-not _ 10 0 _ (λ off _ _. true-false (departure-ranged here ok f there right) off) (λ _ h. not-done (sym h))))
+      then-refused _ _ kept-not (λ s ok.
+      other-refused _ 13 _ _ (λ q. omega arith) (λ there.
+      unless-refused _ 10 0 _ (λ off _ _. true-false (departure-ranged here ok f there right) off) (λ _ h. not-done (sym h))))
 
 -- ---- one fragment is exchanged
 module _ (bases phase haps : List ℕ) (x : Stand) (answer : LateAnswer) where

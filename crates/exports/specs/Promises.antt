@@ -55,7 +55,7 @@ abbrev pub CallGenotypesWithHaplotypes : RoundInput → List ℤ → RoundSlices
 CallGenotypesWithHaplotypes input sets before a after =
     Exported readRound roundNumbers (λ answer. CalledWithHaplotypes input sets before answer after) a
 
--- request 1
+-- requests 1 and 3
 abbrev pub Arrives : late.LateInput → ℕ → ℤ → List ℤ → LateAnswer → late.LateSlices → Type 0
 Arrives input f strand calls a after = Exported readLate lateNumbers (λ answer. late.Arrives input f strand calls answer after) a
 

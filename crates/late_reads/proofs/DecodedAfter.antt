@@ -19,11 +19,10 @@ use Rattle.variants_and_fragments.specs.Chain.{chainOf, memb}
 use Rattle.variants_and_fragments.specs.Decode.{tabulate, alleleStart, alleleAt, variantFrom, callFrom, fragmentFrom, decode}
 use Rattle.variants_and_fragments.specs.Inner.Accepted.{CaseIn}
 use Rattle.variants_and_fragments.proofs.Bools.{or-right}
-use Rattle.variants_and_fragments.proofs.Chain.{chain-record}
 use Rattle.variants_and_fragments.proofs.Decoded.{tabulate-length, tabulate-at}
 use Rattle.genotype_probs.proofs.TableSums.{tabulate-cong}
 use Rattle.late_reads.specs.Values.{exchanged}
-use Rattle.late_reads.proofs.OneChanged.{usedAs, Changed, variant-word, allele-count-same, call-kept, chain-same, sizes-after}
+use Rattle.late_reads.proofs.OneChanged.{roomAs, Changed, variant-word, allele-count-same, call-kept, chain-same, sizes-after}
 use Rattle.late_reads.proofs.AcceptedAfter.{length-same, start-same}
 
 -- ---- lists
@@ -45,43 +44,43 @@ tabulate-set n g h f d same = ext-getD d (tabulate n g) (set (tabulate n h) f (g
 abbrev decodeAs : List ℤ → List ℕ → Sizes → Case
 decodeAs w b s = record { variants = tabulate (s .n) (variantFrom w b); fragments = tabulate (s .f) (fragmentFrom w s); cutoff = cutoffAt w }
 
-module _ {w w' : List ℤ} {s : Sizes} {u f : ℕ} (k : CaseIn w s) (changed : Changed w w' s u f) (b : List ℕ) where
+module _ {w w' : List ℤ} {s : Sizes} {u v f : ℕ} {own rest : List ℕ} (k : CaseIn w s) (changed : Changed w w' s u v f own rest) (b : List ℕ) where
   -- ---- a variant
-  module _ (v : ℕ) (l : v < s .n) where
-    allele-start-same : (j : ℕ) → j ≤ 3 → alleleStart w' v j ≡ alleleStart w v j
+  module _ (x : ℕ) (l : x < s .n) where
+    allele-start-same : (j : ℕ) → j ≤ 3 → alleleStart w' x j ≡ alleleStart w x j
     unfolding alleleStart
-    allele-start-same zero m = start-same k (changed .keeps) v (omega arith)
-    allele-start-same (suc j) m = rw (allele-start-same j (omega arith), length-same k (changed .keeps) v j l (omega arith))
+    allele-start-same zero m = start-same k (changed .keeps) x (omega arith)
+    allele-start-same (suc j) m = rw (allele-start-same j (omega arith), length-same k (changed .keeps) x j l (omega arith))
 
-    allele-same : (j : ℕ) → j < 3 → alleleAt w' b v j ≡ alleleAt w b v j
+    allele-same : (j : ℕ) → j < 3 → alleleAt w' b x j ≡ alleleAt w b x j
     unfolding alleleAt
-    allele-same j m = rw (allele-start-same j (omega arith), length-same k (changed .keeps) v j l m)
+    allele-same j m = rw (allele-start-same j (omega arith), length-same k (changed .keeps) x j l m)
 
-    variant-same : variantFrom w' b v ≡ variantFrom w b v
+    variant-same : variantFrom w' b x ≡ variantFrom w b x
     unfolding variantFrom
     variant-same =
-        let at : (field : ℕ) → field < 8 → variantWord w' v field ≡ variantWord w v field = λ field. variant-word k (changed .keeps) v field l in
-        let count = allele-count-same k (changed .keeps) v l in
-        let top = k .variants .each v l .k-high in
-        let alleles : tabulate (alleleCountAt w' v) (alleleAt w' b v) ≡ tabulate (alleleCountAt w v) (alleleAt w b v) =
-        rw count (tabulate-cong (alleleCountAt w v) (alleleAt w' b v) (alleleAt w b v) (λ j m. allele-same j (omega arith))) in
+        let at : (field : ℕ) → field < 8 → variantWord w' x field ≡ variantWord w x field = λ field. variant-word k (changed .keeps) x field l in
+        let count = allele-count-same k (changed .keeps) x l in
+        let top = k .variants .each x l .k-high in
+        let alleles : tabulate (alleleCountAt w' x) (alleleAt w' b x) ≡ tabulate (alleleCountAt w x) (alleleAt w b x) =
+        rw count (tabulate-cong (alleleCountAt w x) (alleleAt w' b x) (alleleAt w b x) (λ j m. allele-same j (omega arith))) in
         rw (at pos0Field (omega arith), at depthField (omega arith), at (genotypeField + 0) (omega arith), at (genotypeField + 1) (omega arith), alleles)
 
   -- ---- another fragment
-  fragment-same : (g : ℕ) → g < s .f → (g ≡ f → ⊥) → fragmentFrom w' (usedAs s u) g ≡ fragmentFrom w s g
+  fragment-same : (g : ℕ) → g < s .f → (g ≡ f → ⊥) → fragmentFrom w' (roomAs s u v) g ≡ fragmentFrom w s g
   unfolding fragmentFrom
   fragment-same g l other =
-      let calls : map (callFrom w' (usedAs s u)) (chainOf w' (usedAs s u) g) ≡ map (callFrom w s) (chainOf w s g) =
-      rw (chain-same k (changed .keeps) u (changed .low) (changed .high) g l other)
-      (map-same (callFrom w' (usedAs s u)) (callFrom w s) (chainOf w s g) (λ r m. let i = chain-record w s g r m in call-kept k (changed .keeps) u (changed .low) (changed .high) r (i .0) (i .1))) in
-      rw (changed .keeps .others g firstField l (omega arith) other, changed .keeps .others g strandField l (omega arith) other, calls)
+      let calls : map (callFrom w' (roomAs s u v)) (chainOf w' (roomAs s u v) g) ≡ map (callFrom w s) (chainOf w s g) =
+      rw (chain-same k (changed .keeps) g l other)
+      (map-same (callFrom w' (roomAs s u v)) (callFrom w s) (chainOf w s g) (λ r m. call-kept k (changed .keeps) g l other r m)) in
+      rw (changed .keeps .others g firstField l other (omega arith), changed .keeps .others g strandField l other (omega arith), calls)
 
   -- ---- the case
-  pub decoded-changed : decode w' b ≡ exchanged (decode w b) f (fragmentFrom w' (usedAs s u) f)
+  pub decoded-changed : decode w' b ≡ exchanged (decode w b) f (fragmentFrom w' (roomAs s u v) f)
   unfolding decode exchanged
   decoded-changed =
       let variants = tabulate-cong (s .n) (variantFrom w' b) (variantFrom w b) variant-same in
-      let fragments = tabulate-set (s .f) (fragmentFrom w' (usedAs s u)) (fragmentFrom w s) f noFragment fragment-same in
-      let cutoff : cutoffAt w' ≡ cutoffAt w = changed .keeps .front cutoffField (omega arith) (λ e. omega arith) in
-      let same : decodeAs w' b (usedAs s u) ≡ exchanged (decodeAs w b s) f (fragmentFrom w' (usedAs s u) f) = rw (variants, fragments, cutoff) in
-      ap (decodeAs w' b) (sizes-after k changed) ∙ same ∙ ap (λ (t : Sizes). exchanged (decodeAs w b t) f (fragmentFrom w' (usedAs s u) f)) (k .shape)
+      let fragments = tabulate-set (s .f) (fragmentFrom w' (roomAs s u v)) (fragmentFrom w s) f noFragment fragment-same in
+      let cutoff : cutoffAt w' ≡ cutoffAt w = changed .keeps .front cutoffField (omega arith) (λ e. omega arith) (λ e. omega arith) in
+      let same : decodeAs w' b (roomAs s u v) ≡ exchanged (decodeAs w b s) f (fragmentFrom w' (roomAs s u v) f) = rw (variants, fragments, cutoff) in
+      ap (decodeAs w' b) (sizes-after k (changed .keeps)) ∙ same ∙ ap (λ (t : Sizes). exchanged (decodeAs w b t) f (fragmentFrom w' (roomAs s u v) f)) (k .shape)

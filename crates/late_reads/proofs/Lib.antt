@@ -11,6 +11,7 @@ pub mod ReadCalls
 pub mod Distinct
 pub mod WordsAfter
 pub mod Room
+pub mod Apart
 pub mod OneChanged
 pub mod AcceptedAfter
 pub mod DecodedAfter

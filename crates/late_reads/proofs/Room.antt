@@ -76,7 +76,7 @@ module _ {w : List ℤ} {s : Sizes} (k : CaseIn w s) where
     | no l ↦ let e = room-tail w s i (omega arith) h in (omega arith, omega (arith, room-length w s))
   ]
 
-  free-distinct : distinct (freeChain w s) ≡ true
+  pub free-distinct : distinct (freeChain w s) ≡ true
   free-distinct = distinct-left (freeChain w s) (reached w s (s .f)) (chains-distinct k)
 
   pub room-distinct : distinct (room w s) ≡ true

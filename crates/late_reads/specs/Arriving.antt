@@ -79,8 +79,8 @@ unfoldable pub callsLaid : List ℤ → Sizes → List ℤ → List ℕ → ℕ 
 callsLaid w s calls rs zero = w
 callsLaid w s calls rs (suc i) = callLaid (callsLaid w s calls rs i) s calls rs i
 
--- an arrival's calls stand in the records taken, and fragment f's first call is the first of them, or 0 for no calls; what it takes beyond the
--- free records are used ones now, and the first that is left free is the head's word 5, or 0 for none
+-- an arrival's calls stand in the records taken, and fragment f's first call is the first of them, or 0 for no calls; the records that it
+-- takes beyond the free ones are used ones now, and the first that is left free is the head's word 5, or 0 for none
 unfoldable pub arrivedWords : List ℤ → Sizes → ℕ → ℤ → List ℤ → List ℤ
 arrivedWords w s f strand calls =
     let m = wholeCalls calls in
@@ -97,7 +97,7 @@ unfoldable pub freedWords : List ℤ → Sizes → List ℕ → List ℤ
 freedWords w s [] = w
 freedWords w s (r ∷ rs) = headSet (callSet w s (getD (r ∷ rs) (length rs) 0) nextField (pos (s .free))) freeField (pos r)
 
--- a departure makes fragment f absent; its strand and its calls' words stay
+-- a departure makes fragment f absent; its strand and the four words of each of its calls stay
 unfoldable pub departedWords : List ℤ → Sizes → ℕ → List ℤ
 unfolding freedWords
 departedWords w s f = fragmentSet (freedWords w s (chainOf w s f)) s f firstField (negsuc 0)

@@ -1,4 +1,5 @@
-// Reads that come late (requests 1 and 3): a fragment arrives or departs, and the likelihoods, the counts and the phased total are updated.
+// Reads that come late (requests 1 and 3): a fragment arrives or departs, its call records are taken or freed, and the likelihoods, the
+// counts and the phased total are updated.
 ghost use mathlib.Core.Bool.{true};
 ghost use mathlib.Core.Path.{_≡_};
 ghost use Prim.Native.Nat.{_<_};

@@ -45,7 +45,7 @@ unfoldable pub isReached : List ℤ → Sizes → ℕ → Bool
 unfolding memb reached
 isReached w s r = memb r (reached w s (s .f))
 
--- records that no fragment reaches are not checked: the free ones and the unused tail
+-- records that no fragment reaches are not looked at under 4: the free ones and the unused tail
 unfoldable pub reachedCallOk : List ℤ → Sizes → ℕ → Bool
 reachedCallOk w s r = not (isReached w s r) || callOk w s r
 
@@ -54,11 +54,11 @@ reachedCallOk w s r = not (isReached w s r) || callOk w s r
 abbrev pub nextOk : List ℤ → Sizes → ℕ → Bool
 nextOk w s r = within (pos 0) (pos (s .used)) (callWord w s r nextField)
 
--- and where it is not 0, its variant is above r's
+-- a fragment's link: the next is right, and where it is not 0, the variant of the record that it names is above r's
 unfoldable pub linkOk : List ℤ → Sizes → ℕ → Bool
 linkOk w s r = let t = nextCallAt w s r in nextOk w s r && (eqb t 0 || ltb (callVariantAt w s r) (callVariantAt w s t))
 
--- along rs each record's link is right, and no record was reached before, l being those reached
+-- along rs the test `right` of a link holds of each record, and no record was reached before, l being those reached
 unfoldable pub goodChain : (ℕ → Bool) → List ℕ → List ℕ → Bool
 unfolding memb
 goodChain right l [] = true
@@ -71,7 +71,7 @@ fragmentOk w s f =
     && (within (negsuc 0) (pos (s .used)) (fragmentWord w s f firstField) && goodChain (linkOk w s) (reached w s f) (chainOf w s f))
 
 -- ---- 5 at place F, the free chain (request 3)
--- the free records. C + 1 steps: a chain that comes back to one of its records meets it within them, since there are C
+-- the free records. C + 1 steps: a chain that comes back to one of its records meets it within them, since there are C records
 unfoldable pub freeChain : List ℤ → Sizes → List ℕ
 unfolding chainFrom
 freeChain w s = chainFrom w s (suc (s .c)) (s .free)

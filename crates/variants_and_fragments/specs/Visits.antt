@@ -1,5 +1,5 @@
--- Requests 2 and 3: the walk along the chains. It goes along each fragment's chain once, fragments rising; what it does not visit of the used records is
--- the free chain. w is the words, s the sizes.
+-- Requests 2 and 3: the walk along the chains. It goes along each fragment's chain once, fragments rising; the used records
+-- that it does not visit are, in an accepted case, those of the free chain. w is the words, s the sizes.
 -- Assumes nothing.
 use mathlib.Core.Path.{_≡_}
 use mathlib.Core.Bool.{true, false}

@@ -236,7 +236,8 @@ fn free_ok(words: &[i32], s: Sizes, seen: &mut [u8]) -> bool
     all_marked(seen, s.used)
 }
 
-// Numbers 4 and 5. The chains are walked first: where all are right, they mark what is reached, and no second walk is needed.
+// Numbers 4 and 5. The fragments' chains are walked first: where all are right, they mark what is reached, and no second walk is needed. The free
+// chain is walked last.
 pub fn check_chains(words: &[i32], s: Sizes) -> Checked
     requires { ⌜ Sized (now words) s ⌝ }
     requires { ⌜ VariantsIn (now words) s ⌝ }
