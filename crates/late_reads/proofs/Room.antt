@@ -70,7 +70,7 @@ module _ {w : List ℤ} {s : Sizes} (k : CaseIn w s) where
   pub room-top : length (room w s) ≤ s .c
   room-top = omega (arith, room-length w s, free-length k, k .sized .used-top)
 
-  pub room-in : (i : ℕ) → i < length (room w s) → (1 ≤ getD (room w s) i 0) × (getD (room w s) i 0 ≤ s .c)
+  room-in : (i : ℕ) → i < length (room w s) → (1 ≤ getD (room w s) i 0) × (getD (room w s) i 0 ≤ s .c)
   room-in i h = elim (decLt i (length (freeChain w s))) [
     | yes l ↦ let b = linked-in (free-linked k) i l in rw (room-free w s i l) (b .0, omega (arith, b .1, k .sized .used-top))
     | no l ↦ let e = room-tail w s i (omega arith) h in (omega arith, omega (arith, room-length w s))

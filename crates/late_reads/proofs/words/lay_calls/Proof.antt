@@ -1,7 +1,7 @@
 -- `words::lay_calls` meets its contract. The loop's invariant: the first i calls are laid in the first i records of those to take, and the others are
 -- left.
 -- Assumes nothing.
-use mathlib.Core.Path.{_≡_, refl, sym, ap, _∙_}
+use mathlib.Core.Path.{_≡_, refl, sym, ap, _∙_, subst}
 use mathlib.Core.List.{List}
 use mathlib.Core.Logic.{inl, inr}
 use Prim.Native.Nat.{ℕ, suc, _-_, _≤_}
@@ -17,7 +17,7 @@ use Rattle.late_reads.specs.declared.words.RoomLeft.{RoomLeft}
 use Rattle.late_reads.specs.Arriving.{wholeCalls, taken, callsLaid}
 use Rattle.late_reads.specs.Inner.Room.{frontOf, restOf, leftAt}
 use Rattle.late_reads.proofs.Room.{taken-past, taken-length, taken-in, taken-top, left-start, left-in, taken-front, taken-rest}
-use Rattle.late_reads.proofs.WordsAfter.{sized-as, laid-length, laid-more}
+use Rattle.late_reads.proofs.WordsAfter.{laid-length, sized-laid, laid-more}
 use Rattle.late_reads.proofs.words.lay_calls.Statement.{statement}
 use Rattle.late_reads.proofs.words.lay_calls.Tie as tie
 
@@ -40,7 +40,7 @@ module _ (l : tie.At-loop Inv-loop μ-loop) where
   rs = taken (st .args .words .now) (st .args .s) m
 
   sized : Sized (l .loop .words) (st .args .s)
-  sized = sized-as (st .args .words .now) (l .loop .words) (st .args .s) (ap length (l .loop .inv .2) ∙ laid-length (st .args .words .now) (st .args .s) (st .args .calls .now) rs (l .loop .i)) (st .pre .0 .sized)
+  sized = subst (λ (x : List ℤ). Sized x (st .args .s)) (sym (l .loop .inv .2)) (sized-laid (st .args .words .now) (st .args .s) (st .args .calls .now) rs (l .loop .i) (st .pre .0 .sized))
 
   left-top : (l .loop .left .used ≤ 16384) × (l .loop .left .free ≤ st .args .s .c)
   left-top =
