@@ -9,14 +9,13 @@ use Prim.Native.Nat.{ℕ, zero, suc, _≤_, _<_}
 use native.Mathlib.Nat.{le-refl}
 use native.Mathlib.Omega.{arith}
 use native.Mathlib.Decide.{ℕ-discrete}
-use borrow.Author.Tests.{eq-eqb, ne-eqb}
-use lib.Dec.{eqb}
+use borrow.Author.Tests.{ne-eqb}
 use lib.IntN.{ℤ}
 use lib.ListN.{length, getD}
 use Rattle.variants_and_fragments.specs.declared.Sizes.{Sizes}
 use Rattle.variants_and_fragments.specs.Chain.{nextCallAt, chainFrom, chainOf, freeChain, memb, reached, goodChain}
 use Rattle.variants_and_fragments.specs.Inner.Accepted.{allb, CaseIn}
-use Rattle.variants_and_fragments.proofs.Bools.{both, or-right, not-on, off, true-false}
+use Rattle.variants_and_fragments.proofs.Bools.{both, not-on, off, true-false}
 use Rattle.variants_and_fragments.proofs.Free.{chains-distinct, chains-within}
 use Rattle.variants_and_fragments.proofs.Linked.{Linked, linked-by, linked-fuel}
 use Rattle.variants_and_fragments.proofs.Pigeon.{distinct, Within, none, more, pigeon, within-memb, memb-head, memb-more, memb-append, memb-left, memb-right, distinct-left, reached-ok, reached-has}
