@@ -110,7 +110,7 @@ def into_free(rng, request):
     """A fragment's chain that goes on at a free record; most of these get words that fit."""
     place, at = any_chain(rng, request), layout(request)
     taken = walked(request, HEAD.free)
-    if place == HEAD.free or not taken or place >= len(request.words):
+    if place == HEAD.free or not taken or not 0 <= place < len(request.words):
         return
     own, r = walked(request, place), rng.choice([taken[-1], rng.choice(taken)])
     request.words[at.call(own[-1]) + CALL.next if own else place] = r

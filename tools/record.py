@@ -221,10 +221,11 @@ def free_chains(rec):
     at = Layout.of(words)
     after = lambda r: at.call(r) + CALL.next
     fits = [(at.call(4) + i, x) for i, x in enumerate(ARRIVING.make(variant=1))]
-    rec.note("the free chain: what it has twice, shares or leaves out is 5, place F; a next of it out of range too")
+    rec.note("the free chain: 1 where it starts in the tail; what it has twice, shares or leaves out is 5, place F; a next of "
+             "it out of range too")
     rec.check(words, bases)
     for changes in (
-            [(HEAD.free, 0)], [(HEAD.free, 3)], [(after(4), 1)], [(after(4), 5)], [(after(4), 4)], [(after(5), 4)],
+            [(HEAD.free, 7)], [(HEAD.free, 0)], [(HEAD.free, 3)], [(after(4), 1)], [(after(4), 5)], [(after(4), 4)],
             [(after(2), 0)], [(after(4), 7)], [(after(4), -1)], [(after(5), -2147483648)], [(HEAD.used, 7)]):
         rec.check(changed_words(words, changes), bases)
     rec.note("a fragment runs into it: 4 where the words are wrong, place F where they fit; a chain that cycles")

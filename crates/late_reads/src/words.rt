@@ -3,6 +3,7 @@ ghost use mathlib.Core.Path.{_≡_};
 ghost use Prim.Native.Nat.{_-_, _<_, _≤_};
 ghost use lib.ListN.{length, getD};
 ghost use Rattle.variants_and_fragments.specs.Chain.{chainOf};
+ghost use Rattle.variants_and_fragments.specs.Layout.{maxCalls};
 ghost use Rattle.variants_and_fragments.specs.Inner.Accepted.{CaseIn};
 ghost use Rattle.variants_and_fragments.specs.Inner.Chain.{firstRecordAt};
 ghost use Rattle.variants_and_fragments.specs.Inner.Layout.{Sized};
@@ -24,14 +25,14 @@ use variants_and_fragments::layout::put_strand;
 use variants_and_fragments::layout::put_used;
 
 // The records that are left to take: the first free one or 0, and how many are used.
-pub struct Left {
+pub struct RoomLeft {
     pub free: usize,
     pub used: usize,
 }
 
 // The record that is taken next: the first free one, else the first of the unused tail.
-fn front_of(left: Left) -> usize
-    requires { ⌜ left .used ≤ 16384 ⌝ }
+fn front_of(left: RoomLeft) -> usize
+    requires { ⌜ left .used ≤ maxCalls ⌝ }
     ensures { λ r. ⌜ r ≡ frontOf left ⌝ }
 {
     if left.free == 0 {
@@ -41,18 +42,18 @@ fn front_of(left: Left) -> usize
 }
 
 // What is left once it is taken.
-fn rest_of(words: &[i32], s: Sizes, left: Left) -> Left
+fn rest_of(words: &[i32], s: Sizes, left: RoomLeft) -> RoomLeft
     requires { ⌜ Sized (now words) s ⌝ }
-    requires { ⌜ (left .used ≤ 16384) × (left .free ≤ s .c) ⌝ }
+    requires { ⌜ (left .used ≤ maxCalls) × (left .free ≤ s .c) ⌝ }
     ensures { λ r. ⌜ r ≡ restOf (now (words .entry)) s left ⌝ }
 {
     if left.free == 0 {
-        return Left {
+        return RoomLeft {
             free: 0,
             used: left.used + 1,
         };
     }
-    Left {
+    RoomLeft {
         free: next_call(words, s, left.free),
         used: left.used,
     }
@@ -60,14 +61,14 @@ fn rest_of(words: &[i32], s: Sizes, left: Left) -> Left
 
 // Writes the arriving calls into the records that they take, linked one after the other, and answers what is left. At the loop's head those
 // before i are written.
-fn lay_calls(words: &mut [i32], s: Sizes, arrival: Arrival, calls: &[i32]) -> Left
+fn lay_calls(words: &mut [i32], s: Sizes, arrival: Arrival, calls: &[i32]) -> RoomLeft
     requires { ⌜ CaseIn (now words) s ⌝ }
     requires { ⌜ Arriving (now words) s (arrival .fragment) (arrival .strand) (now calls) ⌝ }
     ensures { λ _. ⌜ now (words .exit) ≡ callsLaid (now (words .entry)) s (now (calls .entry)) (taken (now (words .entry)) s (wholeCalls (now (calls .entry)))) (wholeCalls (now (calls .entry))) ⌝ }
     ensures { λ left. ⌜ left ≡ leftAt (now (words .entry)) s (wholeCalls (now (calls .entry))) ⌝ }
 {
     let m = calls.len() / ARRIVING_WORDS;
-    let mut left = Left {
+    let mut left = RoomLeft {
         free: s.free,
         used: s.used,
     };
@@ -90,7 +91,7 @@ pub fn lay_arrival(words: &mut [i32], s: Sizes, arrival: Arrival, calls: &[i32])
 {
     let m = calls.len() / ARRIVING_WORDS;
     let f = arrival.fragment;
-    let before = Left {
+    let before = RoomLeft {
         free: s.free,
         used: s.used,
     };

@@ -1,15 +1,15 @@
 -- `words::free_records` meets its contract: a chain without records changes nothing, and of another one the last record's next and the head's word 5
 -- are set.
 -- Assumes nothing.
-use mathlib.Core.Path.{_≡_, refl, sym, ap, _∙_}
+use mathlib.Core.Path.{_≡_, refl, sym, _∙_}
 use mathlib.Core.List.{List, [], _∷_}
-use Prim.Native.Nat.{ℕ, _+_, _-_}
+use Prim.Native.Nat.{ℕ, _-_}
 use native.Mathlib.Omega.{arith}
 use borrow.Author.Needs.{needs}
 use lib.IntN.{ℤ, pos}
-use lib.ListN.{length, getD, length-set}
+use lib.ListN.{length, getD}
 use Rattle.variants_and_fragments.specs.declared.Sizes.{Sizes}
-use Rattle.variants_and_fragments.specs.Layout.{nextField, freeField, callAt, headSet, callSet}
+use Rattle.variants_and_fragments.specs.Layout.{nextField, freeField, headSet, callSet}
 use Rattle.variants_and_fragments.specs.Chain.{firstCallAt, linkOk, chainOf}
 use Rattle.variants_and_fragments.specs.Inner.Chain.{firstRecordAt}
 use Rattle.variants_and_fragments.proofs.Chain.{record-top}
@@ -74,7 +74,7 @@ put-free-requires c κs =
     let e = c .before .before .before .before .before .before in
     let st = e .before .before .before in
     let z = st .pre .0 .sized in
-    (omega (arith, z .size, ap length (c .before .before .put-next .ensures), length-set (st .args .words .now) (callAt (st .args .s) (c .before .before .before .before .last-record .result) + nextField) (pos (st .args .s .free))), omega (arith, e .before .first-call .ensures, record-top (st .args .s) (firstCallAt (st .args .words .now) (st .args .s) (st .args .f)), z .used-top, z .c-top))
+    (search needs, omega (arith, e .before .first-call .ensures, record-top (st .args .s) (firstCallAt (st .args .words .now) (st .args .s) (st .args .f)), z .used-top, z .c-top))
 
 same-length-2 : tie.Need-same-length-2
 same-length-2 c = search needs

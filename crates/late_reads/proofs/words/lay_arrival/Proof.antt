@@ -14,7 +14,7 @@ use mir.Val.{SFits}
 use mir.Facts.{toZ-ofZ, toZ-pos}
 use Rattle.variants_and_fragments.specs.declared.Sizes.{Sizes}
 use Rattle.variants_and_fragments.specs.Chain.{freeChain}
-use Rattle.late_reads.specs.declared.words.Left.{Left}
+use Rattle.late_reads.specs.declared.words.RoomLeft.{RoomLeft}
 use Rattle.late_reads.specs.Arriving.{wholeCalls, taken, arrivedWords}
 use Rattle.late_reads.specs.Inner.Room.{frontOf, leftAt}
 use Rattle.late_reads.proofs.Room.{taken-past, taken-top, left-start, left-in, taken-front}
@@ -44,11 +44,11 @@ first-top c = omega (arith, first-is c, taken-top (c .before .pre .0) (m c) (c .
 -- what is left
 used-is : (c : tie.After-lay-calls) → let j = c .before .before in c .lay-calls .result .used ≡ s j .used + (m j - length (freeChain (w j) (s j)))
 unfolding leftAt
-used-is c = ap (λ (x : Left). x .used) (c .lay-calls .ensures .1)
+used-is c = ap (λ (x : RoomLeft). x .used) (c .lay-calls .ensures .1)
 
 free-is : (c : tie.After-lay-calls) → let j = c .before .before in c .lay-calls .result .free ≡ getD (freeChain (w j) (s j)) (m j) 0
 unfolding leftAt
-free-is c = ap (λ (x : Left). x .free) (c .lay-calls .ensures .1)
+free-is c = ap (λ (x : RoomLeft). x .free) (c .lay-calls .ensures .1)
 
 left-top : (c : tie.After-lay-calls) → (c .lay-calls .result .used ≤ 16384) × (c .lay-calls .result .free ≤ 16384)
 unfolding leftAt

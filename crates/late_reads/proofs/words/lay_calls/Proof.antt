@@ -13,7 +13,7 @@ use Rattle.variants_and_fragments.specs.declared.Sizes.{Sizes}
 use Rattle.variants_and_fragments.specs.declared.CallWords.{CallWords}
 use Rattle.variants_and_fragments.specs.Layout.{callPut}
 use Rattle.variants_and_fragments.specs.Inner.Layout.{Sized}
-use Rattle.late_reads.specs.declared.words.Left.{Left}
+use Rattle.late_reads.specs.declared.words.RoomLeft.{RoomLeft}
 use Rattle.late_reads.specs.Arriving.{wholeCalls, taken, callsLaid}
 use Rattle.late_reads.specs.Inner.Room.{frontOf, restOf, leftAt}
 use Rattle.late_reads.proofs.Room.{taken-past, taken-length, taken-in, taken-top, left-start, left-in, taken-front, taken-rest}
@@ -46,8 +46,8 @@ module _ (l : tie.At-loop Inv-loop μ-loop) where
   left-top =
       let b = left-in (st .pre .0) (l .loop .i) (omega (arith, l .loop .inv .0, st .pre .1 .fits)) in
       let z = st .pre .0 .sized in
-      let used = ap (λ (x : Left). x .used) (l .loop .inv .1) in
-      let free = ap (λ (x : Left). x .free) (l .loop .inv .1) in
+      let used = ap (λ (x : RoomLeft). x .used) (l .loop .inv .1) in
+      let free = ap (λ (x : RoomLeft). x .free) (l .loop .inv .1) in
       (omega (arith, b .0, z .c-top), omega (arith, b .1, z .used-top))
 
 -- ---- the record that is taken, what is left then, and the record after it
@@ -96,7 +96,7 @@ front-of-requires-2 : tie.Need-front-of-requires-2 Inv-loop μ-loop
 front-of-requires-2 c κs =
     let l = c .before .before .before .before .before in
     let b = left-in (st l .pre .0) (suc (l .loop .i)) (omega (arith, c .before .before .before .before .loop-test .taken, st l .pre .1 .fits)) in
-    omega (arith, b .0, st l .pre .0 .sized .c-top, ap (λ (x : Left). x .used) (rest-is (c .before)))
+    omega (arith, b .0, st l .pre .0 .sized .c-top, ap (λ (x : RoomLeft). x .used) (rest-is (c .before)))
 
 arriving-at-requires : tie.Need-arriving-at-requires Inv-loop μ-loop
 arriving-at-requires c κs = omega arith
