@@ -59,12 +59,9 @@ module _ {w : List ℤ} {s : Sizes} (k : CaseIn w s) (m : ℕ) (fits : m ≤ len
   abbrev n : ℕ
   n = length (freeChain w s)
 
-  -- how many records are used then, and the first free one
+  -- how many records are used then
   abbrev u : ℕ
   u = s .used + (m - length (freeChain w s))
-
-  abbrev v : ℕ
-  v = getD (freeChain w s) m 0
 
   pub rs-length : length rs ≡ m
   rs-length = taken-length w s m fits

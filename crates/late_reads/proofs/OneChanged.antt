@@ -104,9 +104,6 @@ module _ {w w' : List ℤ} {s : Sizes} {u v f : ℕ} (k : CaseIn w s) (keeps : K
 
   -- ---- another fragment's chain
   module _ (g : ℕ) (in-case : g < s .f) (other : g ≡ f → ⊥) where
-    abbrev rs : List ℕ
-    rs = chainOf w s g
-
     linked : Linked w s (linkOk w s) (firstRecordAt w s g) (chainOf w s g)
     linked = chain-linked (k .sized .used-top) (k .frags g in-case)
 
