@@ -24,12 +24,12 @@ use Rattle.variants_and_fragments.proofs.Accepted.{checked-in}
 use Rattle.variants_and_fragments.proofs.Bools.{both, true-false}
 use Rattle.variants_and_fragments.proofs.Decoded.{tabulate-length, tabulate-at}
 use Rattle.variants_and_fragments.proofs.Outcomes.{then-past}
-use Rattle.variants_and_fragments.proofs.Pigeon.{memb-left}
+use Rattle.variants_and_fragments.proofs.Pigeon.{memb-left, memb-right}
 use Rattle.late_reads.specs.Arriving.{wholeCalls, unusedRecords, room, taken, arrivedWords, departedWords}
 use Rattle.late_reads.specs.LateReads.{LateInput, LateAnswer, arriveOutcome, arriveWritten, departWritten}
 use Rattle.late_reads.specs.Inner.Ready.{Arriving}
 use Rattle.late_reads.proofs.Distinct.{memb-at}
-use Rattle.late_reads.proofs.Apart.{memb-cases, memb-right, memb-place}
+use Rattle.late_reads.proofs.Apart.{memb-cases, memb-place}
 use Rattle.late_reads.proofs.ArrivalTests.{tests-past, tests-are}
 use Rattle.late_reads.proofs.Arrivals.{arrivedSizes, both-only, both-free, both-since, used-high, rs-length, arrived-long, arrived-other, sizes-arrival, accepted-arrival, chain-arrival, free-arrival}
 use Rattle.late_reads.proofs.Departures.{departedSizes, departed-long, departed-other, departed-first, sizes-departure, free-departure}

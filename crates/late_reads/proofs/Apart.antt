@@ -1,5 +1,5 @@
--- Lists of records by their members: where a member stands, lists that share none, and a chain that is good because no record comes twice. And so of the
--- chains of an accepted case: none has a record twice, and no two share one.
+-- Lists of records by their members: where a member stands, lists that share none, a chain that is good because no record comes twice, and records linked
+-- one after the other, which are the chain from the first. The chains of an accepted case have no record twice, and no two share one.
 -- Assumes nothing.
 use mathlib.Core.Path.{_≡_, refl, sym, _∙_}
 use mathlib.Core.Bool.{Bool, true, false, not, _||_}
@@ -9,17 +9,16 @@ use Prim.Native.Nat.{ℕ, zero, suc, _≤_, _<_}
 use native.Mathlib.Nat.{le-refl}
 use native.Mathlib.Omega.{arith}
 use native.Mathlib.Decide.{ℕ-discrete}
-use borrow.Author.Tests.{eq-eqb, ne-eqb}
-use lib.Dec.{eqb}
+use borrow.Author.Tests.{ne-eqb}
 use lib.IntN.{ℤ}
 use lib.ListN.{length, getD}
 use Rattle.variants_and_fragments.specs.declared.Sizes.{Sizes}
 use Rattle.variants_and_fragments.specs.Chain.{nextCallAt, chainFrom, chainOf, freeChain, memb, reached, goodChain}
 use Rattle.variants_and_fragments.specs.Inner.Accepted.{allb, CaseIn}
-use Rattle.variants_and_fragments.proofs.Bools.{both, or-right, not-on, off, true-false}
+use Rattle.variants_and_fragments.proofs.Bools.{both, not-on, off, true-false}
 use Rattle.variants_and_fragments.proofs.Free.{chains-distinct, chains-within}
 use Rattle.variants_and_fragments.proofs.Linked.{Linked, linked-by, linked-fuel}
-use Rattle.variants_and_fragments.proofs.Pigeon.{distinct, Within, none, more, pigeon, within-memb, memb-append, memb-left, distinct-left, reached-ok, reached-has}
+use Rattle.variants_and_fragments.proofs.Pigeon.{distinct, Within, none, more, pigeon, within-memb, memb-head, memb-more, memb-append, memb-left, memb-right, distinct-left, reached-ok, reached-has}
 use Rattle.late_reads.proofs.Distinct.{memb-at}
 use Rattle.late_reads.proofs.Room.{place-in}
 
@@ -30,9 +29,6 @@ or-cases false b h = inr h
 
 pub memb-cases : (x : ℕ) (rs l : List ℕ) → memb x (rs ++ l) ≡ true → (memb x rs ≡ true) ⊎ (memb x l ≡ true)
 memb-cases x rs l h = or-cases (memb x rs) (memb x l) (sym (memb-append x rs l) ∙ h)
-
-pub memb-right : (x : ℕ) (rs l : List ℕ) → memb x l ≡ true → memb x (rs ++ l) ≡ true
-memb-right x rs l h = memb-append x rs l ∙ or-right (memb x rs) (memb x l) h
 
 -- a member stands at some place
 pub memb-place : (l : List ℕ) (x : ℕ) → memb x l ≡ true → (i : ℕ) × (i < length l) × (x ≡ getD l i 0)
@@ -69,28 +65,19 @@ distinct-apart (r ∷ rs) l h x m n =
       | no e ↦ distinct-apart rs l (a .1) x (rw (ne-eqb x r e) at m) n
     ]
 
--- the first of a list is a member, and so are the later ones
-memb-here : (r : ℕ) (rs : List ℕ) → memb r (r ∷ rs) ≡ true
-unfolding memb
-memb-here r rs = rw (eq-eqb r r refl) refl
-
-memb-later : (x r : ℕ) (rs : List ℕ) → memb x rs ≡ true → memb x (r ∷ rs) ≡ true
-unfolding memb
-memb-later x r rs m = or-right (eqb x r) (memb x rs) m
-
 pub distinct-join : (rs l : List ℕ) → distinct rs ≡ true → distinct l ≡ true → ((x : ℕ) → memb x rs ≡ true → memb x l ≡ true → ⊥) → distinct (rs ++ l) ≡ true
 unfolding distinct
 distinct-join [] l a b n = b
 distinct-join (r ∷ rs) l a b n =
     let d = both (not (memb r rs)) (distinct rs) a in
     let first : memb r rs ≡ false = not-on _ (d .0) in
-    let fresh : memb r (rs ++ l) ≡ false = memb-append r rs l ∙ rw first (off (memb r l) (n r (memb-here r rs))) in
-    rw fresh (distinct-join rs l (d .1) b (λ x m. n x (memb-later x r rs m)))
+    let fresh : memb r (rs ++ l) ≡ false = memb-append r rs l ∙ rw first (off (memb r l) (n r (memb-head r r rs refl))) in
+    rw fresh (distinct-join rs l (d .1) b (λ x m. n x (memb-more x r rs m)))
 
 -- distinct numbers of 1..c are no more than that
 within-by : (c : ℕ) (l : List ℕ) → ((x : ℕ) → memb x l ≡ true → (1 ≤ x) × (x ≤ c)) → Within c l
 within-by c [] each = none
-within-by c (x ∷ l) each = let b = each x (memb-here x l) in more (b .0) (b .1) (within-by c l (λ y m. each y (memb-later y x l m)))
+within-by c (x ∷ l) each = let b = each x (memb-head x x l refl) in more (b .0) (b .1) (within-by c l (λ y m. each y (memb-more y x l m)))
 
 -- a chain is good where no record of it comes twice, each link is right and none was reached before
 pub good-by : (right : ℕ → Bool) (rs l : List ℕ) → distinct rs ≡ true → ((x : ℕ) → memb x rs ≡ true → right x ≡ true) → ((x : ℕ) → memb x rs ≡ true → memb x l ≡ true → ⊥)
@@ -99,12 +86,12 @@ unfolding goodChain distinct memb
 good-by right [] l d links n = refl
 good-by right (r ∷ rs) l d links n =
     let a = both (not (memb r rs)) (distinct rs) d in
-    let fresh : memb r l ≡ false = off (memb r l) (n r (memb-here r rs)) in
+    let fresh : memb r l ≡ false = off (memb r l) (n r (memb-head r r rs refl)) in
     let fresh-later : memb r rs ≡ false = not-on _ (a .0) in
-    rw (fresh, links r (memb-here r rs))
-    (good-by right rs (r ∷ l) (a .1) (λ x m. links x (memb-later x r rs m)) (λ x m h. elim (ℕ-discrete x r) [
+    rw (fresh, links r (memb-head r r rs refl))
+    (good-by right rs (r ∷ l) (a .1) (λ x m. links x (memb-more x r rs m)) (λ x m h. elim (ℕ-discrete x r) [
       | yes e ↦ true-false (rw e at m) fresh-later
-      | no e ↦ n x (memb-later x r rs m) (rw (ne-eqb x r e) at h)
+      | no e ↦ n x (memb-more x r rs m) (rw (ne-eqb x r e) at h)
     ]))
 
 -- ---- chains

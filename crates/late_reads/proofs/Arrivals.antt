@@ -27,13 +27,13 @@ use Rattle.variants_and_fragments.specs.Inner.Accepted.{CaseIn}
 use Rattle.variants_and_fragments.proofs.Chain.{next-in, link-end, link-in, absent-chain, chain-record}
 use Rattle.variants_and_fragments.proofs.Free.{free-linked}
 use Rattle.variants_and_fragments.proofs.Linked.{linked-next}
-use Rattle.variants_and_fragments.proofs.Pigeon.{distinct, memb-left}
+use Rattle.variants_and_fragments.proofs.Pigeon.{distinct, memb-left, memb-right}
 use Rattle.variants_and_fragments.proofs.Accepted.{Passed, passed, checked-in}
 use Rattle.late_reads.specs.Values.{exchanged}
 use Rattle.late_reads.specs.Arriving.{wholeCalls, arrivingCall, arrivingRead, arrivingOk, arrivingRises, room, taken, callsLaid, arrivedWords}
 use Rattle.late_reads.specs.Inner.Ready.{Arriving}
 use Rattle.late_reads.proofs.Distinct.{memb-at, distinct-at}
-use Rattle.late_reads.proofs.Apart.{memb-cases, memb-right, memb-place, place-top, distinct-right, distinct-apart, distinct-join, chain-by, free-apart, free-record}
+use Rattle.late_reads.proofs.Apart.{memb-cases, memb-place, place-top, distinct-right, distinct-apart, distinct-join, chain-by, free-apart, free-record}
 use Rattle.late_reads.proofs.WordsAfter.{CallAt, call-stays, laid-length, laid-below, laid-record, laid-at}
 use Rattle.late_reads.proofs.Room.{room-length, room-free, room-tail, free-distinct, room-distinct, taken-at, taken-past, taken-length, taken-distinct, taken-in}
 use Rattle.late_reads.proofs.OneChanged.{roomAs, Keeps, Changed, sizes-after, sized-after, call-words-kept}
@@ -59,12 +59,9 @@ module _ {w : List ℤ} {s : Sizes} (k : CaseIn w s) (m : ℕ) (fits : m ≤ len
   abbrev n : ℕ
   n = length (freeChain w s)
 
-  -- how many records are used then, and the first free one
+  -- how many records are used then
   abbrev u : ℕ
   u = s .used + (m - length (freeChain w s))
-
-  abbrev v : ℕ
-  v = getD (freeChain w s) m 0
 
   pub rs-length : length rs ≡ m
   rs-length = taken-length w s m fits

@@ -193,7 +193,7 @@ module _ {w : List ℤ} {s : Sizes} (k : CaseIn w s) (f : ℕ) (l : f < s .f) wh
       let i = memb-place rest x m in
       rw (next-in w' after x (sized-after k departed-keeps), i .2, rest-next (i .0) (i .1)) (le-leb _ _ (place-top rest (suc (i .0)) (λ y n. rest-in y n .1)))
 
-  pub departed-changed : Changed w w' s (s .used) v f [] rest
+  departed-changed : Changed w w' s (s .used) v f [] rest
   unfolding within memb
   departed-changed = record {
     keeps = departed-keeps;

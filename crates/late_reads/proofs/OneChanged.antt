@@ -27,8 +27,8 @@ use Rattle.variants_and_fragments.proofs.Bools.{both, or-right}
 use Rattle.variants_and_fragments.proofs.Ranges.{below-less}
 use Rattle.variants_and_fragments.proofs.Chain.{link-top, link-end, link-in, record-none, record-some, record-chain, chain-record}
 use Rattle.variants_and_fragments.proofs.Linked.{Linked, linked-fuel, linked-first, linked-in, linked-right, linked-next, linked-by, chain-linked, chain-length}
-use Rattle.variants_and_fragments.proofs.Pigeon.{distinct, distinct-left, memb-left, reached-has}
-use Rattle.late_reads.proofs.Apart.{or-cases, memb-cases, memb-right, memb-place, memb-all, distinct-right, distinct-apart, good-by, reached-where, chain-distinct, chains-apart, free-apart}
+use Rattle.variants_and_fragments.proofs.Pigeon.{distinct, distinct-left, memb-left, reached-has, memb-right}
+use Rattle.late_reads.proofs.Apart.{or-cases, memb-cases, memb-place, memb-all, distinct-right, distinct-apart, good-by, reached-where, chain-distinct, chains-apart, free-apart}
 use Rattle.late_reads.proofs.Distinct.{memb-at}
 use Rattle.late_reads.proofs.Room.{place-in}
 
@@ -104,9 +104,6 @@ module _ {w w' : List ℤ} {s : Sizes} {u v f : ℕ} (k : CaseIn w s) (keeps : K
 
   -- ---- another fragment's chain
   module _ (g : ℕ) (in-case : g < s .f) (other : g ≡ f → ⊥) where
-    abbrev rs : List ℕ
-    rs = chainOf w s g
-
     linked : Linked w s (linkOk w s) (firstRecordAt w s g) (chainOf w s g)
     linked = chain-linked (k .sized .used-top) (k .frags g in-case)
 

@@ -1,14 +1,14 @@
 -- The tests of a link and of a fragment, case by case, and where a chain starts.
 -- Assumes nothing.
 use mathlib.Core.Path.{_≡_, refl}
-use mathlib.Core.Bool.{Bool, true, false, cond, _&&_, and-false}
-use Prim.Native.Nat.{ℕ, zero, suc, _+_, _≤_, _<_}
+use mathlib.Core.Bool.{Bool, true, false, cond, and-false}
+use Prim.Native.Nat.{ℕ, zero, suc, _≤_, _<_}
 use native.Mathlib.Omega.{arith}
 use native.Mathlib.Decide.{decLt, ℕ-discrete}
 use mathlib.Core.List.{List, [], _∷_}
 use lib.IntN.{ℤ, pos, negsuc}
 use lib.Dec.{leb, ltb, eqb, lit<}
-use borrow.Author.Tests.{lt-ltb, le-leb, lt-leb, eq-eqb, ne-eqb, leb-true, ltb-true}
+use borrow.Author.Tests.{le-leb, lt-leb, eq-eqb, ne-eqb, leb-true, ltb-true}
 use Rattle.variants_and_fragments.specs.declared.Sizes.{Sizes}
 use Rattle.variants_and_fragments.specs.Words.{within}
 use Rattle.variants_and_fragments.specs.Layout.{maxCalls, firstField, strandField, nextField, fragmentWord, callWord, callVariantAt}

@@ -1,17 +1,17 @@
 -- The free chain (request 3). In an accepted case it is linked from the head's word 5 to the zero that ends it, and each used record is in just one
 -- chain. No record comes twice, since each is tested for that, so that C + 1 steps are enough: there are C records (proofs/Pigeon).
 -- Assumes nothing.
-use mathlib.Core.Path.{_≡_, refl, _∙_, ap}
+use mathlib.Core.Path.{_≡_, refl}
 use mathlib.Core.Bool.{Bool, true, false, not, _&&_, _||_}
 use mathlib.Core.List.{List, [], _∷_, _++_}
-use Prim.Native.Nat.{ℕ, zero, suc, _+_, _≤_, _<_}
+use Prim.Native.Nat.{ℕ, zero, suc, _+_, _≤_}
 use native.Mathlib.Nat.{le-refl}
 use native.Mathlib.Omega.{arith}
 use lib.Dec.{eqb}
 use lib.IntN.{ℤ}
 use lib.ListN.{length, getD, length-append}
 use Rattle.variants_and_fragments.specs.declared.Sizes.{Sizes}
-use Rattle.variants_and_fragments.specs.First.{firstFail, holdsBelow}
+use Rattle.variants_and_fragments.specs.First.{holdsBelow}
 use Rattle.variants_and_fragments.specs.Layout.{maxCalls}
 use Rattle.variants_and_fragments.specs.Chain.{nextCallAt, nextOk, chainFrom, memb, goodChain, reached, isReached, inChain, freeChain}
 use Rattle.variants_and_fragments.specs.Inner.Accepted.{CaseIn}

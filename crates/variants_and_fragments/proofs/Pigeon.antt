@@ -98,7 +98,17 @@ pub pigeon : (c : ℕ) (l : List ℕ) → distinct l ≡ true → Within c l →
 pigeon zero l d w = within-zero l w
 pigeon (suc c) l d w = omega (arith, one-out (suc c) l d, pigeon c (without (suc c) l) (distinct-out (suc c) l d) (within-out c l w))
 
--- ---- lists one after the other
+-- ---- members
+-- the first of a list is one, and so are the later ones
+pub memb-head : (x y : ℕ) (l : List ℕ) → x ≡ y → memb x (y ∷ l) ≡ true
+unfolding memb
+memb-head x y l e = rw (eq-eqb x y e)
+
+pub memb-more : (x y : ℕ) (l : List ℕ) → memb x l ≡ true → memb x (y ∷ l) ≡ true
+unfolding memb
+memb-more x y l h = or-right (eqb x y) (memb x l) h
+
+-- lists one after the other
 pub memb-append : (x : ℕ) (rs l : List ℕ) → memb x (rs ++ l) ≡ (memb x rs || memb x l)
 unfolding memb
 memb-append x [] l = refl
@@ -156,7 +166,7 @@ reached-ok w s k (suc f) l =
 pub memb-left : (r : ℕ) (rs l : List ℕ) → memb r rs ≡ true → memb r (rs ++ l) ≡ true
 memb-left r rs l h = rw (memb-append r rs l, h)
 
-memb-right : (r : ℕ) (rs l : List ℕ) → memb r l ≡ true → memb r (rs ++ l) ≡ true
+pub memb-right : (r : ℕ) (rs l : List ℕ) → memb r l ≡ true → memb r (rs ++ l) ≡ true
 memb-right r rs l h = memb-append r rs l ∙ or-right (memb r rs) (memb r l) h
 
 pub reached-has : (w : List ℤ) (s : Sizes) (r f g : ℕ) → f < g → memb r (chainOf w s f) ≡ true → memb r (reached w s g) ≡ true

@@ -9,32 +9,23 @@ use Prim.Native.Nat.{ℕ, zero, suc, _+_, _-_, _≤_, _<_}
 use native.Mathlib.Omega.{arith}
 use native.Mathlib.Decide.{ℕ-discrete}
 use native.Mathlib.Nat.{sub-zero}
-use borrow.Author.Tests.{eq-eqb, ne-eqb}
+use borrow.Author.Tests.{ne-eqb}
 use lib.ListN.{length, getD, set}
 use lib.IntN.{ℤ}
-use lib.Dec.{eqb}
 use Rattle.variants_and_fragments.specs.declared.Sizes.{Sizes}
 use Rattle.variants_and_fragments.specs.Layout.{callOk}
 use Rattle.variants_and_fragments.specs.Chain.{firstCallAt, nextCallAt, isRecord, chainFrom, chainOf, memb, reached, isReached, reachedCallOk}
 use Rattle.variants_and_fragments.specs.Inner.Layout.{Sized}
 use Rattle.variants_and_fragments.specs.Inner.Chain.{recordOf, firstRecordAt, flag, Marked, Closed, ReachMarked}
-use Rattle.variants_and_fragments.proofs.Bools.{or-off, or-right, true-false}
+use Rattle.variants_and_fragments.proofs.Bools.{or-off, true-false}
 use Rattle.variants_and_fragments.proofs.Chain.{record-bounds, record-some, record-top, record-chain}
 use Rattle.variants_and_fragments.proofs.Walks.{chain-step, memb-middle, flag-off, flag-on, mark-more}
-use Rattle.variants_and_fragments.proofs.Pigeon.{distinct, Within, none, more, pigeon, memb-append, memb-left}
+use Rattle.variants_and_fragments.proofs.Pigeon.{distinct, Within, none, more, pigeon, memb-head, memb-more, memb-append, memb-left}
 
 -- ---- lists of records
-memb-head : (x y : ℕ) (l : List ℕ) → x ≡ y → memb x (y ∷ l) ≡ true
-unfolding memb
-memb-head x y l e = rw (eq-eqb x y e)
-
 memb-tail : (x y : ℕ) (l : List ℕ) → (x ≡ y → ⊥) → memb x (y ∷ l) ≡ memb x l
 unfolding memb
 memb-tail x y l n = rw (ne-eqb x y n)
-
-memb-more : (x y : ℕ) (l : List ℕ) → memb x l ≡ true → memb x (y ∷ l) ≡ true
-unfolding memb
-memb-more x y l h = or-right (eqb x y) (memb x l) h
 
 -- a test that gives another one, which gives it or a third, is the same beside the third
 or-same : (a b c : Bool) → (a ≡ true → b ≡ true) → (b ≡ true → (a || c) ≡ true) → (a || c) ≡ (b || c)

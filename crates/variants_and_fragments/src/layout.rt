@@ -439,12 +439,20 @@ fn put_word(words: &mut [i32], i: usize, z: i32)
     words[i] = z;
 }
 
+// Sets a word of the head to a number of records or a record.
+fn put_head(words: &mut [i32], field: usize, x: usize)
+    requires { ⌜ (headWords ≤ length (now words)) × (field < headWords) × (x ≤ maxCalls) ⌝ }
+    ensures { λ _. ⌜ now (words .exit) ≡ headSet (now (words .entry)) field (pos x) ⌝ }
+{
+    put_word(words, field, x as i32);
+}
+
 // Sets how many records are used.
 pub fn put_used(words: &mut [i32], used: usize)
     requires { ⌜ (headWords ≤ length (now words)) × (used ≤ maxCalls) ⌝ }
     ensures { λ _. ⌜ now (words .exit) ≡ headSet (now (words .entry)) usedField (pos used) ⌝ }
 {
-    put_word(words, USED, used as i32);
+    put_head(words, USED, used);
 }
 
 // Sets the first free record, or 0 for none.
@@ -452,7 +460,7 @@ pub fn put_free(words: &mut [i32], free: usize)
     requires { ⌜ (headWords ≤ length (now words)) × (free ≤ maxCalls) ⌝ }
     ensures { λ _. ⌜ now (words .exit) ≡ headSet (now (words .entry)) freeField (pos free) ⌝ }
 {
-    put_word(words, FREE, free as i32);
+    put_head(words, FREE, free);
 }
 
 // Sets fragment f's first call: a record, 0 for none, or −1 where the fragment is absent.

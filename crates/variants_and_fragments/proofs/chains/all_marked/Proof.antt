@@ -1,6 +1,6 @@
 -- `chains::all_marked` meets its contract. The loop's invariant: the i first records are marked.
 -- Assumes nothing.
-use mathlib.Core.Path.{_≡_, sym, ap, _∙_}
+use mathlib.Core.Path.{_≡_, ap}
 use mathlib.Core.Bool.{true, not}
 use Prim.Native.Nat.{ℕ, suc, _≤_, _<_, _-_}
 use native.Mathlib.Numerals.{add-one}

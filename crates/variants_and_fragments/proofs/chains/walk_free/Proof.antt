@@ -1,6 +1,6 @@
 -- `chains::walk_free` meets its contract. The loop's invariant is `Walking`: what is left of the chain decides, and the flags mark what was passed.
 -- Assumes nothing.
-use mathlib.Core.Path.{_≡_, refl, sym, _∙_}
+use mathlib.Core.Path.{_≡_, refl, _∙_}
 use Prim.Native.Nat.{suc, _-_}
 use native.Mathlib.Omega.{arith}
 use borrow.Author.Tests.{le-leb, lt-leb}
