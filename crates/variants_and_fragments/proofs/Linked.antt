@@ -1,22 +1,20 @@
--- An accepted fragment's chain is linked from its first call to the zero that ends it. Along it the variants rise, so that no record
--- comes twice, no variant has two calls, and C steps are enough: there are C records (proofs/Pigeon).
+-- Chains as lists: each record's next is the one after it, and zero after the last. An accepted fragment's chain is linked so from its first call on. Along
+-- it the variants rise, so that no record comes twice and C steps are enough: there are C records (proofs/Pigeon). proofs/Free has the free chain.
 -- Assumes nothing.
 use mathlib.Core.Path.{_≡_, refl, sym, _∙_, ap, subst}
 use mathlib.Core.Bool.{Bool, true, false, cond, not, _&&_}
 use mathlib.Core.List.{List, [], _∷_}
 use Prim.Native.Nat.{ℕ, zero, suc, _+_, _≤_, _<_}
-use native.Mathlib.Nat.{le-refl}
 use native.Mathlib.Omega.{arith}
-use native.Mathlib.Decide.{decLt, ℕ-discrete}
+use native.Mathlib.Decide.{ℕ-discrete}
 use borrow.Author.Tests.{ne-eqb}
 use lib.ListN.{length, getD}
 use lib.IntN.{ℤ}
 use Rattle.variants_and_fragments.specs.declared.Sizes.{Sizes}
-use Rattle.variants_and_fragments.specs.Layout.{callVariantAt, callOk}
+use Rattle.variants_and_fragments.specs.Layout.{callVariantAt}
 use Rattle.variants_and_fragments.specs.Chain.{firstCallAt, nextCallAt, isRecord, linkOk, chainFrom, chainOf, memb, goodChain, reached}
-use Rattle.variants_and_fragments.specs.Inner.Accepted.{allb, CallIn, FragmentIn}
+use Rattle.variants_and_fragments.specs.Inner.Accepted.{FragmentIn}
 use Rattle.variants_and_fragments.proofs.Bools.{both, off}
-use Rattle.variants_and_fragments.proofs.Records.{call-facts}
 use Rattle.variants_and_fragments.proofs.Walks.{chain-on}
 use Rattle.variants_and_fragments.specs.Inner.Chain.{firstRecordAt}
 use Rattle.variants_and_fragments.proofs.Chain.{link-top, next-rises, record-top, record-chain}
@@ -87,11 +85,6 @@ module _ {w : List ℤ} {s : Sizes} {right : ℕ → Bool} where
   linked-fuel (goes lo hi h l) zero m = absurd (omega arith)
   linked-fuel (goes {r} {rs} lo hi h l) (suc k) m = chain-on w s k r lo hi ∙ ap (λ (x : List ℕ). r ∷ x) (linked-fuel l k (omega arith))
 
-  -- where there is a record, the walk does not stand at zero
-  linked-some : {r : ℕ} {rs : List ℕ} → Linked w s right r rs → (j : ℕ) → j < length rs → 1 ≤ r
-  linked-some ends j m = absurd (omega arith)
-  linked-some (goes lo hi h l) j m = lo
-
   -- ---- by place: each is a record of the case with a right link to the next one, and to 0 after the last
   pub linked-first : {r : ℕ} {rs : List ℕ} → Linked w s right r rs → r ≡ getD rs 0 0
   linked-first ends = refl
@@ -121,33 +114,6 @@ module _ {w : List ℤ} {s : Sizes} {right : ℕ → Bool} where
       let here = at 0 (omega arith) in
       goes {r = r} (here .0) (here .1) (here .2) (subst (λ (t : ℕ). Linked w s right t rs) (sym (here .3)) (linked-by rs (λ i m. at (suc i) (omega arith))))
 
-  -- what rises at each link rises along the chain
-  module _ (g : ℕ → ℕ) (up : (r : ℕ) → right r ≡ true → 1 ≤ nextCallAt w s r → g r < g (nextCallAt w s r)) where
-    from-first : {r : ℕ} {rs : List ℕ} → Linked w s right r rs → (j : ℕ) → j < length rs → g r ≤ g (getD rs j 0)
-    from-first ends j m = absurd (omega arith)
-    from-first (goes {r} lo hi h l) zero m = le-refl (g r)
-    from-first (goes {r} lo hi h l) (suc j) m = omega (arith, up r h (linked-some l j (omega arith)), from-first l j (omega arith))
-
-    pub linked-rise : {r : ℕ} {rs : List ℕ} → Linked w s right r rs → (i j : ℕ) → i < j → j < length rs → g (getD rs i 0) < g (getD rs j 0)
-    linked-rise ends i j n m = absurd (omega arith)
-    linked-rise (goes lo hi h l) i zero n m = absurd (omega arith)
-    linked-rise (goes {r} lo hi h l) zero (suc j) n m = omega (arith, up r h (linked-some l j (omega arith)), from-first l j (omega arith))
-    linked-rise (goes lo hi h l) (suc i) (suc j) n m = linked-rise l i j (omega arith) (omega arith)
-
--- what rises differs at different places
-same : (g : ℕ → ℕ) (n : ℕ) → ((j k : ℕ) → j < k → k < n → g j < g k) → (j k : ℕ) → j < n → k < n → g j ≡ g k → j ≡ k
-same g n up j k l m e = elim (decLt j k) [
-  | yes a ↦ absurd (omega (arith, up j k a m))
-  | no a ↦ elim (decLt k j) [ yes b ↦ absurd (omega (arith, up k j b l)) | no b ↦ omega arith ]
-]
-
--- what holds of each holds at each place
-pub all-at : (p : ℕ → Bool) (xs : List ℕ) → allb p xs ≡ true → (k : ℕ) → k < length xs → p (getD xs k 0) ≡ true
-unfolding allb
-all-at p [] h k m = absurd (omega arith)
-all-at p (x ∷ xs) h zero m = both (p x) (allb p xs) h .0
-all-at p (x ∷ xs) h (suc k) m = all-at p xs (both (p x) (allb p xs) h .1) k (omega arith)
-
 -- ---- an accepted fragment's chain
 module _ {w : List ℤ} {s : Sizes} {f : ℕ} (used-top : s .used ≤ s .c) (i : FragmentIn w s f) where
   none-passed : Passed w s (firstRecordAt w s f) []
@@ -167,15 +133,3 @@ module _ {w : List ℤ} {s : Sizes} {f : ℕ} (used-top : s .used ≤ s .c) (i :
   pub chain-length : length (chainOf w s f) ≤ s .c
   unfolding chainOf
   chain-length = chain-short w s (s .c) (firstCallAt w s f)
-
-  -- their ranges hold
-  pub chain-call : (j : ℕ) → j < length (chainOf w s f) → CallIn w s (getD (chainOf w s f) j 0)
-  chain-call j l = call-facts w s (getD (chainOf w s f) j 0) (all-at (callOk w s) (chainOf w s f) (i .calls) j l)
-
-  -- its variants rise
-  pub variants-rise : (j k : ℕ) → j < k → k < length (chainOf w s f) → callVariantAt w s (getD (chainOf w s f) j 0) < callVariantAt w s (getD (chainOf w s f) k 0)
-  variants-rise = linked-rise (callVariantAt w s) (next-rises w s) chain-linked
-
-  -- so no variant has two calls
-  pub one-call-at : (j k : ℕ) → j < length (chainOf w s f) → k < length (chainOf w s f) → callVariantAt w s (getD (chainOf w s f) j 0) ≡ callVariantAt w s (getD (chainOf w s f) k 0) → j ≡ k
-  one-call-at = same (λ j. callVariantAt w s (getD (chainOf w s f) j 0)) (length (chainOf w s f)) variants-rise
