@@ -380,7 +380,7 @@ def genotype_priors(words, bases, rates, priors):
     return [], [written(out, priors)]
 
 
-# ---- 01, section 4: posteriors.
+# ---- 01, section 4, as amended by request 4: posteriors.
 
 
 def normalize(variant, scores):
@@ -390,8 +390,8 @@ def normalize(variant, scores):
     return [x - total for x in scores]
 
 
-def max_genotype_post(variant, posts, phased):
-    """The first row-major maximum (strict >), and its value, 0 where it is above."""
+def max_genotype(variant, posts, phased):
+    """The called pair: the first row-major maximum (strict >)."""
     k = len(variant.alleles)
     best, top = None, None
     for i, j in pairs(variant):
@@ -400,7 +400,15 @@ def max_genotype_post(variant, posts, phased):
             score = ln_add_exp(score, posts[k * j + i])
         if top is None or score > top:
             best, top = (i, j), score
-    return best, min(top, 0)
+    return best
+
+
+def qualities(variant, posts, called):
+    """The patterns of qual, Phred of pair (0, 0), and gq, Phred of the sum over pairs other than the called one and its
+    mirror: 01, section 4, as amended by request 4, and section 7."""
+    k = len(variant.alleles)
+    others = [posts[k * i + j] for i, j in pairs(variant) if called not in ((i, j), (j, i))]
+    return pattern(capped_phred(posts[0])), pattern(capped_phred(ln_sum_exp(others)))
 
 
 def calls_at(case, v):
@@ -434,21 +442,20 @@ def counted(case, v):
 
 
 def call_genotypes_no_haplotypes(words, bases, rates, variants, quals, gqs):
-    """01, section 4: the three slices afterwards (qualities as patterns)."""
+    """01, section 4, as amended by request 4: the three slices afterwards (qualities as patterns)."""
     case = accept_no_haplotypes(words, bases, rates, variants, quals, gqs)
-    out, qual, gq = [], [], []
+    out, both = [], []
     for v, variant in enumerate(case.variants):
         here = calls_at(case, v)
         used = [(f, c) for f, c in here if case.usable(f, c)]
         scores = [get_prior(rates, variant, i, j) + sum(call_without_haplotypes(c, i, j) for _, c in used)
                   for i, j in pairs(variant)]
         posts = normalize(variant, scores)
-        best, top = max_genotype_post(variant, posts, False)
+        called = max_genotype(variant, posts, False)
         counts = COUNTED.read(counted(case, v), 0)
-        out += CALLED.make(genotype=list(best), depth=max(variant.dp, len(here)), **vars(counts))
-        qual.append(pattern(capped_phred(posts[0])))
-        gq.append(pattern(capped_phred(ln_one_minus_exp(top))))
-    return [], [written(out, variants), written(qual, quals), written(gq, gqs)]
+        out += CALLED.make(genotype=list(called), depth=max(variant.dp, len(here)), **vars(counts))
+        both.append(qualities(variant, posts, called))
+    return [], [written(out, variants), written([q for q, _ in both], quals), written([g for _, g in both], gqs)]
 
 
 # ---- 01, section 5: the given phase.
@@ -597,16 +604,11 @@ def accept_with_haplotypes(words, bases, rates, phase, sets, orders, limit, *sli
 
 def final_answers(case, posts):
     """01, section 7: each variant's latest posteriors, 9 per variant, its qual and its gq."""
-    post, qual, gq = [], [], []
+    post, both = [], []
     for v, variant in enumerate(case.variants):
-        mine = posts[v]
-        (i, j), _ = max_genotype_post(variant, mine, True)
-        k = len(variant.alleles)
-        others = [mine[k * a + b] for a, b in pairs(variant) if (a, b) not in ((i, j), (j, i))]
-        post += nine(mine)
-        qual.append(pattern(capped_phred(mine[0])))
-        gq.append(pattern(capped_phred(ln_sum_exp(others))))
-    return post, qual, gq
+        post += nine(posts[v])
+        both.append(qualities(variant, posts[v], max_genotype(variant, posts[v], True)))
+    return post, [q for q, _ in both], [g for _, g in both]
 
 
 def call_genotypes_with_haplotypes(words, bases, rates, phase, sets, orders, limit, *befores):

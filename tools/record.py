@@ -4,8 +4,8 @@
 Run at the repository's root, after oracle/build: python3 tools/record.py
 It writes crates/condorbed/stdin and crates/condorbed/stdout. Accepted requests of the operations that longshot has, and
 arrivals and departures on fresh values, are answered by the oracle, longshot's own code; refusals, `check` and `orders`
-by tools/model.py, which is written from the documents. The model answers the others too, and a difference between the
-two ends this script without a list.
+by tools/model.py, which is written from the documents, and so is gq of `nohap`, which longshot defines in another way. The
+model answers the others too, and a difference between the two ends this script without a list.
 A change of the layout is a change of tools/layout.py and a new run of this script.
 """
 import itertools
@@ -20,7 +20,7 @@ from protocol import LATE, LatePart, Request, ask_oracle
 
 HEADER = """# Written by tools/record.py: %d requests and one that cannot be read. The answers in the file stdout are
 # longshot's own for %d of them (oracle/build compiles its files with the steps of document 01), those of tools/model.py
-# for refusals, check, orders, and arrivals and departures on values that are not fresh.
+# for refusals, check, orders, arrivals and departures on values that are not fresh, and gq of nohap (request 4).
 """
 
 # The request that cannot be read, up to the number that does not fit its type and from it on; it is the fifth token.
@@ -380,6 +380,12 @@ def priors(rec, rng):
         rec.priors(*encode(case), rates, rooms("priors", len(case.variants)))
 
 
+# A variant's alleles, those that its reads show equally often, the most reads of each before longshot's gq jumps to 500.0,
+# and the reads' qualities.
+JUMPS = [(["A", "G"], [1], 31, (-5796, -1700)), (["A", "G"], [0, 1], 21, (-13607, -622)),
+         (["A", "C", "T"], [1, 2], 22, (-13607, -622))]
+
+
 def nohap(rec, rng):
     rec.note("nohap: one allele (qual 0.0, gq 500.0), ties, strands, equality at the cutoff, refusals")
     match, miss = -1700, -5796
@@ -397,6 +403,11 @@ def nohap(rec, rng):
     rec.nohap(words, bases, RATES, (0, 0, 0))
     rec.nohap(words, bases, RATES[:5] + [0], (0, 0, 0))
     rec.nohap(*NOTHING, RATES, (1, 1, 0))
+    rec.note("nohap: three variants, each twice: longshot's gq is 34.7 the first time, and 500.0 with one read of each allele "
+             "more (docs/DIFFERENCES.md)")
+    for alleles, shown, most, (miss, match) in JUMPS:
+        for count in (most, most + 1):
+            rec.nohap(*encode(alone(alleles, (0, 1), [(a, miss, match, 0) for a in shown] * count)), RATES, one)
     for _ in range(25):
         case = random_case(rng)
         n = len(case.variants)

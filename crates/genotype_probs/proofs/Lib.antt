@@ -10,7 +10,7 @@ pub mod Maxima
 pub mod TableSums
 pub mod Samples
 pub mod AcceptedPriors
-pub mod FinalLaws
+pub mod OtherSums
 pub mod NormalizedLaws
 pub mod PriorSizes
 pub mod SameTables

@@ -1,19 +1,26 @@
--- How small a normalised table is.
+-- How small the first entry of a table at a place is, and a normalised table.
 -- Assumes nothing.
 use mathlib.Core.Path.{_≡_, refl}
 use mathlib.Core.Bool.{Bool, true, false, cond}
 use mathlib.Core.List.{List, [], _∷_}
-use Prim.Native.Nat.{ℕ, zero, suc, _+_, _*_, _≤_, _<_}
+use Prim.Native.Nat.{ℕ, zero, suc, _+_, _*_, _^_, _≤_, _<_}
 use native.Mathlib.Omega.{arith}
 use borrow.Author.Tests.{ltb-true}
 use lib.Dec.{ltb}
 use lib.IntN.{ℤ, pos, natAbs, _-ℤ_}
-use lib.ListN.{getD}
+use lib.ListN.{length, getD}
 use Rattle.steps.proofs.Signed.{minus-abs}
 use Rattle.steps.proofs.Sums.{sum-size}
 use Rattle.variants_and_fragments.specs.Decode.{tabulateFrom, tabulate}
 use Rattle.genotype_probs.specs.Posteriors.{sumOf, entryAt, rowSum, tableSum, normalized}
+use Rattle.genotype_probs.specs.Inner.Posteriors.{TableAt}
 use Rattle.genotype_probs.proofs.TableSums.{place-in}
+
+-- what `qual_of` asks
+pub first-small : {post : List ℤ} {at k : ℕ} → TableAt post at k → (at < length post) × (natAbs (getD post at (pos 0)) ≤ 2 ^ 40)
+first-small {post} {at} {k} t =
+    let e : at + 0 ≡ at = omega arith in
+    (omega (arith, t .inside), rw e at (t .small 0 (omega (arith, place-in 0 0 k (t .k-low) (t .k-low)))))
 
 pub by-cond : {n : ℕ} (t : Bool) (z : ℤ) → (t ≡ true → natAbs z ≤ n) → natAbs (cond t z (pos 0)) ≤ n
 by-cond true z h = h refl

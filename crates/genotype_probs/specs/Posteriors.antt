@@ -1,16 +1,18 @@
--- 01, section 4: tables of k × k log probabilities, row-major. All entries are finite.
+-- 01, section 4, as amended by request 4: tables of k × k log probabilities, row-major, and the qualities that they give. All entries are finite.
 -- Assumes nothing.
 use mathlib.Core.Bool.{Bool, cond, not, _||_}
 use mathlib.Core.List.{List, [], _∷_, map}
 use Prim.Native.Nat.{ℕ, zero, suc, _+_, _*_, _/_, _%_, _≤_, _<_}
 use lib.Dec.{eqb, ltb}
+use lib.Ieee.{Float}
 use lib.IntN.{ℤ, pos, _-ℤ_}
 use lib.ListN.{getD}
 use lib.Signed.{ltZ, _≤ℤ_, _<ℤ_}
 use Rattle.steps.specs.Logs.{Log, steps, addExp, sumExp, lnSumExp}
+use Rattle.steps.specs.Phred.{phredOf, capped}
 use Rattle.variants_and_fragments.specs.Decode.{tabulate}
 use Rattle.variants_and_fragments.specs.Pileup.{only}
-use Rattle.genotype_probs.specs.declared.posteriors.GenotypePost.{GenotypePost}
+use Rattle.genotype_probs.specs.declared.posteriors.Genotype.{Genotype}
 
 -- `ln_sum_exp` of finite ones (`sum-of` of proofs/TableSums.antt); it is not asked of none
 unfoldable pub sumOf : List ℤ → ℤ
@@ -53,22 +55,20 @@ unfoldable pub firstMaximum : (ℕ → ℤ) → ℕ → ℕ
 firstMaximum f zero = 0
 firstMaximum f (suc n) = let b = firstMaximum f n in cond (ltZ (f b) (f n)) n b
 
--- a result above 0 becomes 0
-unfoldable pub atMostOne : ℤ → ℤ
-atMostOne z = cond (ltZ (pos 0) z) (pos 0) z
-
--- the row-major number of the genotype that `max_genotype_post` keeps: the first maximum (`genotype-maximum` of proofs/Maxima.antt)
+-- the row-major number of the genotype that `max_genotype_post` keeps: the first row-major maximum (strict >), which is the first maximum of the
+-- statement (`genotype-maximum` of proofs/Maxima.antt). This is the called pair
 unfoldable pub maxGenotype : Bool → List ℤ → ℕ → ℕ
 maxGenotype phased tab k = firstMaximum (postAt phased tab k) (k * k)
 
--- `max_genotype_post`: the first row-major maximum (strict >), and its log probability
-unfoldable pub maxGenotypePost : Bool → List ℤ → ℕ → GenotypePost
-maxGenotypePost phased tab k =
-    let p = maxGenotype phased tab k in
-    record {
-      genotype = record { 0 = p / k; 1 = p % k };
-      post = record { 0 = atMostOne (postAt phased tab k p) };
-    }
+-- the genotype of a row-major number
+unfoldable pub genotypeOf : ℕ → ℕ → Genotype
+genotypeOf k p = record { 0 = p / k; 1 = p % k }
+
+-- ---- the qualities, of a normalised table
+
+-- qual: Phred of pair (0, 0), capped. VCF's QUAL: −10 log10 of the probability that there is no variant
+unfoldable pub qualOf : List ℤ → Float
+qualOf tab = capped (phredOf (steps (getD tab 0 (pos 0))))
 
 -- the row-major number of a pair the other way round
 unfoldable pub mirror : ℕ → ℕ → ℕ
@@ -85,3 +85,9 @@ others k p = only (isOther p (mirror k p)) (tabulate (k * k) (λ q. q))
 -- the sum over them: the mark where there is none
 unfoldable pub otherSum : List ℤ → ℕ → ℕ → Log
 otherSum tab k p = lnSumExp (map (λ q. steps (getD tab q (pos 0))) (others k p))
+
+-- gq of the called pair p, without haplotypes (section 4, as amended by request 4) and with them (section 7): Phred of the sum over pairs other than
+-- the called one and its mirror, capped. The VCF specification's field GQ is −10 log10 of the probability that the genotype call is wrong, there
+-- conditioned on the site's being variant and as an integer; this one is neither
+unfoldable pub gqOf : List ℤ → ℕ → ℕ → Float
+gqOf tab k p = capped (phredOf (otherSum tab k p))

@@ -4,23 +4,19 @@ ghost use mathlib.Core.Bool.{cond};
 ghost use Prim.Native.Nat.{_+_, _*_, _<_, _≤_, _^_};
 ghost use lib.Dec.{ltb};
 ghost use lib.IntN.{pos, natAbs, _-ℤ_};
-ghost use lib.ListN.{drop};
+ghost use lib.ListN.{length, getD, drop};
 ghost use Rattle.steps.specs.Table.{knots};
 ghost use Rattle.steps.specs.Logs.{steps, lnAddExp};
 ghost use Rattle.steps.specs.Inner.Logs.{logOf, size};
 ghost use Rattle.variants_and_fragments.specs.Inner.Written.{writtenFrom};
-ghost use Rattle.genotype_probs.specs.Posteriors.{entryAt, rowSum, tableSum, normalized, postAt, maxGenotype, atMostOne, maxGenotypePost, isOther, otherSum};
+ghost use Rattle.genotype_probs.specs.Posteriors.{entryAt, rowSum, tableSum, normalized, postAt, maxGenotype, genotypeOf, qualOf, isOther, otherSum, gqOf};
 ghost use Rattle.genotype_probs.specs.Inner.Posteriors.{TableAt};
 use steps::LogProb;
+use steps::PHREDProb;
+use steps::phred::capped_phred;
 
 // A pair of allele numbers.
 pub struct Genotype(pub u8, pub u8);
-
-// The genotype that is kept, and its log probability.
-pub struct GenotypePost {
-    pub genotype: Genotype,
-    pub post: LogProb,
-}
 
 // Entry (i, j).
 fn entry(post: &[i64], at: usize, k: usize, i: usize, j: usize) -> LogProb
@@ -122,33 +118,20 @@ pub fn max_genotype(t: &[u16; 1665], post: &[i64], at: usize, k: usize, phased: 
     best
 }
 
-// Certainty for a result above it.
-fn at_most_one(z: LogProb) -> LogProb
-    ensures { λ r. ⌜ r .0 ≡ atMostOne (z .0) ⌝ }
+// The genotype of row-major number p.
+pub fn genotype_of(k: usize, p: usize) -> Genotype
+    requires { ⌜ (1 ≤ k) × (k ≤ 3) × (p < k * k) ⌝ }
+    ensures { λ r. ⌜ r ≡ genotypeOf k p ⌝ }
 {
-    if 0 < z.0 {
-        return LogProb::ln_one();
-    }
-    z
+    Genotype((p / k) as u8, (p % k) as u8)
 }
 
-// The genotype that is kept, phased or not, and its log probability.
-pub fn max_genotype_post(
-    t: &[u16; 1665],
-    post: &[i64],
-    at: usize,
-    k: usize,
-    phased: bool,
-) -> GenotypePost
-    requires { ⌜ (now t ≡ knots) × TableAt (now post) at k ⌝ }
-    ensures { λ r. ⌜ r ≡ maxGenotypePost phased (drop at (now (post .entry))) k ⌝ }
+// The quality of a variant: that of its pair (0, 0).
+pub fn qual_of(post: &[i64], at: usize) -> PHREDProb
+    requires { ⌜ (at < length (now post)) × (natAbs (getD (now post) at (pos 0)) ≤ 2 ^ 40) ⌝ }
+    ensures { λ r. ⌜ r .0 ≡ qualOf (drop at (now (post .entry))) ⌝ }
 {
-    let p = max_genotype(t, post, at, k, phased);
-    let z = at_most_one(post_of(t, post, at, k, phased, p));
-    GenotypePost {
-        genotype: Genotype((p / k) as u8, (p % k) as u8),
-        post: z,
-    }
+    capped_phred(LogProb(post[at]))
 }
 
 // The sum with x added, where q is neither the pair p nor its mirror m.
@@ -166,7 +149,7 @@ fn add_other(t: &[u16; 1665], sum: LogProb, x: LogProb, p: usize, m: usize, q: u
 }
 
 // ln_sum_exp over the pairs other than p and its mirror. At the loop's head `sum` is that of those before q.
-pub fn other_sum(t: &[u16; 1665], post: &[i64], at: usize, k: usize, p: usize) -> LogProb
+fn other_sum(t: &[u16; 1665], post: &[i64], at: usize, k: usize, p: usize) -> LogProb
     requires { ⌜ (now t ≡ knots) × TableAt (now post) at k × (p < k * k) ⌝ }
     ensures { λ r. ⌜ (logOf (r .0) ≡ otherSum (drop at (now (post .entry))) k p) × (size (logOf (r .0)) ≤ 2 ^ 41) ⌝ }
 {
@@ -179,4 +162,12 @@ pub fn other_sum(t: &[u16; 1665], post: &[i64], at: usize, k: usize, p: usize) -
         q += 1;
     }
     sum
+}
+
+// The quality of the called genotype, of row-major number p.
+pub fn gq_of(t: &[u16; 1665], post: &[i64], at: usize, k: usize, p: usize) -> PHREDProb
+    requires { ⌜ (now t ≡ knots) × TableAt (now post) at k × (p < k * k) ⌝ }
+    ensures { λ r. ⌜ r .0 ≡ gqOf (drop at (now (post .entry))) k p ⌝ }
+{
+    capped_phred(other_sum(t, post, at, k, p))
 }

@@ -1,21 +1,15 @@
 -- One variant called: what its nine places fix of its answer, and the words that the counts over its pile make.
 -- Assumes nothing.
 use mathlib.Core.Path.{_≡_, sym, ap, _∙_}
-use mathlib.Core.Bool.{Bool, true, false, cond, _&&_, _||_}
+use mathlib.Core.Bool.{false, _&&_}
 use mathlib.Core.List.{List}
-use Prim.Native.Nat.{ℕ, _+_, _*_, _-_, _/_, _%_, _^_, _≤_, _<_}
+use Prim.Native.Nat.{ℕ, _+_, _*_, _-_, _≤_, _<_}
 use native.Mathlib.Omega.{arith}
 use lib.Dec.{eqb}
 use lib.Ieee.{Float}
-use lib.IntN.{ℤ, pos, natAbs}
+use lib.IntN.{ℤ, pos}
 use lib.ListN.{length, getD, drop, set}
 use lib.Seq.{getD-drop}
-use lib.Signed.{leZ, ltZ}
-use Rattle.steps.specs.Logs.{steps}
-use Rattle.steps.specs.OneMinus.{lnOneMinusExp}
-use Rattle.steps.specs.Phred.{phredOf, capped}
-use Rattle.steps.proofs.AddExp.{add-size}
-use Rattle.steps.proofs.Signed.{by-test, le-true, false-lt}
 use Rattle.variants_and_fragments.specs.declared.Sizes.{Sizes}
 use Rattle.variants_and_fragments.specs.Inner.Case.{All}
 use Rattle.variants_and_fragments.specs.Decode.{decode}
@@ -27,63 +21,17 @@ use Rattle.variants_and_fragments.proofs.Decoded.{strand-is, dp-is}
 use Rattle.variants_and_fragments.proofs.Written.{from-same}
 use Rattle.pileup.specs.Inner.Packed.{rowAt}
 use Rattle.genotype_probs.specs.declared.posteriors.Genotype.{Genotype}
-use Rattle.genotype_probs.specs.declared.posteriors.GenotypePost.{GenotypePost}
-use Rattle.genotype_probs.specs.Posteriors.{entryAt, postOf, postAt, maxGenotype, atMostOne, maxGenotypePost}
+use Rattle.genotype_probs.specs.Posteriors.{maxGenotype, genotypeOf, qualOf, gqOf}
 use Rattle.genotype_probs.specs.Inner.Posteriors.{TableAt}
 use Rattle.genotype_probs.proofs.AlleleLaws.{nine}
 use Rattle.variants_and_fragments.proofs.Tabulated.{table-length}
-use Rattle.genotype_probs.proofs.Maxima.{genotype-maximum}
-use Rattle.genotype_probs.proofs.TableSums.{tabulate-cong, place-in, pair-in}
-use Rattle.genotype_probs.proofs.SameTables.{post-same, genotype-same}
+use Rattle.genotype_probs.proofs.TableSums.{tabulate-cong}
+use Rattle.genotype_probs.proofs.SameTables.{genotype-same, qual-same, gq-same}
 use Rattle.no_haplotypes.specs.declared.tally.Pile.{Pile}
-use Rattle.no_haplotypes.specs.NoHaplotypes.{rowStrand, calledFrom, qualFrom, gqFrom, strandCalls, callsAt, depthAfter, answerFrom}
+use Rattle.no_haplotypes.specs.NoHaplotypes.{rowStrand, calledFrom, gqFrom, strandCalls, callsAt, depthAfter, answerFrom}
 use Rattle.no_haplotypes.specs.Inner.Tally.{pileRows, shownOn, scoredFrom, posteriorsFrom, PosteriorsMade}
 use Rattle.no_haplotypes.specs.Inner.Calling.{PileHeld, answerValues, larger, madeFrom, VariantCalled}
 use Rattle.no_haplotypes.proofs.CountLaws.{only-same, all-calls, forward-reverse, case-strands}
-
--- ---- the genotype and the quality go by the k × k entries
-module _ (tab other : List ℤ) (k : ℕ) (low : 1 ≤ k) (same : (p : ℕ) → p < k * k → getD tab p (pos 0) ≡ getD other p (pos 0)) where
-  pub called-same : calledFrom tab k ≡ calledFrom other k
-  unfolding calledFrom maxGenotypePost
-  called-same =
-      let e = genotype-same tab other k low same false in
-      let m = genotype-maximum false tab k low .inside in
-      rw (post-same tab other k low same false (maxGenotype false tab k) m, e)
-
-  pub qual-same : qualFrom tab ≡ qualFrom other
-  unfolding qualFrom
-  qual-same = rw (same 0 (omega (arith, place-in 0 0 k low low)))
-
--- ---- the maximum is small, and no certainty is passed
-capped-low : (z : ℤ) → leZ (atMostOne z) (pos 0) ≡ true
-unfolding atMostOne
-capped-low z = by-test (ltZ (pos 0) z) (λ t. rw t) (λ t. rw t (le-true z (pos 0) (false-lt (pos 0) z t)))
-
-capped-size : (n : ℕ) (z : ℤ) → natAbs z ≤ n → natAbs (atMostOne z) ≤ n
-unfolding atMostOne
-capped-size n z h = by-test (ltZ (pos 0) z) (λ t. rw t (omega arith)) (λ t. rw t h)
-
-by-cond : (t : Bool) (a b : ℤ) (n : ℕ) → natAbs a ≤ n → natAbs b ≤ n → natAbs (cond t a b) ≤ n
-by-cond true a b n h k = h
-by-cond false a b n h k = k
-
-module _ (post : List ℤ) (at k : ℕ) (t : TableAt post at k) where
-  entry-small : (p : ℕ) → p < k * k → natAbs (getD (drop at post) p (pos 0)) ≤ 2 ^ 40
-  entry-small p h = omega (arith, ap natAbs (getD-drop at post p (pos 0)), t .small p h)
-
-  pub maximum-low : leZ (calledFrom (drop at post) k .post .0) (pos 0) ≡ true
-  unfolding calledFrom maxGenotypePost
-  maximum-low = capped-low (postAt false (drop at post) k (maxGenotype false (drop at post) k))
-
-  pub maximum-small : natAbs (calledFrom (drop at post) k .post .0) ≤ 2 ^ 41
-  unfolding calledFrom maxGenotypePost postAt postOf entryAt
-  maximum-small =
-      let tab = drop at post in
-      let p = maxGenotype false tab k in
-      let q = pair-in k p (t .k-low) (genotype-maximum false tab k (t .k-low) .inside) in
-      let a = entry-small (p / k * k + p % k) (place-in (p / k) (p % k) k (q .0) (q .1)) in
-      let b = entry-small (p % k * k + p / k) (place-in (p % k) (p / k) k (q .1) (q .0)) in
-      capped-size (2 ^ 41) (postAt false tab k p) (by-cond (false || eqb (p / k) (p % k)) _ _ (2 ^ 41) (omega arith) (omega (arith, add-size (entryAt tab k (p / k) (p % k)) (entryAt tab k (p % k) (p / k)) (2 ^ 40) a b)))
 
 -- ---- a pile that is held: its counts, its calls, and the words that they make
 module _ {w : List ℤ} {s : Sizes} {piles : List ℕ} {v : ℕ} {pile : Pile} (held : PileHeld w s piles v pile) (b : List ℕ) where
@@ -105,7 +53,7 @@ module _ {w : List ℤ} {s : Sizes} {piles : List ℕ} {v : ℕ} {pile : Pile} (
     counted : (strand x : ℕ) → strand < 2 → x < 3 → getD counts (3 * strand + x) 0 ≡ strandCalls (decode w b) v strand x
     counted strand x l h = c strand x l h ∙ shown-same strand x
 
-    pub words-are : (g : Genotype) (depth : ℕ) → depth ≡ depthAfter (decode w b) v → (post : List ℤ) (n : ℕ) → g ≡ calledFrom post n .genotype → (p : ℕ) → pos (getD (answerValues g counts (pile .ambiguous) depth) p 0) ≡ answerFrom post n (decode w b) v p
+    pub words-are : (g : Genotype) (depth : ℕ) → depth ≡ depthAfter (decode w b) v → (post : List ℤ) (n : ℕ) → g ≡ genotypeOf n (calledFrom post n) → (p : ℕ) → pos (getD (answerValues g counts (pile .ambiguous) depth) p 0) ≡ answerFrom post n (decode w b) v p
     unfolding answerValues answerFrom
     words-are g depth f post n q p =
         let sum = forward-reverse (decode w b) (case-strands (held .case-in) b) v in
@@ -148,16 +96,17 @@ module _ {w : List ℤ} {s : Sizes} {piles : List ℕ} {v : ℕ} {pile : Pile} (
   same : (b : List ℕ) (p : ℕ) → p < k * k → getD (drop (9 * v) post') p (pos 0) ≡ getD (madeFrom w post b v) p (pos 0)
   same b p h = getD-drop (9 * v) post' p (pos 0) ∙ made .here p (omega (arith, nine k top)) ∙ rw (held .rows-are b)
 
-  pub variant-called : (g : GenotypePost) (depth : ℕ) (q x : Float) {variants variants' : List ℤ} {quals gqs : List Float} → g ≡ calledFrom (drop (9 * v) post') k → depth ≡ larger (depthAt w v) (pile .end - pile .start + pile .ambiguous)
-      → variants' ≡ writtenFrom (λ p. pos (getD (answerValues (g .genotype) counts (pile .ambiguous) depth) p 0)) (13 * v) 13 variants
-      → q ≡ qualFrom (drop (9 * v) post') → x ≡ capped (phredOf (lnOneMinusExp (steps (g .post .0))))
+  pub variant-called : (c depth : ℕ) (g : Genotype) (q x : Float) {variants variants' : List ℤ} {quals gqs : List Float} → c ≡ maxGenotype false (drop (9 * v) post') k → g ≡ genotypeOf k c
+      → depth ≡ larger (depthAt w v) (pile .end - pile .start + pile .ambiguous)
+      → variants' ≡ writtenFrom (λ p. pos (getD (answerValues g counts (pile .ambiguous) depth) p 0)) (13 * v) 13 variants
+      → q ≡ qualOf (drop (9 * v) post') → x ≡ gqOf (drop (9 * v) post') k c
       → VariantCalled w v post variants quals gqs post' variants' (set quals v q) (set gqs v x)
-  unfolding gqFrom
-  variant-called g depth q x {variants} {variants'} {quals} {gqs} e d f i j =
-      let c : (b : List ℕ) → g ≡ calledFrom (madeFrom w post b v) k = λ b. e ∙ called-same (drop (9 * v) post') (madeFrom w post b v) k low (same b) in
+  unfolding calledFrom gqFrom
+  variant-called c depth g q x {variants} {variants'} {quals} {gqs} e f d i j l =
+      let called : (b : List ℕ) → c ≡ calledFrom (madeFrom w post b v) k = λ b. e ∙ genotype-same (drop (9 * v) post') (madeFrom w post b v) k low (same b) false in
       record {
         past = made .past;
-        variants-are = λ b. f ∙ from-same (λ p. pos (getD (answerValues (g .genotype) counts (pile .ambiguous) depth) p 0)) (answerFrom (madeFrom w post b v) k (decode w b) v) (13 * v) 13 variants (λ p _. words-are held b counts (made .counts-are) (g .genotype) depth (depth-is held b depth d) (madeFrom w post b v) k (ap (λ (r : GenotypePost). r .genotype) (c b)) p);
-        quals-are = λ b. ap (set quals v) (i ∙ qual-same (drop (9 * v) post') (madeFrom w post b v) k low (same b));
-        gqs-are = λ b. ap (set gqs v) (j ∙ ap (λ (r : GenotypePost). capped (phredOf (lnOneMinusExp (steps (r .post .0))))) (c b));
+        variants-are = λ b. i ∙ from-same (λ p. pos (getD (answerValues g counts (pile .ambiguous) depth) p 0)) (answerFrom (madeFrom w post b v) k (decode w b) v) (13 * v) 13 variants (λ p _. words-are held b counts (made .counts-are) g depth (depth-is held b depth d) (madeFrom w post b v) k (f ∙ ap (genotypeOf k) (called b)) p);
+        quals-are = λ b. ap (set quals v) (j ∙ qual-same (drop (9 * v) post') (madeFrom w post b v) k low (same b));
+        gqs-are = λ b. ap (set gqs v) (l ∙ gq-same (drop (9 * v) post') (madeFrom w post b v) k low (same b) c ∙ ap (gqOf (madeFrom w post b v) k) (called b));
       }

@@ -13,7 +13,8 @@ use Rattle.variants_and_fragments.specs.Layout.{alleleCountAt}
 use Rattle.variants_and_fragments.specs.Written.{written}
 use Rattle.variants_and_fragments.specs.Inner.Written.{writtenFrom}
 use Rattle.variants_and_fragments.proofs.Written.{written-on, written-length, from-after}
-use Rattle.no_haplotypes.specs.NoHaplotypes.{answerFrom, qualFrom, gqFrom}
+use Rattle.genotype_probs.specs.Posteriors.{qualOf}
+use Rattle.no_haplotypes.specs.NoHaplotypes.{answerFrom, gqFrom}
 use Rattle.no_haplotypes.specs.Inner.Tally.{PriorsAt}
 use Rattle.no_haplotypes.specs.Inner.Calling.{PriorsIn, madeFrom, VariantCalled, VariantsCalled}
 use Rattle.no_haplotypes.proofs.CallLaws.{made-same}
@@ -67,7 +68,7 @@ module _ {w : List ℤ} {s : Sizes} {post₀ variants₀ : List ℤ} {quals₀ g
               ∙ ap (writtenFrom (answerFrom (madeFrom w post b v) n (decode w b) v) (13 * v) 13) (c .called .variants-are b)
               ∙ from-after g (answerFrom (madeFrom w post b v) n (decode w b) v) (13 * v) 13 variants₀ (λ p m. let q : (13 * v + p) / 13 ≡ v = omega arith in let r : (13 * v + p) % 13 ≡ p = omega arith in rw (q, r, same b))
               ∙ ap (λ (k : ℕ). written g k variants₀) z;
-          quals-are = λ b. f .quals-are b ∙ written-on (λ u. qualFrom (madeFrom w post₀ b u)) v quals₀ quals (qualFrom (madeFrom w post b v)) (c .called .quals-are b) (ap qualFrom (same b));
+          quals-are = λ b. f .quals-are b ∙ written-on (λ u. qualOf (madeFrom w post₀ b u)) v quals₀ quals (qualOf (madeFrom w post b v)) (c .called .quals-are b) (ap qualOf (same b));
           gqs-are = λ b. f .gqs-are b ∙ written-on (λ u. gqFrom (madeFrom w post₀ b u) (alleleCountAt w u)) v gqs₀ gqs (gqFrom (madeFrom w post b v) n) (c .called .gqs-are b) (ap (λ (m : List ℤ). gqFrom m n) (same b));
         };
       }

@@ -1,4 +1,4 @@
--- 01, section 4: calling genotypes without haplotypes.
+-- 01, section 4, as amended by request 4: calling genotypes without haplotypes.
 -- Assumes nothing.
 use mathlib.Core.Path.{_≡_}
 use mathlib.Core.Bool.{false, cond, _&&_, _||_}
@@ -8,9 +8,7 @@ use lib.Dec.{eqb, ltb}
 use lib.IntN.{ℤ, pos, _+ℤ_}
 use lib.Ieee.{Float}
 use lib.ListN.{length, getD}
-use Rattle.steps.specs.Logs.{steps, mixOf}
-use Rattle.steps.specs.OneMinus.{lnOneMinusExp}
-use Rattle.steps.specs.Phred.{phredOf, capped}
+use Rattle.steps.specs.Logs.{mixOf}
 use Rattle.variants_and_fragments.specs.Sums.{sumOver, countOver}
 use Rattle.variants_and_fragments.specs.Case.{Case, Call, alleleCount, variantOf, fragmentOf}
 use Rattle.variants_and_fragments.specs.Refusals.{Outcome, done, andThen, each, longEnough, Promise}
@@ -19,10 +17,9 @@ use Rattle.variants_and_fragments.specs.Decode.{tabulate, decode}
 use Rattle.variants_and_fragments.specs.Pileup.{Row, only, pileOf, ambiguousCount}
 use Rattle.variants_and_fragments.specs.Written.{written}
 use Rattle.genotype_probs.specs.declared.Rates.{Rates}
-use Rattle.genotype_probs.specs.declared.posteriors.GenotypePost.{GenotypePost}
 use Rattle.genotype_probs.specs.Rates.{rateTest}
 use Rattle.genotype_probs.specs.Priors.{getPrior}
-use Rattle.genotype_probs.specs.Posteriors.{normalized, maxGenotypePost}
+use Rattle.genotype_probs.specs.Posteriors.{normalized, maxGenotype, genotypeOf, qualOf, gqOf}
 use Rattle.genotype_probs.specs.Normalized.{isNormal}
 
 -- ---- scores and posteriors
@@ -47,17 +44,13 @@ module _ (rates : Rates) (case : Case) (v : ℕ) where
   unfoldable pub posteriors : List ℤ
   posteriors = tabulate 9 (normalized (tabulate 9 scoreAt) (alleleCount (variantOf case v)))
 
--- the genotype that is kept, unphased, and its log probability
-unfoldable pub calledFrom : List ℤ → ℕ → GenotypePost
-calledFrom post k = maxGenotypePost false post k
+-- the called pair, by its row-major number: the first maximum, unphased
+unfoldable pub calledFrom : List ℤ → ℕ → ℕ
+calledFrom post k = maxGenotype false post k
 
--- qual: Phred of pair (0, 0), capped. VCF's QUAL: −10 log10 of the probability that there is no variant
-unfoldable pub qualFrom : List ℤ → Float
-qualFrom post = capped (phredOf (steps (getD post 0 (pos 0))))
-
--- gq: Phred of `ln_one_minus_exp` of the maximum, capped. VCF's GQ: −10 log10 of the probability that the genotype is wrong
+-- its quality
 unfoldable pub gqFrom : List ℤ → ℕ → Float
-gqFrom post k = capped (phredOf (lnOneMinusExp (steps (calledFrom post k .post .0))))
+gqFrom post k = gqOf post k (calledFrom post k)
 
 -- ---- counts
 
@@ -85,7 +78,7 @@ module _ (case : Case) (v : ℕ) where
 -- the 13 words of v: genotype, counts, forward and reverse counts, ambiguous count, depth
 unfoldable pub answerFrom : List ℤ → ℕ → Case → ℕ → ℕ → ℤ
 answerFrom post k case v p =
-    let g = calledFrom post k .genotype in
+    let g = genotypeOf k (calledFrom post k) in
     pos (getD (
     g .0 ∷ g .1
     ∷ alleleCalls case v 0 ∷ alleleCalls case v 1 ∷ alleleCalls case v 2
@@ -123,7 +116,7 @@ module _ (rates : Rates) (case : Case) where
   answerAt e = variantAnswer (e / 13) (e % 13)
 
   unfoldable pub qualAt : ℕ → Float
-  qualAt v = qualFrom (posteriors rates case v)
+  qualAt v = qualOf (posteriors rates case v)
 
   unfoldable pub gqAt : ℕ → Float
   gqAt v = gqFrom (posteriors rates case v) (alleleCount (variantOf case v))

@@ -1,23 +1,13 @@
-// The answer of one variant: its 13 words and its two qualities.
+// The 13 words of one variant.
 ghost use mathlib.Core.Path.{_≡_};
-ghost use mathlib.Core.Bool.{true};
-ghost use Prim.Native.Nat.{_+_, _*_, _<_, _≤_, _^_};
-ghost use lib.IntN.{pos, natAbs};
-ghost use lib.ListN.{length, getD, drop};
-ghost use lib.Signed.{leZ};
-ghost use Rattle.steps.specs.Table.{knots};
-ghost use Rattle.steps.specs.Logs.{steps};
-ghost use Rattle.steps.specs.OneMinus.{lnOneMinusExp};
-ghost use Rattle.steps.specs.Phred.{phredOf, capped};
+ghost use Prim.Native.Nat.{_+_, _*_, _<_, _≤_};
+ghost use lib.IntN.{pos};
+ghost use lib.ListN.{length, getD};
 ghost use Rattle.variants_and_fragments.specs.Inner.Accepted.{CaseIn};
 ghost use Rattle.variants_and_fragments.specs.Layout.{depthAt};
 ghost use Rattle.variants_and_fragments.specs.Inner.Written.{writtenFrom};
-ghost use Rattle.no_haplotypes.specs.NoHaplotypes.{qualFrom};
 ghost use Rattle.no_haplotypes.specs.Inner.Calling.{answerValues, WordsIn, larger};
 use genotype_probs::posteriors::Genotype;
-use steps::LogProb;
-use steps::PHREDProb;
-use steps::phred::capped_phred;
 use variants_and_fragments::Sizes;
 use variants_and_fragments::layout;
 
@@ -81,20 +71,4 @@ pub fn depth_after(words: &[i32], s: Sizes, calls: usize, v: usize) -> usize
         return calls;
     }
     dp
-}
-
-// The quality of a variant, from its posteriors.
-pub fn qual_of(post: &[i64], at: usize) -> PHREDProb
-    requires { ⌜ (at < length (now post)) × (natAbs (getD (now post) at (pos 0)) ≤ 2 ^ 40) ⌝ }
-    ensures { λ r. ⌜ r .0 ≡ qualFrom (drop at (now (post .entry))) ⌝ }
-{
-    capped_phred(LogProb(post[at]))
-}
-
-// The quality of a genotype with this log probability.
-pub fn gq_of(t: &[u16; 1665], p: LogProb) -> PHREDProb
-    requires { ⌜ (now t ≡ knots) × (natAbs (p .0) ≤ 2 ^ 41) × (leZ (p .0) (pos 0) ≡ true) ⌝ }
-    ensures { λ r. ⌜ r .0 ≡ capped (phredOf (lnOneMinusExp (steps (p .0)))) ⌝ }
-{
-    capped_phred(p.ln_one_minus_exp(t))
 }

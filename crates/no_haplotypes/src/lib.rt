@@ -1,4 +1,4 @@
-// Calling genotypes without haplotypes: document 01, section 4.
+// Calling genotypes without haplotypes: document 01, section 4, as amended by request 4.
 ghost use mathlib.Core.Path.{_≡_};
 ghost use Prim.Native.Nat.{_+_, _*_, _<_, _≤_};
 ghost use lib.ListN.{length};
@@ -10,14 +10,15 @@ ghost use Rattle.no_haplotypes.specs.NoHaplotypes.{callSlices, CalledNoH
 ghost use Rattle.no_haplotypes.specs.Inner.Tally.{PriorsAt};
 ghost use Rattle.no_haplotypes.specs.Inner.Calling.{pileAt, FewCalls, Piled, PileHeld, PriorsIn, VariantCalled, VariantsCalled, AcceptedCalled};
 use crate::answer::depth_after;
-use crate::answer::gq_of;
-use crate::answer::qual_of;
 use crate::answer::write_answer;
 use crate::scores::write_posteriors;
 use crate::tally::Pile;
 use genotype_probs::Rates;
 use genotype_probs::case_priors::make_priors;
-use genotype_probs::posteriors::max_genotype_post;
+use genotype_probs::posteriors::genotype_of;
+use genotype_probs::posteriors::gq_of;
+use genotype_probs::posteriors::max_genotype;
+use genotype_probs::posteriors::qual_of;
 use genotype_probs::table::rates_fault;
 use pileup::piles::group_start;
 use pileup::piles::pile_calls;
@@ -71,11 +72,11 @@ fn call_variant(
     write_posteriors(t, words, s, piles, pile, &mut counts, post, v);
     let at = 9 * v;
     let k = layout::allele_count(words, s, v);
-    let r = max_genotype_post(t, post, at, k, false);
+    let p = max_genotype(t, post, at, k, false);
     quals[v] = qual_of(post, at).0;
-    gqs[v] = gq_of(t, r.post).0;
+    gqs[v] = gq_of(t, post, at, k, p).0;
     let depth = depth_after(words, s, pile.end - pile.start + pile.ambiguous, v);
-    write_answer(r.genotype, &counts, pile.ambiguous, depth, variants, v);
+    write_answer(genotype_of(k, p), &counts, pile.ambiguous, depth, variants, v);
 }
 
 // Calls all variants. At the loop's head those before v are called, and the priors of the others stand in their places.

@@ -10,11 +10,10 @@ use lib.IntN.{ℤ, pos, negsuc, negℤ, natAbs}
 use lib.Pow.{pow-pos}
 use lib.Signed.{ltZ, _≤ℤ_}
 use Rattle.steps.specs.Logs.{Log, mark, steps, addExp, difference}
-use Rattle.steps.specs.Inner.Logs.{size}
 use Rattle.steps.specs.OneMinus.{GreatestZ, OneMinusExp, low, first, lnOneMinusExp}
 use Rattle.steps.proofs.Addends.{past}
 use Rattle.steps.proofs.AddExp.{add-below, mono-second, first-parts, diff-parts}
-use Rattle.steps.proofs.Signed.{cases, by-test, true-false, zlin, up-pos, dn-pos, up-negsuc, dn-negsuc, neg-up, neg-dn, neg-abs, down-from, true-le, le-true}
+use Rattle.steps.proofs.Signed.{cases, by-test, true-false, zlin, up-pos, dn-pos, up-negsuc, dn-negsuc, neg-up, neg-dn, down-from, true-le, le-true}
 
 -- ---- the test in steps down from 0
 -- further down is less
@@ -143,16 +142,6 @@ one-value (steps (negsuc n)) mark r x y = absurd x
 one-value (steps (negsuc n)) (steps q) mark x y = absurd y
 one-value (steps (negsuc n)) (steps q) (steps r) x y =
     let a = y .most q (x .holds) in let b = x .most r (y .holds) in ap steps (omega zlin)
-
--- ---- the range: none is more than 57,344 steps below 0
-pub one-minus-size : (p : Log) → size (lnOneMinusExp p) ≤ 57344
-unfolding lnOneMinusExp size
-one-minus-size mark = omega arith
-one-minus-size (steps (pos n)) = omega arith
-one-minus-size (steps (negsuc n)) =
-    let r = first (low (negsuc n)) 16 0 in
-    let l : r ≤ 57344 = cases 57344 r (λ h. true-false (lowest n) (search-least n .none 57344 h)) (λ h. h) in
-    omega (arith, neg-abs (pos r))
 
 -- ---- the values, for the code
 pub of-zero : lnOneMinusExp (steps (pos 0)) ≡ mark

@@ -15,7 +15,7 @@ use Rattle.steps.proofs.Signed.{by-test}
 use Rattle.variants_and_fragments.specs.Case.{alleleCount, variantOf}
 use Rattle.variants_and_fragments.specs.Decode.{tabulate}
 use Rattle.variants_and_fragments.proofs.Decoded.{tabulate-at}
-use Rattle.genotype_probs.specs.Posteriors.{tableSum, normalized, entryAt, postOf, postAt, maxGenotype, firstMaximum}
+use Rattle.genotype_probs.specs.Posteriors.{tableSum, normalized, entryAt, postOf, postAt, maxGenotype, genotypeOf, firstMaximum}
 use Rattle.genotype_probs.proofs.AlleleLaws.{nine}
 use Rattle.genotype_probs.proofs.Maxima.{maximum-same, maximum-shifted}
 use Rattle.shuffle.specs.Permutation.{Permutation, times}
@@ -94,7 +94,7 @@ module _ (input : RunInput) (v : ℕ) (h : List ℕ) (last : ℕ) where
 
   pub final-pair : result input .sweeps ≡ suc last → h ≡ after C (orderOfSweep input) (input .start) (suc last) → GoodHaps C (after C (orderOfSweep input) (input .start) last)
       → Permutation (C .n) (orderOfSweep input last) → v < C .n → 1 ≤ k → k ≤ 3 → final input v .genotype ≡ pairOn h v
-  unfolding after final finalOf posteriors latestScore bestPair
+  unfolding after final finalOf genotypeOf posteriors latestScore bestPair
   final-pair e r good order in-n some three =
       let at = after C (orderOfSweep input) (input .start) last in
       let q : result input .sweeps - 1 ≡ last = omega arith in

@@ -2,7 +2,7 @@
 -- answers come from these.
 -- Assumes nothing.
 use mathlib.Core.Path.{_≡_, refl, sym, ap, _∙_}
-use mathlib.Core.Bool.{Bool, true, false, cond}
+use mathlib.Core.Bool.{Bool, true}
 use mathlib.Core.List.{List, [], _∷_, _++_, map}
 use Prim.Native.Nat.{ℕ, zero, suc, _+_, _-_, _*_, _/_, _%_, _^_, _<_, _≤_}
 use native.Mathlib.Omega.{arith}
@@ -12,18 +12,15 @@ use lib.IntN.{ℤ, pos, natAbs, negℤ, _-ℤ_}
 use lib.ListN.{length, getD, drop, take, length-append, length-drop, List·getD-append}
 use lib.Seq.{length-take-le, ext-getD, getD-drop, getD-append-add, take-at}
 use Rattle.steps.proofs.Signed.{minus-abs}
-use Rattle.steps.specs.Logs.{steps}
 use Rattle.variants_and_fragments.specs.Case.{Call, alleleCount, variantOf}
-use Rattle.variants_and_fragments.specs.Decode.{tabulateFrom, tabulate, decode}
+use Rattle.variants_and_fragments.specs.Decode.{tabulate, decode}
 use Rattle.variants_and_fragments.specs.Layout.{alleleCountAt}
-use Rattle.variants_and_fragments.specs.Pileup.{only}
 use Rattle.variants_and_fragments.specs.Written.{written}
 use Rattle.variants_and_fragments.proofs.Decoded.{tabulate-at, fragments-are}
 use Rattle.variants_and_fragments.proofs.GoodCases.{good-case}
 use Rattle.variants_and_fragments.proofs.Written.{written-length, written-at, written-past, written-same}
-use Rattle.genotype_probs.specs.Posteriors.{normalized, mirror, isOther, others, otherSum}
+use Rattle.genotype_probs.specs.Posteriors.{normalized}
 use Rattle.genotype_probs.proofs.AlleleLaws.{nine}
-use Rattle.genotype_probs.proofs.Maxima.{genotype-maximum}
 use Rattle.genotype_probs.specs.declared.Rates.{Rates}
 use Rattle.sweeps.specs.Sweeps.{SweepCase, allele0, likelihood, score}
 use Rattle.sweeps.specs.Inner.Sweeps.{GoodSweepCase}
@@ -37,7 +34,7 @@ use Rattle.likelihoods.specs.Inner.Likelihoods.{alleleOn}
 use Rattle.call_genotypes.specs.Inner.Runs.{resultOf}
 use Rattle.call_genotypes.specs.Inner.Scores.{overFirst, SweepState}
 use Rattle.with_haplotypes.specs.Inner.NormalizedPosteriors.{normalizedAt, TablesAt}
-use Rattle.genotype_probs.proofs.SameTables.{genotype-same}
+use Rattle.genotype_probs.proofs.SameTables.{genotype-same, qual-same, gq-same}
 use Rattle.likelihoods.proofs.HeldCases.{alleles-are}
 use Rattle.with_haplotypes.proofs.NormalizedTables.{normalized-here, normalized-same}
 use Rattle.genotype_probs.proofs.TableSizes.{normal-size}
@@ -51,28 +48,10 @@ use Rattle.with_haplotypes.proofs.RunLaws.{known, variants-counted, ord
 use Rattle.with_haplotypes.proofs.ScoreBounds.{number-small}
 
 -- ---- a final answer reads the k × k entries of its table
-module _ (tab other : List ℤ) (k : ℕ) (low : 1 ≤ k) (same : (p : ℕ) → p < k * k → getD tab p (pos 0) ≡ getD other p (pos 0)) where
-  entries-same : (keep : ℕ → Bool) (a n : ℕ) → a + n ≤ k * k
-      → map (λ (q : ℕ). steps (getD tab q (pos 0))) (only keep (tabulateFrom (λ q. q) a n)) ≡ map (λ (q : ℕ). steps (getD other q (pos 0))) (only keep (tabulateFrom (λ q. q) a n))
-  unfolding only tabulateFrom
-  entries-same keep a zero h = refl
-  entries-same keep a (suc n) h = go (keep a) (entries-same keep (suc a) n (omega arith))
-    where
-      go : (t : Bool) → map (λ (q : ℕ). steps (getD tab q (pos 0))) (only keep (tabulateFrom (λ q. q) (suc a) n)) ≡ map (λ (q : ℕ). steps (getD other q (pos 0))) (only keep (tabulateFrom (λ q. q) (suc a) n))
-          → map (λ (q : ℕ). steps (getD tab q (pos 0))) (cond t (a ∷ only keep (tabulateFrom (λ q. q) (suc a) n)) (only keep (tabulateFrom (λ q. q) (suc a) n)))
-          ≡ map (λ (q : ℕ). steps (getD other q (pos 0))) (cond t (a ∷ only keep (tabulateFrom (λ q. q) (suc a) n)) (only keep (tabulateFrom (λ q. q) (suc a) n)))
-      go true e = rw (same a (omega arith), e)
-      go false e = e
-
-  sum-same : (p : ℕ) → otherSum tab k p ≡ otherSum other k p
-  unfolding otherSum others
-  sum-same p = rw (entries-same (isOther p (mirror k p)) 0 (k * k) (omega arith))
-
-  pub final-same : finalOf tab k ≡ finalOf other k
-  unfolding finalOf
-  final-same =
-      let m = genotype-maximum true tab k low .inside in
-      rw (same 0 (omega arith), genotype-same tab other k low same true, sum-same)
+final-same : (tab other : List ℤ) (k : ℕ) → 1 ≤ k → ((p : ℕ) → p < k * k → getD tab p (pos 0) ≡ getD other p (pos 0)) → finalOf tab k ≡ finalOf other k
+unfolding finalOf
+final-same tab other k low same =
+    rw (genotype-same tab other k low same true, qual-same tab other k low same, gq-same tab other k low same)
 
 -- ---- a lent front: its elements are written, and the rest is as it was
 module _ {X : Type 0} (g : ℕ → X) (d : X) (n : ℕ) (l part : List X) (room : n ≤ length l) (long : length part ≡ n) (each : (e : ℕ) → e < n → getD part e d ≡ g e) where

@@ -8,11 +8,11 @@ ghost use Rattle.genotype_probs.specs.Inner.Posteriors.{TableAt};
 ghost use Rattle.with_haplotypes.specs.Finals.{finalOf};
 ghost use Rattle.with_haplotypes.specs.Inner.Finals.{TablesIn, FinalsWritten};
 use genotype_probs::posteriors::Genotype;
+use genotype_probs::posteriors::genotype_of;
+use genotype_probs::posteriors::gq_of;
 use genotype_probs::posteriors::max_genotype;
-use genotype_probs::posteriors::other_sum;
-use steps::LogProb;
+use genotype_probs::posteriors::qual_of;
 use steps::PHREDProb;
-use steps::phred::capped_phred;
 use variants_and_fragments::Sizes;
 use variants_and_fragments::VarFilter;
 use variants_and_fragments::layout;
@@ -31,11 +31,10 @@ pub fn final_answer(t: &[u16; 1665], post: &[i64], at: usize, k: usize) -> Final
     ensures { λ r. ⌜ r ≡ finalOf (drop at (now (post .entry))) k ⌝ }
 {
     let p = max_genotype(t, post, at, k, true);
-    let others = other_sum(t, post, at, k, p);
     FinalAnswer {
-        genotype: Genotype((p / k) as u8, (p % k) as u8),
-        qual: capped_phred(LogProb(post[at])),
-        gq: capped_phred(others),
+        genotype: genotype_of(k, p),
+        qual: qual_of(post, at),
+        gq: gq_of(t, post, at, k, p),
         filter: VarFilter::Pass,
     }
 }

@@ -1,20 +1,20 @@
 -- `call_variant` meets its contract: its nine places fix the genotype and both qualities, its counts the other words.
 -- Assumes nothing.
-use mathlib.Core.Path.{_≡_, ap}
-use mathlib.Core.Bool.{true}
+use mathlib.Core.Path.{_≡_, ap, _∙_}
+use mathlib.Core.Bool.{false}
 use mathlib.Core.List.{List}
-use Prim.Native.Nat.{ℕ, _+_, _*_, _^_, _≤_, _<_}
+use Prim.Native.Nat.{ℕ, _+_, _*_, _≤_, _<_}
 use native.Mathlib.Omega.{arith}
 use denote.Ref.{now}
-use lib.IntN.{ℤ, pos, natAbs}
+use lib.IntN.{ℤ}
 use lib.ListN.{length, drop}
-use lib.Signed.{leZ}
 use Rattle.variants_and_fragments.specs.Layout.{alleleCountAt}
-use Rattle.genotype_probs.specs.declared.posteriors.GenotypePost.{GenotypePost}
+use Rattle.genotype_probs.specs.Posteriors.{maxGenotype, genotypeOf, gqOf}
 use Rattle.genotype_probs.specs.Inner.Posteriors.{TableAt}
-use Rattle.no_haplotypes.specs.NoHaplotypes.{calledFrom}
+use Rattle.genotype_probs.proofs.Maxima.{genotype-maximum}
+use Rattle.genotype_probs.proofs.TableSizes.{first-small}
 use Rattle.no_haplotypes.specs.Inner.Calling.{PileHeld}
-use Rattle.no_haplotypes.proofs.CallLaws.{made-table, maximum-low, maximum-small, variant-called}
+use Rattle.no_haplotypes.proofs.CallLaws.{made-table, variant-called}
 use borrow.Author.Needs.{needs}
 use Rattle.no_haplotypes.proofs.call_variant.Statement.{statement}
 use Rattle.no_haplotypes.proofs.call_variant.Tie as tie
@@ -32,14 +32,14 @@ k-of y = alleleCountAt (now (st y .args .words)) (v-of y)
 abbrev held : (y : tie.After-write-posteriors) → PileHeld (now (st y .args .words)) (st y .args .s) (now (st y .args .piles)) (v-of y) (st y .args .pile)
 held y = st y .pre .0 .1
 
-abbrev made : tie.After-max-genotype-post → tie.After-write-posteriors
+abbrev made : tie.After-max-genotype → tie.After-write-posteriors
 made r = r .before .before .before .before
 
-abbrev maximum : tie.After-qual-of → tie.After-max-genotype-post
+abbrev maximum : tie.After-qual-of → tie.After-max-genotype
 maximum q = q .before .before
 
 abbrev gq-from : tie.After-gq-of → tie.After-qual-of
-gq-from g = g .before
+gq-from g = g .before .before
 
 -- ---- the posteriors
 write-posteriors-requires : tie.Need-write-posteriors-requires
@@ -61,17 +61,21 @@ room y = omega (arith, st y .pre .0 .2 .room)
 table : (y : tie.After-write-posteriors) → TableAt (after y) (9 * v-of y) (k-of y)
 table y = made-table (held y) (y .write-posteriors .ensures) (room y)
 
-max-genotype-post-requires : tie.Need-max-genotype-post-requires
-max-genotype-post-requires c κs =
+max-genotype-requires : tie.Need-max-genotype-requires
+max-genotype-requires c κs =
     let y = c .before .before .before in
     (st y .pre .0 .0, rw (c .before .allele-count .ensures) (table y))
 
+-- the called pair
+called : (r : tie.After-max-genotype) → r .max-genotype .result ≡ maxGenotype false (drop (9 * v-of (made r)) (after (made r))) (k-of (made r))
+called r = rw (r .before .before .allele-count .ensures) at (r .max-genotype .ensures)
+
+inside : (r : tie.After-max-genotype) → r .max-genotype .result < k-of (made r) * k-of (made r)
+inside r = omega (arith, called r, genotype-maximum false (drop (9 * v-of (made r)) (after (made r))) (k-of (made r)) (table (made r) .k-low) .inside)
+
 -- ---- the qualities
 qual-of-requires : tie.Need-qual-of-requires
-qual-of-requires c κs =
-    let y = made (c .before) in
-    let z : 9 * v-of y + 0 ≡ 9 * v-of y = omega arith in
-    (omega (arith, room y), rw z at (y .write-posteriors .ensures .small 0 (omega arith)))
+qual-of-requires c κs = first-small (table (made (c .before)))
 
 index-fits : (y : tie.After-write-posteriors) → v-of y < 1024
 index-fits y = omega (arith, held y .case-in .sized .n-top, held y .variant-in)
@@ -82,24 +86,10 @@ mul-quals c = omega (arith, index-fits (made (maximum c)))
 slice-write-quals : tie.Need-slice-write-quals
 slice-write-quals c = search needs
 
--- the genotype that is kept
-called : (r : tie.After-max-genotype-post) → r .max-genotype-post .result ≡ calledFrom (drop (9 * v-of (made r)) (after (made r))) (k-of (made r))
-unfolding calledFrom
-called r = rw (r .before .before .allele-count .ensures) at (r .max-genotype-post .ensures)
-
--- its log probability
-abbrev kept : tie.After-max-genotype-post → ℤ
-kept r = r .max-genotype-post .result .post .0
-
-kept-small : (r : tie.After-max-genotype-post) → natAbs (kept r) ≤ 2 ^ 41
-kept-small r = rw (ap (λ (g : GenotypePost). g .post .0) (called r)) (maximum-small (after (made r)) (9 * v-of (made r)) (k-of (made r)) (table (made r)))
-
-kept-low : (r : tie.After-max-genotype-post) → leZ (kept r) (pos 0) ≡ true
-kept-low r = rw (ap (λ (g : GenotypePost). g .post .0) (called r)) (maximum-low (after (made r)) (9 * v-of (made r)) (k-of (made r)) (table (made r)))
-
 gq-of-requires : tie.Need-gq-of-requires
 gq-of-requires c κs =
-    let r = maximum c in (st (made r) .pre .0 .0, kept-small r, kept-low r)
+    let r = maximum (c .before) in
+    rw (r .before .before .allele-count .ensures) (st (made r) .pre .0 .0, table (made r), omega (arith, inside r))
 
 mul-gqs : tie.Need-mul-gqs
 mul-gqs c = omega (arith, index-fits (made (maximum (gq-from c))))
@@ -122,12 +112,20 @@ depth-after-requires c κs =
     let y = made (maximum (gq-from (c .before .before))) in
     (held y .case-in, held y .variant-in, omega (arith, few-calls y))
 
--- the depth, from the words
+-- the genotype and the depth, from the words
+abbrev paired : tie.After-write-answer-arg → tie.After-genotype-of
+paired c = c .before .before
+
 abbrev deep : tie.After-write-answer-arg → tie.After-depth-after
-deep c = c .before .before
+deep c = paired c .before
 
 abbrev gq-before : tie.After-depth-after → tie.After-gq-of
 gq-before d = d .before .before .before
+
+genotype-of-requires : tie.Need-genotype-of-requires
+genotype-of-requires c κs =
+    let r = maximum (gq-from (gq-before c)) in
+    rw (r .before .before .allele-count .ensures) (table (made r) .k-low, table (made r) .k-high, inside r)
 
 write-answer-requires : tie.Need-write-answer-requires
 write-answer-requires c κs =
@@ -154,7 +152,11 @@ returns c =
     let q = gq-from g in
     let r = maximum q in
     let y = made r in
-    variant-called (held y) (y .write-posteriors .ensures) (room y) (r .max-genotype-post .result) _ _ _ (called r) (d .depth-after .ensures .0) (a .write-answer .ensures) (q .qual-of .ensures) (g .gq-of .ensures)
+    let p = r .max-genotype .result in
+    let k = r .before .before .allele-count .ensures in
+    variant-called (held y) (y .write-posteriors .ensures) (room y) p _ _ _ _ (called r)
+    (paired (a .before) .genotype-of .ensures ∙ ap (λ (k : ℕ). genotypeOf k p) k) (d .depth-after .ensures .0) (a .write-answer .ensures)
+    (q .qual-of .ensures) (g .gq-of .ensures ∙ ap (λ (k : ℕ). gqOf (drop (9 * v-of y) (after y)) k p) k)
 
 pub call-variant-spec : {M : Type 1} → statement M
 call-variant-spec =
@@ -163,7 +165,7 @@ call-variant-spec =
     write-posteriors-requires
     mul-at
     allele-count-requires
-    max-genotype-post-requires
+    max-genotype-requires
     qual-of-requires
     mul-quals
     slice-write-quals
@@ -173,6 +175,7 @@ call-variant-spec =
     sub-depth-after
     add-depth-after
     depth-after-requires
+    genotype-of-requires
     write-answer-requires
     same-length
     same-length-2

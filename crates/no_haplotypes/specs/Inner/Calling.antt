@@ -20,8 +20,9 @@ use Rattle.pileup.specs.Inner.Packed.{RowIn, groupStart}
 use Rattle.pileup.specs.Inner.Piles.{PilesMade}
 use Rattle.genotype_probs.specs.declared.posteriors.Genotype.{Genotype}
 use Rattle.genotype_probs.specs.declared.Rates.{Rates}
+use Rattle.genotype_probs.specs.Posteriors.{qualOf}
 use Rattle.no_haplotypes.specs.declared.tally.Pile.{Pile}
-use Rattle.no_haplotypes.specs.NoHaplotypes.{callsAt, answerFrom, qualFrom, gqFrom, answerAt, qualAt, gqAt}
+use Rattle.no_haplotypes.specs.NoHaplotypes.{callsAt, answerFrom, gqFrom, answerAt, qualAt, gqAt}
 use Rattle.no_haplotypes.specs.Inner.Tally.{pileRows, PileIn, CountsIn, posteriorsFrom}
 
 -- ---- the piles
@@ -81,7 +82,7 @@ madeFrom w priors b v = posteriorsFrom (drop (9 * v) priors) (alleleCountAt w v)
 pub record VariantCalled (w : List ℤ) (v : ℕ) (post variants : List ℤ) (quals gqs : List Float) (post' variants' : List ℤ) (quals' gqs' : List Float) : Type 0 where
   pub past : (e : ℕ) → 9 * v + 9 ≤ e → getD post' e (pos 0) ≡ getD post e (pos 0)
   pub variants-are : (b : List ℕ) → variants' ≡ writtenFrom (answerFrom (madeFrom w post b v) (alleleCountAt w v) (decode w b) v) (13 * v) 13 variants
-  pub quals-are : (b : List ℕ) → quals' ≡ set quals v (qualFrom (madeFrom w post b v))
+  pub quals-are : (b : List ℕ) → quals' ≡ set quals v (qualOf (madeFrom w post b v))
   pub gqs-are : (b : List ℕ) → gqs' ≡ set gqs v (gqFrom (madeFrom w post b v) (alleleCountAt w v))
 
 -- ---- all variants
@@ -94,7 +95,7 @@ pub record PriorsIn (post : List ℤ) (n : ℕ) : Type 0 where
 -- n variants called, whatever the bases
 pub record VariantsCalled (w : List ℤ) (n : ℕ) (post variants : List ℤ) (quals gqs : List Float) (variants' : List ℤ) (quals' gqs' : List Float) : Type 0 where
   pub variants-are : (b : List ℕ) → variants' ≡ written (λ e. answerFrom (madeFrom w post b (e / 13)) (alleleCountAt w (e / 13)) (decode w b) (e / 13) (e % 13)) (13 * n) variants
-  pub quals-are : (b : List ℕ) → quals' ≡ written (λ v. qualFrom (madeFrom w post b v)) n quals
+  pub quals-are : (b : List ℕ) → quals' ≡ written (λ v. qualOf (madeFrom w post b v)) n quals
   pub gqs-are : (b : List ℕ) → gqs' ≡ written (λ v. gqFrom (madeFrom w post b v) (alleleCountAt w v)) n gqs
 
 -- the n variants of an accepted case called at accepted rates

@@ -5,7 +5,7 @@ use native.Mathlib.Omega.{arith}
 use Rattle.steps.specs.Logs.{lnAddExp, steps}
 use Rattle.steps.specs.Inner.Logs.{logOf, size}
 use Rattle.steps.proofs.Marks.{of-small, size-steps}
-use Rattle.genotype_probs.proofs.FinalLaws.{not-itself, not-mirror, an-other}
+use Rattle.genotype_probs.proofs.OtherSums.{not-itself, not-mirror, an-other}
 use Rattle.genotype_probs.proofs.posteriors.add_other.Statement.{statement}
 use Rattle.genotype_probs.proofs.posteriors.add_other.Tie as tie
 

@@ -15,7 +15,7 @@ use Rattle.steps.proofs.Signed.{read-small}
 use Rattle.genotype_probs.proofs.AlleleLaws.{nine}
 use Rattle.genotype_probs.proofs.TableSums.{place-in, pair-in}
 use Rattle.genotype_probs.specs.Posteriors.{mirror}
-use Rattle.genotype_probs.proofs.FinalLaws.{Adding, adding-start, adding-more, adding-end}
+use Rattle.genotype_probs.proofs.OtherSums.{Adding, adding-start, adding-more, adding-end}
 use Rattle.genotype_probs.proofs.posteriors.other_sum.Statement.{statement}
 use Rattle.genotype_probs.proofs.posteriors.other_sum.Tie as tie
 

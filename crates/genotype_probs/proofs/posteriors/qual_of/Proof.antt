@@ -1,4 +1,4 @@
--- `answer::qual_of` meets its contract: the entry is no mark.
+-- `posteriors::qual_of` meets its contract: the entry is no mark.
 -- Assumes nothing.
 use mathlib.Core.Path.{_≡_, sym, ap, _∙_}
 use Prim.Native.Nat.{ℕ, _+_}
@@ -14,10 +14,10 @@ use Rattle.steps.specs.Inner.Logs.{logOf, size}
 use Rattle.steps.specs.Phred.{phredOf, capped}
 use Rattle.steps.proofs.Marks.{of-small, size-steps}
 use Rattle.steps.proofs.Signed.{read-small}
-use Rattle.no_haplotypes.specs.NoHaplotypes.{qualFrom}
+use Rattle.genotype_probs.specs.Posteriors.{qualOf}
 use borrow.Author.Needs.{needs}
-use Rattle.no_haplotypes.proofs.answer.qual_of.Statement.{statement}
-use Rattle.no_haplotypes.proofs.answer.qual_of.Tie as tie
+use Rattle.genotype_probs.proofs.posteriors.qual_of.Statement.{statement}
+use Rattle.genotype_probs.proofs.posteriors.qual_of.Tie as tie
 
 mul-t3 : tie.Need-mul-t3
 mul-t3 c = search needs
@@ -35,7 +35,7 @@ capped-phred-requires : tie.Need-capped-phred-requires
 capped-phred-requires c κs = let s = c .before in let h = s .pre .1 in omega (arith, ap size (finite s), size-steps (first s))
 
 returns : tie.Need-returns
-unfolding qualFrom
+unfolding qualOf
 returns c =
     let s = c .before .before in
     let z : s .args .at + 0 ≡ s .args .at = omega arith in
