@@ -1,17 +1,18 @@
 -- The called pair, the variant's quality and the pair's go by the k × k entries of a table.
 -- Assumes nothing.
 use mathlib.Core.Path.{_≡_, refl}
-use mathlib.Core.Bool.{Bool, true, false, cond}
-use mathlib.Core.List.{List, _∷_, map}
+use mathlib.Core.Bool.{Bool}
+use mathlib.Core.List.{List}
 use Prim.Native.Nat.{ℕ, zero, suc, _+_, _*_, _/_, _%_, _≤_, _<_}
 use native.Mathlib.Omega.{arith}
 use lib.IntN.{ℤ, pos}
 use lib.ListN.{getD}
-use Rattle.steps.specs.Logs.{steps}
+use Rattle.steps.proofs.Signed.{by-test}
 use Rattle.variants_and_fragments.specs.Decode.{tabulateFrom}
 use Rattle.variants_and_fragments.specs.Pileup.{only}
 use Rattle.genotype_probs.specs.Posteriors.{entryAt, postOf, postAt, maxGenotype, qualOf, mirror, isOther, others, otherSum, gqOf}
 use Rattle.genotype_probs.proofs.Maxima.{maximum-same}
+use Rattle.genotype_probs.proofs.OtherSums.{kept}
 use Rattle.genotype_probs.proofs.TableSums.{place-in, pair-in}
 
 module _ (tab other : List ℤ) (k : ℕ) (low : 1 ≤ k) (same : (p : ℕ) → p < k * k → getD tab p (pos 0) ≡ getD other p (pos 0)) where
@@ -29,18 +30,13 @@ module _ (tab other : List ℤ) (k : ℕ) (low : 1 ≤ k) (same : (p : ℕ) → 
   unfolding qualOf
   qual-same = rw (same 0 (omega (arith, place-in 0 0 k low low)))
 
-  entries-same : (keep : ℕ → Bool) (a n : ℕ) → a + n ≤ k * k
-      → map (λ (q : ℕ). steps (getD tab q (pos 0))) (only keep (tabulateFrom (λ q. q) a n)) ≡ map (λ (q : ℕ). steps (getD other q (pos 0))) (only keep (tabulateFrom (λ q. q) a n))
+  kept-same : (keep : ℕ → Bool) (a n : ℕ) → a + n ≤ k * k → kept tab keep a n ≡ kept other keep a n
   unfolding only tabulateFrom
-  entries-same keep a zero h = refl
-  entries-same keep a (suc n) h = go (keep a) (entries-same keep (suc a) n (omega arith))
-    where
-      go : (t : Bool) → map (λ (q : ℕ). steps (getD tab q (pos 0))) (only keep (tabulateFrom (λ q. q) (suc a) n)) ≡ map (λ (q : ℕ). steps (getD other q (pos 0))) (only keep (tabulateFrom (λ q. q) (suc a) n))
-          → map (λ (q : ℕ). steps (getD tab q (pos 0))) (cond t (a ∷ only keep (tabulateFrom (λ q. q) (suc a) n)) (only keep (tabulateFrom (λ q. q) (suc a) n)))
-          ≡ map (λ (q : ℕ). steps (getD other q (pos 0))) (cond t (a ∷ only keep (tabulateFrom (λ q. q) (suc a) n)) (only keep (tabulateFrom (λ q. q) (suc a) n)))
-      go true e = rw (same a (omega arith), e)
-      go false e = e
+  kept-same keep a zero h = refl
+  kept-same keep a (suc n) h =
+      let e = kept-same keep (suc a) n (omega arith) in
+      by-test (keep a) (λ t. rw (t, same a (omega arith), e)) (λ t. rw t e)
 
   pub gq-same : (p : ℕ) → gqOf tab k p ≡ gqOf other k p
   unfolding gqOf otherSum others
-  gq-same p = rw (entries-same (isOther p (mirror k p)) 0 (k * k) (omega arith))
+  gq-same p = rw (kept-same (isOther p (mirror k p)) 0 (k * k) (omega arith))

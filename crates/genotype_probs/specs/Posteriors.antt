@@ -1,6 +1,7 @@
 -- 01, section 4, as amended by request 4: tables of k × k log probabilities, row-major, and the qualities that they give. All entries are finite.
 -- Assumes nothing.
-use mathlib.Core.Bool.{Bool, cond, not, _||_}
+use mathlib.Core.Path.{_≡_}
+use mathlib.Core.Bool.{Bool, true, cond, not, _||_}
 use mathlib.Core.List.{List, [], _∷_, map}
 use Prim.Native.Nat.{ℕ, zero, suc, _+_, _*_, _/_, _%_, _≤_, _<_}
 use lib.Dec.{eqb, ltb}
@@ -91,3 +92,10 @@ otherSum tab k p = lnSumExp (map (λ q. steps (getD tab q (pos 0))) (others k p)
 -- conditioned on the site's being variant and as an integer; this one is neither
 unfoldable pub gqOf : List ℤ → ℕ → ℕ → Float
 gqOf tab k p = capped (phredOf (otherSum tab k p))
+
+-- no jump to 500 (request 4): at two alleles or more the sum over the other pairs is a number of steps and no mark, and none of these pairs has
+-- more. So gq is at most Phred of the likeliest of them. Of every table: `others-counted` of proofs/OtherSums.antt
+pub record OthersCounted (tab : List ℤ) (k p : ℕ) : Type 0 where
+  pub sum : ℤ
+  pub sum-is : otherSum tab k p ≡ steps sum
+  pub most : (q : ℕ) → q < k * k → isOther p (mirror k p) q ≡ true → getD tab q (pos 0) ≤ℤ sum

@@ -76,7 +76,8 @@ fn call_variant(
     quals[v] = qual_of(post, at).0;
     gqs[v] = gq_of(t, post, at, k, p).0;
     let depth = depth_after(words, s, pile.end - pile.start + pile.ambiguous, v);
-    write_answer(genotype_of(k, p), &counts, pile.ambiguous, depth, variants, v);
+    let g = genotype_of(k, p);
+    write_answer(g, &counts, pile.ambiguous, depth, variants, v);
 }
 
 // Calls all variants. At the loop's head those before v are called, and the priors of the others stand in their places.
