@@ -3,7 +3,7 @@
 use mathlib.Core.Path.{_≡_}
 use mathlib.Core.Bool.{Bool, true, cond, not, _||_}
 use mathlib.Core.List.{List, [], _∷_, map}
-use Prim.Native.Nat.{ℕ, zero, suc, _+_, _*_, _/_, _%_, _≤_, _<_}
+use Prim.Native.Nat.{ℕ, zero, suc, _+_, _*_, _/_, _%_, _<_}
 use lib.Dec.{eqb, ltb}
 use lib.Ieee.{Float}
 use lib.IntN.{ℤ, pos, _-ℤ_}
@@ -87,14 +87,14 @@ others k p = only (isOther p (mirror k p)) (tabulate (k * k) (λ q. q))
 unfoldable pub otherSum : List ℤ → ℕ → ℕ → Log
 otherSum tab k p = lnSumExp (map (λ q. steps (getD tab q (pos 0))) (others k p))
 
--- gq of the called pair p, without haplotypes (section 4, as amended by request 4) and with them (section 7): Phred of the sum over pairs other than
--- the called one and its mirror, capped. The VCF specification's field GQ is −10 log10 of the probability that the genotype call is wrong, there
--- conditioned on the site's being variant and as an integer; this one is neither
+-- gq of the called pair p (section 4, as amended by request 4, and section 7): Phred of the sum over pairs other than the called one and its mirror,
+-- capped. The VCF specification's field GQ: −10 log10 of the probability that the genotype call is wrong. VCF conditions it on the site's being
+-- variant and rounds it to an integer; here neither is done
 unfoldable pub gqOf : List ℤ → ℕ → ℕ → Float
 gqOf tab k p = capped (phredOf (otherSum tab k p))
 
--- no jump to 500 (request 4): at two alleles or more the sum over the other pairs is a number of steps and no mark, and none of these pairs has
--- more. So gq is at most Phred of the likeliest of them. Of every table: `others-counted` of proofs/OtherSums.antt
+-- no jump to 500 (request 4): at two alleles or more the sum over the other pairs is a number of steps, not the mark, and no less than any of
+-- these pairs has. So gq is at most Phred of the likeliest of them. Of every table: `others-counted` of proofs/OtherSums.antt
 pub record OthersCounted (tab : List ℤ) (k p : ℕ) : Type 0 where
   pub sum : ℤ
   pub sum-is : otherSum tab k p ≡ steps sum
