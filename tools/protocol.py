@@ -136,7 +136,7 @@ class Request:
     def told(self, reply):
         """The answer, from the oracle's reply to the question. A slice of the reply that is left out is the model's."""
         lines = reply.splitlines(keepends=True)
-        if self.word in LEFT_OUT and len(lines) == self.lines():
+        if self.word in LEFT_OUT and reply.endswith("\n") and len(lines) == self.lines():
             place = 1 + LEFT_OUT[self.word]
             lines[place] = self.answer().splitlines(keepends=True)[place]
         return "".join(lines)

@@ -3,9 +3,9 @@
 
 Run at the repository's root, after oracle/build: python3 tools/record.py
 It writes crates/condorbed/stdin and crates/condorbed/stdout. Accepted requests of the operations that longshot has, and
-arrivals and departures on fresh values, are answered by the oracle, longshot's own code; refusals, `check` and `orders`
-by tools/model.py, which is written from the documents, and so is gq of `nohap`, which longshot defines in another way. The
-model answers the others too, and a difference between the two ends this script without a list.
+arrivals and departures on fresh values, are answered by the oracle, longshot's own code; refusals, `check`, `orders` and
+gq of `nohap`, which longshot defines in another way, by tools/model.py, which is written from the documents. The model
+answers the others too, and a difference between the two ends this script without a list.
 A change of the layout is a change of tools/layout.py and a new run of this script.
 """
 import itertools
@@ -380,8 +380,8 @@ def priors(rec, rng):
         rec.priors(*encode(case), rates, rooms("priors", len(case.variants)))
 
 
-# A variant's alleles, those that its reads show equally often, the most reads of each before longshot's gq jumps to 500.0,
-# and the reads' qualities.
+# A variant's alleles, those that its reads show equally often, the most reads of each before gq by longshot's rule, in steps,
+# jumps to 500.0, and the reads' qualities.
 JUMPS = [(["A", "G"], [1], 31, (-5796, -1700)), (["A", "G"], [0, 1], 21, (-13607, -622)),
          (["A", "C", "T"], [1, 2], 22, (-13607, -622))]
 
@@ -403,8 +403,8 @@ def nohap(rec, rng):
     rec.nohap(words, bases, RATES, (0, 0, 0))
     rec.nohap(words, bases, RATES[:5] + [0], (0, 0, 0))
     rec.nohap(*NOTHING, RATES, (1, 1, 0))
-    rec.note("nohap: three variants, each twice: longshot's gq is 34.7 the first time, and 500.0 with one read of each allele "
-             "more (docs/DIFFERENCES.md)")
+    rec.note("nohap: three variants, each twice: by longshot's rule, in steps, gq is 34.7 the first time, and 500.0 with one "
+             "read more of each allele shown (docs/DIFFERENCES.md)")
     for alleles, shown, most, (miss, match) in JUMPS:
         for count in (most, most + 1):
             rec.nohap(*encode(alone(alleles, (0, 1), [(a, miss, match, 0) for a in shown] * count)), RATES, one)

@@ -4,7 +4,7 @@
 Run after oracle/build. The program's answers, with --model those of tools/model.py, are given one deliberate fault at a time:
 in the first variant of each request a word of its answer, its qual or its gq is one more. The comparison must count just the
 answers that the fault changed. Then the model has the fault too: now only longshot's values can show it, so all are counted but
-those of gq, which longshot defines in another way. Last, longshot's own gq is given in the place of the program's.
+those of gq, which longshot defines in another way. Last, longshot's gq is given in the place of the program's.
 """
 import argparse
 import importlib.machinery
@@ -93,7 +93,9 @@ def results(right):
 def main():
     options = argparse.ArgumentParser(description=__doc__, formatter_class=argparse.RawDescriptionHelpFormatter)
     options.add_argument("--model", action="store_true")
-    right = by_model if options.parse_args().model else compare.by_program
+    given = options.parse_args()
+    compare.need_built([compare.ORACLE] if given.model else [compare.ORACLE, compare.PROGRAM])
+    right = by_model if given.model else compare.by_program
     passed, failed = 0, 0
     for name, changed, different, wanted in results(right):
         good = different == wanted and (changed > 0) == (name != "no fault")

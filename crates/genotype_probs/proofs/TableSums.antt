@@ -1,17 +1,18 @@
--- Sums of tables: what a loop goes through, their sizes, and that the sum of row sums of a normalised table is 0, since ln_add_exp moves with
--- a constant. Assumes nothing.
+-- Sums of tables: what a loop goes through, their sizes, and what follows since ln_add_exp moves with a constant: tables that differ by one are
+-- the same normalised, and the sum of row sums of a normalised table is 0. Assumes nothing.
 use mathlib.Core.Path.{_≡_, refl, sym, ap, _∙_}
 use mathlib.Core.List.{List, [], _∷_, map}
 use Prim.Native.Nat.{ℕ, zero, suc, _+_, _*_, _-_, _/_, _%_, _^_, _≤_, _<_}
 use native.Mathlib.Nat.{mul-le-mul-right, suc-mul, div-lt-iff-lt-mul, mod-lt}
 use native.Mathlib.Numerals.{add-one}
 use native.Mathlib.Omega.{arith}
-use borrow.Author.Tests.{lt-ltb}
+use borrow.Author.Tests.{ltb-true, lt-ltb}
+use lib.Dec.{ltb}
 use lib.IntN.{ℤ, pos, negℤ, natAbs, _+ℤ_, _-ℤ_}
 use lib.ListN.{length, getD, take, drop, length-drop}
 use lib.Seq.{length-take-le, ext-getD, getD-take, getD-drop}
 use Rattle.steps.specs.Logs.{steps, addExp, lnSumExp, sumExp}
-use Rattle.steps.proofs.Signed.{zlin, parts-minus, up-pos, dn-pos}
+use Rattle.steps.proofs.Signed.{by-test, zlin, parts-add, parts-minus, up-pos, dn-pos}
 use Rattle.steps.proofs.AddExp.{add-size}
 use Rattle.steps.specs.Inner.Logs.{logOf}
 use Rattle.steps.proofs.Marks.{steps-is}
@@ -94,29 +95,36 @@ row-part post at k i h =
     ∙ sym (getD-drop at post (i * k + j) (pos 0))
     ∙ sym (tabulate-at k (entryAt (drop at post) k i) j (pos 0) m))
 
--- ---- normalised
-module _ (tab norm : List ℤ) (k : ℕ) (low : 1 ≤ k) (each : (p : ℕ) → p < k * k → getD norm p (pos 0) ≡ normalized tab k p) where
-  entry-moves : (i j : ℕ) → i < k → j < k → entryAt norm k i j ≡ entryAt tab k i j +ℤ negℤ (tableSum tab k)
-  unfolding entryAt normalized
-  entry-moves i j h l =
-      each (i * k + j) (place-in i j k h l) ∙ rw (lt-ltb (i * k + j) (k * k) (place-in i j k h l))
-
-  row-moves : (i : ℕ) → i < k → rowSum norm k i ≡ rowSum tab k i +ℤ negℤ (tableSum tab k)
-  unfolding rowSum
+-- ---- a table whose k × k entries are another's, each with a constant added
+module _ (c : ℤ) (tab other : List ℤ) (k : ℕ) (low : 1 ≤ k) (moved : (p : ℕ) → p < k * k → getD tab p (pos 0) ≡ getD other p (pos 0) +ℤ c) where
+  row-moves : (i : ℕ) → i < k → rowSum tab k i ≡ rowSum other k i +ℤ c
+  unfolding rowSum entryAt
   row-moves i h =
-      ap sumOf (tabulate-cong k (entryAt norm k i) (λ j. entryAt tab k i j +ℤ negℤ (tableSum tab k)) (λ j l. entry-moves i j h l))
-      ∙ sum-moves (entryAt tab k i) (negℤ (tableSum tab k)) k low
+      ap sumOf (tabulate-cong k (entryAt tab k i) (λ j. entryAt other k i j +ℤ c) (λ j l. moved (i * k + j) (place-in i j k h l)))
+      ∙ sum-moves (entryAt other k i) c k low
 
-  minus-itself : (z : ℤ) → z -ℤ z ≡ pos 0
-  minus-itself z = let u = up-pos 0 in let d = dn-pos 0 in omega (zlin, parts-minus z z)
-
-  -- the sum of row sums of a normalised table is 0
-  pub normal-sum : tableSum norm k ≡ pos 0
+  -- its sum moves by that constant
+  table-moves : tableSum tab k ≡ tableSum other k +ℤ c
   unfolding tableSum
-  normal-sum =
-      ap sumOf (tabulate-cong k (rowSum norm k) (λ i. rowSum tab k i +ℤ negℤ (tableSum tab k)) row-moves)
-      ∙ sum-moves (rowSum tab k) (negℤ (tableSum tab k)) k low
-      ∙ minus-itself (sumOf (tabulate k (rowSum tab k)))
+  table-moves = ap sumOf (tabulate-cong k (rowSum tab k) (λ i. rowSum other k i +ℤ c) row-moves) ∙ sum-moves (rowSum other k) c k low
+
+  cancel : (x s : ℤ) → (x +ℤ c) -ℤ (s +ℤ c) ≡ x -ℤ s
+  cancel x s = omega (zlin, parts-add x c, parts-add s c, parts-minus (x +ℤ c) (s +ℤ c), parts-minus x s)
+
+  -- normalised it is the same
+  pub normalized-same : (p : ℕ) → normalized tab k p ≡ normalized other k p
+  unfolding normalized
+  normalized-same p =
+      by-test (ltb p (k * k)) (λ t. rw (t, moved p (ltb-true p (k * k) t), table-moves) (cancel (getD other p (pos 0)) (tableSum other k))) (λ t. rw t)
+
+minus-itself : (z : ℤ) → z -ℤ z ≡ pos 0
+minus-itself z = let u = up-pos 0 in let d = dn-pos 0 in omega (zlin, parts-minus z z)
+
+-- the sum of row sums of a normalised table is 0
+pub normal-sum : (tab norm : List ℤ) (k : ℕ) → 1 ≤ k → ((p : ℕ) → p < k * k → getD norm p (pos 0) ≡ normalized tab k p) → tableSum norm k ≡ pos 0
+unfolding normalized
+normal-sum tab norm k low each =
+    table-moves (negℤ (tableSum tab k)) norm tab k low (λ p h. each p h ∙ rw (lt-ltb p (k * k) h)) ∙ minus-itself (tableSum tab k)
 
 -- ---- a loop that sums: `sum` is that of the first j values, each at most n steps from 0
 pub record Summing (n : ℕ) (f : ℕ → ℤ) (k : ℕ) (sum : ℤ) (j : ℕ) : Type 0 where

@@ -94,7 +94,7 @@ unfoldable pub gqOf : List ℤ → ℕ → ℕ → Float
 gqOf tab k p = capped (phredOf (otherSum tab k p))
 
 -- no jump to 500 (request 4): at two alleles or more the sum over the other pairs is a number of steps, not the mark, and no less than any of
--- these pairs has. So gq is at most Phred of the likeliest of them. Of every table: `others-counted` of proofs/OtherSums.antt
+-- these pairs has. gq is Phred of that sum. Of every table: `others-counted` of proofs/OtherSums.antt
 pub record OthersCounted (tab : List ℤ) (k p : ℕ) : Type 0 where
   pub sum : ℤ
   pub sum-is : otherSum tab k p ≡ steps sum

@@ -1,4 +1,4 @@
-// Priors and posteriors of genotypes: document 01, sections 3 and 4.
+// Priors and posteriors of genotypes, and the qualities of a call: document 01, sections 3, 4 (as amended by request 4) and 7.
 ghost use mathlib.Core.Path.{_≡_};
 ghost use Rattle.variants_and_fragments.specs.Refusals.{done, outcomeOf};
 ghost use Rattle.variants_and_fragments.specs.Check.{checkCaseOutcome};

@@ -1,4 +1,4 @@
-// Tables of k × k log probabilities, row-major, each in nine places of a lent slice from `at` on.
+// Tables of k × k log probabilities, row-major, each in nine places of a lent slice from `at` on, and the qualities that they give.
 ghost use mathlib.Core.Path.{_≡_};
 ghost use mathlib.Core.Bool.{cond};
 ghost use Prim.Native.Nat.{_+_, _*_, _<_, _≤_, _^_};
@@ -126,7 +126,7 @@ pub fn genotype_of(k: usize, p: usize) -> Genotype
     Genotype((p / k) as u8, (p % k) as u8)
 }
 
-// The quality of a variant: that of its pair (0, 0).
+// The quality of a variant: Phred of the entry of pair (0, 0), capped.
 pub fn qual_of(post: &[i64], at: usize) -> PHREDProb
     requires { ⌜ (at < length (now post)) × (natAbs (getD (now post) at (pos 0)) ≤ 2 ^ 40) ⌝ }
     ensures { λ r. ⌜ r .0 ≡ qualOf (drop at (now (post .entry))) ⌝ }
@@ -164,7 +164,7 @@ fn other_sum(t: &[u16; 1665], post: &[i64], at: usize, k: usize, p: usize) -> Lo
     sum
 }
 
-// The quality of the called genotype, of row-major number p.
+// The quality of the called genotype, of row-major number p: Phred of the sum over the other pairs, capped.
 pub fn gq_of(t: &[u16; 1665], post: &[i64], at: usize, k: usize, p: usize) -> PHREDProb
     requires { ⌜ (now t ≡ knots) × TableAt (now post) at k × (p < k * k) ⌝ }
     ensures { λ r. ⌜ r .0 ≡ gqOf (drop at (now (post .entry))) k p ⌝ }

@@ -7,7 +7,7 @@ use Prim.Native.Nat.{ℕ, _+_, _*_, _-_, _/_, _%_, _^_, _≤_, _<_}
 use native.Mathlib.Omega.{arith}
 use borrow.Author.Tests.{ltb-true, lt-ltb}
 use lib.Dec.{eqb, ltb}
-use lib.IntN.{ℤ, pos, natAbs, _+ℤ_}
+use lib.IntN.{ℤ, pos, natAbs, _+ℤ_, +ℤ-idr}
 use lib.ListN.{length, getD, drop}
 use lib.Seq.{getD-drop}
 use Rattle.steps.proofs.Signed.{by-test, add-abs}
@@ -18,27 +18,13 @@ use Rattle.variants_and_fragments.specs.Pileup.{Row}
 use Rattle.variants_and_fragments.specs.Inner.Written.{writtenFrom}
 use Rattle.variants_and_fragments.proofs.Decoded.{tabulate-at}
 use Rattle.variants_and_fragments.proofs.Written.{from-length, from-past, from-at}
-use Rattle.genotype_probs.specs.Posteriors.{sumOf, entryAt, rowSum, tableSum, normalized}
+use Rattle.genotype_probs.specs.Posteriors.{normalized}
 use Rattle.genotype_probs.specs.Inner.Posteriors.{TableAt}
 use Rattle.genotype_probs.proofs.AlleleLaws.{nine}
-use Rattle.genotype_probs.proofs.TableSums.{tabulate-cong, place-in, pair-in}
+use Rattle.genotype_probs.proofs.TableSums.{pair-in, normalized-same}
 use Rattle.genotype_probs.proofs.TableSizes.{normal-size}
 use Rattle.no_haplotypes.specs.Inner.Tally.{CountsIn, Tallied, SumsIn, pairGain, gained, PriorsAt, scoredFrom, posteriorsFrom, PosteriorsMade}
 use Rattle.no_haplotypes.proofs.ScoreLaws.{pair-is}
-
--- ---- a normalised table goes by its k × k entries
-module _ (tab other : List ℤ) (k : ℕ) (same : (p : ℕ) → p < k * k → getD tab p (pos 0) ≡ getD other p (pos 0)) where
-  sum-same : tableSum tab k ≡ tableSum other k
-  unfolding tableSum rowSum entryAt
-  sum-same =
-      ap sumOf (tabulate-cong k (rowSum tab k) (rowSum other k) (λ i h. ap sumOf (tabulate-cong k (entryAt tab k i) (entryAt other k i) (λ j l. same (i * k + j) (place-in i j k h l)))))
-
-  pub normal-same : (p : ℕ) → normalized tab k p ≡ normalized other k p
-  unfolding normalized
-  normal-same p =
-      by-test (ltb p (k * k))
-      (λ t. rw (t, same p (ltb-true p (k * k) t), sum-same))
-      (λ t. rw t)
 
 -- ---- the places after scoring
 pair-small : (t : Bool) (a b c d : ℤ) → natAbs a ≤ 2 ^ 34 → natAbs b ≤ 2 ^ 34 → natAbs c ≤ 2 ^ 34 → natAbs d ≤ 2 ^ 34 → natAbs (cond t (a +ℤ b) (a +ℤ c +ℤ d)) ≤ 3 * 2 ^ 34
@@ -99,8 +85,8 @@ module _ {before mid : List ℤ} {at k : ℕ} {total : ℤ} {gains : List ℤ} (
       after-is p h =
           let scores = tabulate 9 (scoredFrom (drop at before) k rows) in
           after-at p h
-          ∙ normal-same (drop at mid) scores k
-          (λ q l. let m : q < 9 = omega (arith, nine k top) in getD-drop at mid q (pos 0) ∙ mid-at q m ∙ scored-is q ∙ sym (tabulate-at 9 (scoredFrom (drop at before) k rows) q (pos 0) m)) p
+          ∙ normalized-same (pos 0) (drop at mid) scores k low
+          (λ q l. let m : q < 9 = omega (arith, nine k top) in getD-drop at mid q (pos 0) ∙ mid-at q m ∙ scored-is q ∙ sym (tabulate-at 9 (scoredFrom (drop at before) k rows) q (pos 0) m) ∙ sym (+ℤ-idr (getD scores q (pos 0)))) p
           ∙ sym (tabulate-at 9 (normalized scores k) p (pos 0) h)
 
       pub posteriors-made : {v : ℕ} → at ≡ 9 * v → k ≡ alleleCountAt w v → CountsIn counts → PosteriorsMade w s rows v before after counts

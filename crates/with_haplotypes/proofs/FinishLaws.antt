@@ -36,8 +36,9 @@ use Rattle.call_genotypes.specs.Inner.Scores.{overFirst, SweepState}
 use Rattle.with_haplotypes.specs.Inner.NormalizedPosteriors.{normalizedAt, TablesAt}
 use Rattle.genotype_probs.proofs.SameTables.{genotype-same, qual-same, gq-same}
 use Rattle.likelihoods.proofs.HeldCases.{alleles-are}
-use Rattle.with_haplotypes.proofs.NormalizedTables.{normalized-here, normalized-same}
+use Rattle.with_haplotypes.proofs.NormalizedTables.{normalized-here}
 use Rattle.genotype_probs.proofs.TableSizes.{normal-size}
+use Rattle.genotype_probs.proofs.TableSums.{normalized-same}
 use Rattle.likelihoods.proofs.SweepCases as cases
 use Rattle.with_haplotypes.specs.declared.RoundAnswer.{RoundAnswer}
 use Rattle.with_haplotypes.specs.declared.RoundSizes.{RoundSizes}

@@ -1,25 +1,17 @@
--- Tables that are normalised one after the other: those still to come are as they were, and each is normalised by itself. What all
--- entries of a table have in common does not matter.
+-- Tables that are normalised one after the other: those still to come are as they were, and each is normalised by itself.
 -- Assumes nothing.
 use mathlib.Core.Path.{_≡_, refl, sym, ap, _∙_}
-use mathlib.Core.List.{List, _∷_, map}
+use mathlib.Core.List.{List}
 use Prim.Native.Nat.{ℕ, zero, suc, _+_, _*_, _/_, _%_, _≤_, _<_}
 use native.Mathlib.Omega.{arith}
-use borrow.Author.Tests.{ltb-true}
-use lib.Dec.{ltb}
-use lib.IntN.{ℤ, pos, _+ℤ_, _-ℤ_}
+use lib.IntN.{ℤ, pos}
 use lib.ListN.{length, getD, drop}
 use lib.Seq.{drop-set-lt}
-use Rattle.steps.specs.Logs.{sumExp}
-use Rattle.steps.proofs.Signed.{by-test, zlin, parts-add, parts-minus}
-use Rattle.steps.proofs.Sums.{sum-shift}
-use Rattle.variants_and_fragments.specs.Decode.{tabulateFrom, tabulate}
 use Rattle.variants_and_fragments.specs.Written.{written}
 use Rattle.variants_and_fragments.specs.Inner.Written.{writtenFrom}
 use Rattle.variants_and_fragments.proofs.Written.{written-at, written-length, written-past, from-after}
-use Rattle.genotype_probs.specs.Posteriors.{sumOf, entryAt, rowSum, tableSum, normalized}
+use Rattle.genotype_probs.specs.Posteriors.{normalized}
 use Rattle.genotype_probs.specs.Inner.Posteriors.{TableAt}
-use Rattle.genotype_probs.proofs.TableSums.{tabulate-cong, place-in}
 use Rattle.with_haplotypes.specs.Inner.NormalizedPosteriors.{normalizedAt}
 
 -- past the first n all is as it was
@@ -60,32 +52,3 @@ pub normalized-here : (ks : List ℕ) (post : List ℤ) (n v p : ℕ) → 9 * n 
     → getD (written (normalizedAt ks post) (9 * n) post) (9 * v + p) (pos 0) ≡ normalized (drop (9 * v) post) (getD ks v 0) p
 normalized-here ks post n v p l h k =
     written-at (normalizedAt ks post) (9 * n) post (pos 0) l (9 * v + p) (omega arith) ∙ sym (place-is ks post v p k)
-
--- ---- what normalising reads of a table: its k × k entries, and of these no common part
-module _ (c : ℤ) where
-  added-table : (f : ℕ → ℤ) (a n : ℕ) → tabulateFrom (λ i. f i +ℤ c) a n ≡ map (λ (z : ℤ). z +ℤ c) (tabulateFrom f a n)
-  unfolding tabulateFrom
-  added-table f a zero = refl
-  added-table f a (suc n) = ap (λ (xs : List ℤ). (f a +ℤ c) ∷ xs) (added-table f (suc a) n)
-
-  added-sum : (f : ℕ → ℤ) (n : ℕ) → 1 ≤ n → sumOf (tabulate n (λ i. f i +ℤ c)) ≡ sumOf (tabulate n f) +ℤ c
-  unfolding sumOf tabulateFrom
-  added-sum f zero h = absurd (omega arith)
-  added-sum f (suc n) h = ap (sumExp (f 0 +ℤ c)) (added-table f 1 n) ∙ sum-shift c (f 0) (tabulateFrom f 1 n)
-
-  cancel : (x s : ℤ) → (x +ℤ c) -ℤ (s +ℤ c) ≡ x -ℤ s
-  cancel x s = omega (zlin, parts-add x c, parts-add s c, parts-minus (x +ℤ c) (s +ℤ c), parts-minus x s)
-
-  module _ (tab other : List ℤ) (k : ℕ) (some : 1 ≤ k) (same : (p : ℕ) → p < k * k → getD tab p (pos 0) ≡ getD other p (pos 0) +ℤ c) where
-    row-same : (i : ℕ) → i < k → rowSum tab k i ≡ rowSum other k i +ℤ c
-    unfolding rowSum entryAt
-    row-same i h = ap sumOf (tabulate-cong k (entryAt tab k i) (λ j. entryAt other k i j +ℤ c) (λ j l. same (i * k + j) (place-in i j k h l))) ∙ added-sum (entryAt other k i) k some
-
-    sum-same : tableSum tab k ≡ tableSum other k +ℤ c
-    unfolding tableSum
-    sum-same = ap sumOf (tabulate-cong k (rowSum tab k) (λ i. rowSum other k i +ℤ c) row-same) ∙ added-sum (rowSum other k) k some
-
-    pub normalized-same : (p : ℕ) → normalized tab k p ≡ normalized other k p
-    unfolding normalized
-    normalized-same p =
-        by-test (ltb p (k * k)) (λ t. rw (t, same p (ltb-true p (k * k) t), sum-same) (cancel (getD other p (pos 0)) (tableSum other k))) (λ t. rw t)
