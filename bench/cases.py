@@ -2,7 +2,7 @@
 """Writes the benchmark's cases: bench/cases.py FOLDER, a file with one `run` request for each; prints the files' names.
 
 A case is a simulated sample: two true haplotypes, reads of a stretch of one of them with errors, and a given phase that is
-right at nine variants of ten. A seed fixes each. Orders are document 01's own from seed 0.
+right at nine variants of ten. No read is muted. A seed fixes each. Orders are document 01's own from seed 0.
 """
 import math
 import os

@@ -35,9 +35,9 @@ enum {
     CONDORBED_VARIANT = 2,       /* variant; also of a haplotype lent as input that is not below k */
     CONDORBED_ALLELES = 3,       /* variant; N: wrong length */
     CONDORBED_CALL = 4,          /* call record, from 1; of an arriving call its index, from 0 */
-    CONDORBED_CHAIN = 5,         /* fragment; F: the free chain, or a used record in no chain; of an arriving call that does
-                                    not rise its index, from 0; the number of whole arriving calls: a broken length, or no
-                                    such strand */
+    CONDORBED_CHAIN = 5,         /* fragment (also of a strand outside 0..3); F: the free chain, or a used record in no
+                                    chain; of an arriving call that does not rise its index, from 0; the number of whole
+                                    arriving calls: a broken length, or a strand outside 0..3 */
     CONDORBED_RATES = 6,         /* rate 0..5; 6: their sum */
     CONDORBED_PHASE = 7,         /* variant; N: wrong length */
     CONDORBED_ORDERS = 8,        /* order; 0: wrong length */
@@ -183,11 +183,12 @@ condorbed_round_answer condorbed_call_genotypes_with_haplotypes(const int32_t *w
                                                                 double *quals, size_t quals_len,
                                                                 double *gqs, size_t gqs_len);
 
-/* A fragment arrives: one whose number is absent, with its strand and its calls (4 words each: variant, allele, qual,
-   one_minus_qual), which take the free call records from the first on, then unused ones. phase is exactly 1 byte per
-   variant, haplotypes 2 alleles per variant as they stand. Updates the words, 2 likelihoods per fragment, 10 counts per
-   variant (those of condorbed_call_genotypes_no_haplotypes, its third to twelfth value) and the phased total, as the
-   fragment changes them. */
+/* A fragment arrives: one whose number is absent, with its strand (0 forward, 1 reverse; 2 and 3 the same, muted) and its
+   calls (4 words each: variant, allele, qual, one_minus_qual), which take the free call records from the first on, then
+   unused ones. phase is exactly 1 byte per variant, haplotypes 2 alleles per variant as they stand. Updates the words, 2
+   likelihoods per fragment, 10 counts per variant (those of condorbed_call_genotypes_no_haplotypes, its third to twelfth
+   value) and the phased total, as the fragment changes them. A muted fragment does not vote: its calls count as ambiguous,
+   its likelihoods are 0 and the total stays. */
 condorbed_late_answer condorbed_arrive(int32_t *words, size_t words_len,
                                        const uint8_t *bases, size_t bases_len,
                                        const uint8_t *phase, size_t phase_len,

@@ -215,8 +215,9 @@ pub fn call_genotypes_with_haplotypes(
     result(a.number, a.place, round)
 }
 
-/// A fragment arrives: one whose number is absent, with its strand and its calls (4 words each), which take the free call
-/// records from the first on, then unused ones. `phase` has a byte a variant, `haplotypes` 2 alleles a variant as they stand.
+/// A fragment arrives: one whose number is absent, with its strand (0 forward, 1 reverse; 2 and 3 the same, muted) and its
+/// calls (4 words each), which take the free call records from the first on, then unused ones. `phase` has a byte a variant,
+/// `haplotypes` 2 alleles a variant as they stand. A muted fragment does not vote: its calls count as ambiguous.
 pub fn arrive(
     words: &mut [i32],
     bases: &[u8],

@@ -5,7 +5,8 @@ Everything is drawn from the generator that is handed in, so that a seed fixes i
 import itertools
 import random
 
-from layout import CALL, LOWEST, MAX_ALLELES, MAX_CALLS, MAX_FRAGMENTS, MAX_LENGTH, MAX_VARIANTS, needs
+from layout import (CALL, LOWEST, MAX_ALLELES, MAX_CALLS, MAX_FRAGMENTS, MAX_LENGTH, MAX_VARIANTS, MUTED_FORWARD, STRANDS,
+                    needs)
 from model import (Call, Case, Fragment, Variant, check, check_rates, encode, free_and_unused, fresh_values,
                    start_haplotypes, Refused)
 from protocol import LATE, Request, Update
@@ -31,15 +32,37 @@ def random_case(rng, most=6):
             Call(v, rng.randrange(len(variants[v].alleles)), -rng.choice([0, 1, 1999, 2000, 2001, -LOWEST]),
                  -rng.choice([0, 5, -LOWEST]))
             for v in chosen]))
-    return with_absent(rng, Case(variants, fragments, -rng.choice([0, 2000, -LOWEST])))
+    return with_muted(rng, with_absent(rng, Case(variants, fragments, -rng.choice([0, 2000, -LOWEST]))))
 
 
 def with_absent(rng, case):
-    """The case with up to two absent fragments among the others."""
+    """The case with up to two absent fragments among the others, of any strand."""
     fragments = list(case.fragments)
     for _ in range(min(rng.choice([0, 0, 1, 2]), MAX_FRAGMENTS - len(fragments))):
-        fragments.insert(rng.randint(0, len(fragments)), Fragment(rng.randrange(2), [], present=False))
+        fragments.insert(rng.randint(0, len(fragments)), Fragment(rng.choice(STRANDS), [], present=False))
     return Case(case.variants, fragments, case.cutoff)
+
+
+def muted(fragment):
+    """The fragment on file without a vote."""
+    return Fragment(MUTED_FORWARD + fragment.strand % 2, fragment.calls, fragment.present)
+
+
+# The share of cases with muted fragments, the chance of each fragment there, and the share of arriving reads that are muted.
+# A third of all cases so lose a usable call; the muted fragments of the others have none to lose.
+WITH_MUTED, CHANCES, ARRIVE_MUTED = 0.65, [0.25, 0.5, 0.5, 1], 0.25
+
+
+def with_muted(rng, case):
+    """The case, now and then with some or all of its fragments muted."""
+    chance = rng.choice(CHANCES) if rng.random() < WITH_MUTED else 0
+    fragments = [muted(x) if rng.random() < chance else x for x in case.fragments]
+    return Case(case.variants, fragments, case.cutoff)
+
+
+def silenced(case):
+    """Whether a muted fragment has a call that would be usable if it voted."""
+    return any(call.qual < case.cutoff for x in case.fragments if not x.votes() for call in x.calls)
 
 
 def random_words(rng):
@@ -209,15 +232,16 @@ def updates(rng, standing, count):
 
 
 def random_update(rng, standing):
-    """An accepted arrival or departure; None where there are no fragments. Some arrivals take all records that are left."""
+    """An accepted arrival or departure; None where there are no fragments. Some arrivals take all records that are left,
+    some are muted."""
     case, left = check(standing.words, standing.bases), sum(map(len, free_and_unused(standing.words)))
     absent = [f for f, x in enumerate(case.fragments) if not x.present]
     present = [f for f, x in enumerate(case.fragments) if x.present]
     if absent and (not present or rng.random() < 0.6):
         n = len(case.variants)
         places = sorted(rng.sample(range(n), left)) if left <= n and rng.random() < 0.3 else random_places(rng, n)[:left]
-        quality = random_qualities(rng, case.cutoff)
-        return standing.arrive(rng.choice(absent), random_read(rng, case.variants, quality, places))
+        read = random_read(rng, case.variants, random_qualities(rng, case.cutoff), places)
+        return standing.arrive(rng.choice(absent), muted(read) if rng.random() < ARRIVE_MUTED else read)
     return standing.depart(rng.choice(present)) if present else None
 
 
@@ -231,7 +255,7 @@ class Trial:
 
     def __init__(self, rng, case, phase=None):
         n = len(case.variants)
-        self.case = with_absent(rng, case)
+        self.case = with_muted(rng, with_absent(rng, case))
         self.places, self.room = rng.getrandbits(64) if rng.random() < 0.5 else None, ROOM
         self.rates = random_rates(rng)
         self.phase = phase or [rng.choice([48, 49, 48, 49, 45, 0]) for _ in range(n)]

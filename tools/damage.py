@@ -2,13 +2,14 @@
 import copy
 
 from layout import (ARRIVING, CALL, FRAGMENT, HEAD, LOWEST, LOWEST_LENT, MAX_ALLELES, MAX_COUNT, MAX_LENGTH,
-                    MAX_VARIANTS, VARIANT, Layout)
+                    MAX_VARIANTS, MUTED_REVERSE, STRANDS, VARIANT, Layout)
 from model import free_and_unused
 from protocol import LatePart, Request
 
 LARGEST = 2147483647
 BAD_WORDS = [0, 1, -1, 2, MAX_ALLELES, MAX_ALLELES + 1, MAX_LENGTH + 1, MAX_VARIANTS + 1, LOWEST - 1, LARGEST,
              -LARGEST - 1]
+BAD_STRANDS = [-1, len(STRANDS), len(STRANDS) + 1, LARGEST, -LARGEST - 1]
 
 
 def set_word(rng, request, at):
@@ -36,6 +37,14 @@ def fragment(rng, request):
     at = layout(request)
     if at.f > 0:
         set_word(rng, request, at.fragment(rng.randrange(at.f)) + rng.randrange(FRAGMENT.words))
+
+
+def strand(rng, request):
+    """A strand that the layout lacks, of a present or an absent fragment; now and then the last one that it has."""
+    at = layout(request)
+    place = at.fragment(rng.randrange(at.f)) + FRAGMENT.strand if at.f > 0 else -1
+    if 0 <= place < len(request.words):
+        request.words[place] = rng.choice(BAD_STRANDS + [MUTED_REVERSE])
 
 
 def call(rng, request):
@@ -227,7 +236,7 @@ def late_number(rng, request):
 
 
 def late_strand(rng, request):
-    request.parts[LatePart.STRAND] = rng.choice([-1, 2, 2147483647, -2147483648])
+    request.parts[LatePart.STRAND] = rng.choice(BAD_STRANDS)
 
 
 def arriving_call(rng, request):
@@ -258,7 +267,8 @@ def all_records(rng, request):
 
 LATE = [late_phase, late_slice, late_value, late_value, late_number, late_number]
 
-CASE = [head, variant, variant, fragment, call, call, link, link, used, free, cycle, free_link, into_free, words, bases]
+CASE = [head, variant, variant, fragment, strand, call, call, link, link, used, free, cycle, free_link, into_free, words,
+        bases]
 DAMAGES = {
     "check": CASE, "priors": [rates, room], "nohap": [rates, room, room], "phase": [given_phase, given_phase, room],
     "run": [rates, given_phase, orders, limit, room], "flist": [room, line_room, line_room],

@@ -169,6 +169,16 @@ def told_priors(_request, case, _fields, slices):
 
 COUNTS = ["calls", "forward", "reverse", "ambiguous"]
 ABOUT_COUNTS = "Calls are usable calls, a number for each allele; forward and reverse are those of them on each strand."
+ABOUT_MUTED = " All calls of a muted read are ambiguous."
+
+
+def muted(case):
+    """The muted reads that are on file."""
+    return [x for x in case.fragments if x.present and not x.votes()]
+
+
+def about_counts(*cases):
+    return ABOUT_COUNTS + ABOUT_MUTED * any(map(muted, cases))
 
 
 def count_cells(variant, x):
@@ -183,7 +193,7 @@ def told_nohap(_request, case, _fields, slices):
         x = CALLED.read(slices[0], CALLED.words * v)
         rows.append(pair_cells(variant, x.genotype) + count_cells(variant, x) + [x.depth])
     head = ["genotype", "letters"] + COUNTS + ["depth", "qual", "gq"]
-    return [ABOUT_COUNTS] + variant_table(case, head, rows, decimals(slices[1]), decimals(slices[2]))
+    return [about_counts(case)] + variant_table(case, head, rows, decimals(slices[1]), decimals(slices[2]))
 
 
 def told_phase(_request, case, _fields, slices):
@@ -233,14 +243,16 @@ def told_late(request, case, fields, slices):
     """After an arrival or a departure; the case is the one before."""
     (words, likelihoods, counts), f = slices, request.parts[LatePart.NUMBER]
     at, two, free = Layout.of(words), likelihoods[PAIR * f:PAIR * (f + 1)], len(free_and_unused(words)[0])
-    own = check(words, request.bases).fragments[f]
-    happened = "left; its number can be taken again" if not own.present else "arrived with %s, first record %d" % (
-        count(len(own.calls), "call"), words[at.fragment(f) + FRAGMENT.first])
+    after = check(words, request.bases)
+    own = after.fragments[f]
+    quiet = "" if own.votes() else ", muted,"
+    happened = "left; its number can be taken again" if not own.present else "arrived%s with %s, first record %d" % (
+        quiet, count(len(own.calls), "call"), words[at.fragment(f) + FRAGMENT.first])
     rows = [count_cells(x, COUNTED.read(counts, COUNTED.words * v)) for v, x in enumerate(case.variants)]
     return [
         "Fragment %d %s. Call records used: %d of %d, %d of them free." % (f, happened, words[HEAD.used], at.c, free),
         "Its likelihoods are %d and %d. Phased total: %s steps. The sample is now %s." % (*two, *fields[::-1]),
-        ABOUT_COUNTS] + variant_table(case, COUNTS, rows)
+        about_counts(case, after)] + variant_table(case, COUNTS, rows)
 
 
 TOLD = {"check": told_check, "priors": told_priors, "nohap": told_nohap, "phase": told_phase, "run": told_run,
@@ -309,6 +321,9 @@ def wrong_call(request, place):
                                          plain_text(calls[start:start + kind.words])))
 
 
+EXPECTED_STRAND = "0 (forward), 1 (reverse), 2 (muted forward) or 3 (muted reverse)"
+
+
 def wrong_fragment(request, place):
     if arriving(request):
         return wrong_arrival(request, place)
@@ -317,8 +332,8 @@ def wrong_fragment(request, place):
         return wrong_free(request.words[HEAD.free], used)
     own = record(request, FRAGMENT, at.fragment(place))
     return ("fragment %d is wrong: its first record must be -1, if it is absent, or in 0..%d, the records used, and its "
-            "strand 0 or 1; along its chain each next must be in 0..%d, and the variants must rise; no record may be an "
-            "earlier fragment's. %s" % (place, used, used, own))
+            "strand %s; along its chain each next must be in 0..%d, and the variants must rise; no record may be an "
+            "earlier fragment's. %s" % (place, used, EXPECTED_STRAND, used, own))
 
 
 def wrong_free(first, used):
@@ -331,8 +346,8 @@ def wrong_arrival(request, place):
     words, strand = len(request.parts[LatePart.CALLS]), request.parts[LatePart.STRAND]
     if place < words // ARRIVING.words:
         return "the variant of arriving call %d does not rise over that of the call before" % place
-    return "the arrival has %s and the strand %d: it must have %d words for each call, and the strand 0 or 1" % (
-        count(words, "word"), strand, ARRIVING.words)
+    return "the arrival has %s and the strand %d: it must have %d words for each call, and the strand %s" % (
+        count(words, "word"), strand, ARRIVING.words, EXPECTED_STRAND)
 
 
 def wrong_rates(request, place):
@@ -447,9 +462,10 @@ def heading(text):
 def about(case):
     calls = sum(len(fragment.calls) for fragment in case.fragments)
     absent = sum(not fragment.present for fragment in case.fragments)
+    apart = ", ".join("%d %s" % pair for pair in [(absent, "absent"), (len(muted(case)), "muted")] if pair[0])
     return "%s, %s%s, %s; cutoff %d steps (Phred %.1f)" % (
-        count(len(case.variants), "variant"), count(len(case.fragments), "fragment"),
-        " (%d absent)" % absent if absent else "", count(calls, "call"), case.cutoff, phred(case.cutoff))
+        count(len(case.variants), "variant"), count(len(case.fragments), "fragment"), " (%s)" % apart if apart else "",
+        count(calls, "call"), case.cutoff, phred(case.cutoff))
 
 
 def told(request, first, slices):

@@ -1,4 +1,4 @@
-"""The layout of a case (document 01, section 2, as amended by requests 1 and 3) and of the slices that the operations
+"""The layout of a case (document 01, section 2, as amended by requests 1, 3 and 5) and of the slices that the operations
 write, with its limits.
 
 No other script has the offset of a field, the stride of a record or a limit: a change of the layout is a change here.
@@ -12,6 +12,8 @@ MAX_ALLELES, MAX_LENGTH = 3, 64
 LOWEST = -262144
 # The first call of an absent fragment.
 ABSENT = -1
+# The strands of a fragment. A muted one is on file and does not vote.
+FORWARD, REVERSE, MUTED_FORWARD, MUTED_REVERSE = STRANDS = range(4)
 # Of a total or a likelihood that is lent, and of a count.
 LOWEST_LENT, MAX_COUNT = -2**40, 4096
 
@@ -99,7 +101,7 @@ def needs(word, n, f):
 HEADER = """/* Written by tools/layout.py: words of each record, offsets of its fields, limits; then what is written per variant. */
 %s
 enum { MAX_VARIANTS = %d, MAX_FRAGMENTS = %d, MAX_CALLS = %d, MAX_ALLELES = %d, MAX_LENGTH = %d, LOWEST = %d };
-enum { ABSENT = %d };
+enum { ABSENT = %d, MUTED_FORWARD = %d, MUTED_REVERSE = %d };
 enum { PAIR = %d, TABLE = %d };
 """
 
@@ -113,7 +115,7 @@ def record_header(name, record):
 def main():
     records = {"HEAD": HEAD, "VARIANT": VARIANT, "FRAGMENT": FRAGMENT, "CALL": CALL}
     print(HEADER % ("\n".join(record_header(*pair) for pair in records.items()), MAX_VARIANTS, MAX_FRAGMENTS, MAX_CALLS,
-                    MAX_ALLELES, MAX_LENGTH, LOWEST, ABSENT, PAIR, TABLE), end="")
+                    MAX_ALLELES, MAX_LENGTH, LOWEST, ABSENT, MUTED_FORWARD, MUTED_REVERSE, PAIR, TABLE), end="")
 
 
 if __name__ == "__main__":

@@ -11,8 +11,9 @@ import math
 import struct
 
 import knots
-from layout import (ABSENT, ARRIVING, CALL, CALLED, COUNTED, FRAGMENT, HEAD, LOWEST, LOWEST_LENT, MAX_ALLELES,
-                    MAX_CALLS, MAX_COUNT, MAX_FRAGMENTS, MAX_LENGTH, MAX_VARIANTS, PAIR, TABLE, VARIANT, Layout, needs)
+from layout import (ABSENT, ARRIVING, CALL, CALLED, COUNTED, FORWARD, FRAGMENT, HEAD, LOWEST, LOWEST_LENT, MAX_ALLELES,
+                    MAX_CALLS, MAX_COUNT, MAX_FRAGMENTS, MAX_LENGTH, MAX_VARIANTS, PAIR, REVERSE, STRANDS, TABLE, VARIANT,
+                    Layout, needs)
 
 
 class Refused(Exception):
@@ -39,13 +40,22 @@ class Fragment:
     def __init__(self, strand, calls, present=True):
         self.strand, self.calls, self.present = strand, list(calls), present
 
+    def votes(self):
+        """Request 5: whether it is not muted."""
+        return self.strand in (FORWARD, REVERSE)
+
+    def reverse(self):
+        """Whether it is on the reverse strand, muted or not."""
+        return self.strand % 2 == REVERSE
+
 
 class Case:
     def __init__(self, variants, fragments, cutoff):
         self.variants, self.fragments, self.cutoff = list(variants), list(fragments), cutoff
 
     def usable(self, fragment, call):
-        return call.qual < self.cutoff
+        """01, section 2, as amended by request 5."""
+        return fragment.votes() and call.qual < self.cutoff
 
     def usable_calls(self, fragment):
         return [call for call in fragment.calls if self.usable(fragment, call)]
@@ -149,9 +159,6 @@ def check_calls(at, words, used, alleles):
             raise Refused(4, r)
 
 
-STRANDS = (0, 1)
-
-
 def check_fragments(at, words, used, taken):
     """Number 5, place the fragment: the fragments. The records of their chains join those taken."""
     fragments = []
@@ -186,7 +193,7 @@ def check_free(at, words, head, taken):
 
 
 def check(words, bases, haplotypes=()):
-    """01, section 2 and the table of refusals, numbers 1 to 5, as amended by requests 1 and 3: the case, or Refused.
+    """01, section 2 and the table of refusals, numbers 1 to 5, as amended by requests 1, 3 and 5: the case, or Refused.
     Haplotypes are those lent as input."""
     at, head = check_head(words)
     check_variants(at, words, haplotypes)
@@ -432,11 +439,11 @@ def accept_no_haplotypes(words, bases, rates, variants, quals, gqs):
 
 
 def counted(case, v):
-    """The counts of a variant: usable calls by allele, those on each strand, ambiguous calls."""
+    """The counts of a variant: usable calls by allele, those on each strand, ambiguous calls (a muted fragment's are)."""
     here = calls_at(case, v)
     used = [(f, c) for f, c in here if case.usable(f, c)]
-    forward, reverse = ([sum(1 for f, c in used if (f.strand, c.allele) == (strand, a)) for a in range(MAX_ALLELES)]
-                        for strand in STRANDS)
+    forward, reverse = ([sum(1 for f, c in used if (f.reverse(), c.allele) == (side, a)) for a in range(MAX_ALLELES)]
+                        for side in (False, True))
     return COUNTED.make(counts=[x + y for x, y in zip(forward, reverse)], forward=forward, reverse=reverse,
                         ambiguous=len(here) - len(used))
 
@@ -641,7 +648,7 @@ def generate_flist_buffer(words, bases, single_reads, buffer):
                 blocks[-1].append(c)
             else:
                 blocks.append([c])
-        parts = ["%d %d:%s" % (len(blocks), lines, "+" if fragment.strand else "-")]
+        parts = ["%d %d:%s" % (len(blocks), lines, "+" if fragment.reverse() else "-")]
         parts += ["%d %s" % (b[0].variant + 1, "".join(str(c.allele) for c in b)) for b in blocks]
         text += " ".join(parts).encode() + b" " + bytes(quality_byte(c.qual) for c in calls) + b"\0"
         lines += 1
@@ -673,7 +680,7 @@ def sweep_orders(words, bases, seed, orders):
     return [], [out]
 
 
-# ---- 02, requests 1 and 3: arrivals and departures.
+# ---- 02, requests 1, 3 and 5: arrivals and departures.
 
 
 def fresh_values(case, rates, phase, haps):
@@ -724,7 +731,7 @@ def arriving(case, strand, words):
 def recounted(case, fragment, counts, change):
     """The counts with the calls of a fragment added or taken off."""
     counts = list(counts)
-    strand = (COUNTED.forward, COUNTED.reverse)[fragment.strand]
+    strand = COUNTED.reverse if fragment.reverse() else COUNTED.forward
     for call in fragment.calls:
         own = (COUNTED.counts + call.allele, strand + call.allele)
         for place in own if case.usable(fragment, call) else [COUNTED.ambiguous]:

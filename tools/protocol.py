@@ -2,7 +2,7 @@
 import subprocess
 
 import model
-from layout import PAIR, Layout, needs
+from layout import FRAGMENT, PAIR, Layout, needs
 from model import Refused, pattern
 
 # The form of each request's parts between the bases and the rooms, in order. A slice that is `lent` is read and written;
@@ -157,6 +157,14 @@ class Update(Request):
     def left(self):
         """The words that it leaves."""
         return self.result()[1][0]
+
+    def before(self):
+        """The strand that stands at its number before it."""
+        return self.words[Layout.of(self.words).fragment(self.parts[LatePart.NUMBER]) + FRAGMENT.strand]
+
+    def strand(self):
+        """The strand of the read that arrives or departs."""
+        return self.parts[LatePart.STRAND] if self.word == "arrive" else self.before()
 
     def question(self):
         """The oracle knows section 5's haplotypes alone."""

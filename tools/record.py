@@ -12,9 +12,10 @@ import itertools
 import random
 import sys
 
-from cases import RATES, Standing, Trial, fresh, random_case, random_records, tangled
-from layout import (ABSENT, ARRIVING, CALL, COUNTED, FRAGMENT, HEAD, LOWEST, LOWEST_LENT, MAX_ALLELES, MAX_CALLS,
-                    MAX_COUNT, MAX_FRAGMENTS, MAX_LENGTH, MAX_VARIANTS, PAIR, VARIANT, Layout, needs)
+from cases import RATES, Standing, Trial, fresh, muted, random_case, random_records, tangled
+from layout import (ABSENT, ARRIVING, CALL, COUNTED, FRAGMENT, HEAD, LOWEST, LOWEST_LENT, MAX_ALLELES, MAX_CALLS, MAX_COUNT,
+                    MAX_FRAGMENTS, MAX_LENGTH, MAX_VARIANTS, MUTED_FORWARD, MUTED_REVERSE, PAIR, STRANDS, VARIANT, Layout,
+                    needs)
 from model import Call, Case, Fragment, Variant, check, encode, start_haplotypes
 from protocol import LATE, LatePart, Request, ask_oracle
 
@@ -163,7 +164,7 @@ def chains(rec):
     words, bases = encode(sample())
     at = Layout.of(words)
     first, strand = FRAGMENT.first, FRAGMENT.strand
-    faults = [(0, first, ABSENT), (0, first, -2), (1, first, 9), (2, first, 1), (2, first, 2), (1, strand, 2),
+    faults = [(0, first, ABSENT), (0, first, -2), (1, first, 9), (2, first, 1), (2, first, 2), (1, strand, 4),
               (4, strand, -1), (2, first, -2147483648)]
     for f, field, value in faults:
         rec.check(with_word(words, at.fragment(f) + field, value), bases)
@@ -197,7 +198,7 @@ def idle_records(rec):
     words, bases = encode(case, idle=idle, used=9, free=[7, 2])
     at, first, strand = Layout.of(words), FRAGMENT.first, FRAGMENT.strand
     rec.check(words, bases)
-    rec.check(with_word(words, at.fragment(1) + strand, 2), bases)
+    rec.check(with_word(words, at.fragment(1) + strand, 4), bases)
     rec.check(with_word(words, at.fragment(5) + strand, -1), bases)
     rec.check(with_word(words, HEAD.used, 8), bases)
     rec.note("a chain into the tail: 5 at its fragment; to a free record: 4 there")
@@ -234,7 +235,7 @@ def free_chains(rec):
             [(after(1), 5)], [(after(3), 6)]):
         rec.check(changed_words(words, changes), bases)
     rec.note("4, then 5 at a fragment, then place F")
-    faults = [(at.call(3) + CALL.allele, 2), (at.fragment(2) + FRAGMENT.strand, 2), (after(4), 5)]
+    faults = [(at.call(3) + CALL.allele, 2), (at.fragment(2) + FRAGMENT.strand, 4), (after(4), 5)]
     for i in range(2):
         rec.check(changed_words(words, faults[i:]), bases)
     rec.note("all records free, in order and in another one; the last next leads back to the first")
@@ -630,9 +631,9 @@ def late_parts(word):
     return (standing.arrive(1, LONG) if word == "arrive" else standing.depart(3)).parts
 
 
-def with_parts(word, changes):
+def with_parts(parts, changes):
     """The parts with each change: a part, a place in it (None for all of it) and the value."""
-    parts = [list(x) if isinstance(x, list) else x for x in late_parts(word)]
+    parts = [list(x) if isinstance(x, list) else x for x in parts]
     for part, place, value in changes:
         if place is None:
             parts[part] = value
@@ -643,15 +644,15 @@ def with_parts(word, changes):
 
 def refuse(rec, word, *changes, words=None, bases=None):
     data = late_sample()
-    rec.add(word, words or data[0], data[1] if bases is None else bases, with_parts(word, changes))
+    rec.add(word, words or data[0], data[1] if bases is None else bases, with_parts(late_parts(word), changes))
 
 
 def lent_faults(rec):
     rec.note("refusals that arrivals and departures share: 1 to 5, haplotypes under 2, 7, 10")
     words, bases = late_sample()
     at, part = Layout.of(words), late_parts("depart")
-    bad = [(HEAD.used, 15), (at.variant(2) + VARIANT.dp, -1), (at.call(7) + CALL.qual, 1), (at.fragment(4) + 1, 2),
-           (at.call(1) + CALL.next, 4)]
+    bad = [(HEAD.used, 15), (at.variant(2) + VARIANT.dp, -1), (at.call(7) + CALL.qual, 1),
+           (at.fragment(4) + FRAGMENT.strand, 4), (at.call(1) + CALL.next, 4)]
     short = [(i, None, part[i][:-1]) for i in (LatePart.HAPLOTYPES, LatePart.LIKELIHOODS, LatePart.COUNTS)]
     for word in LATE:
         for i in range(len(bad)):
@@ -713,12 +714,12 @@ def arriving_faults(rec):
     calls = late_parts("arrive")[LatePart.CALLS]
     for length in (1, 3, 5, 11):
         refuse(rec, "arrive", (LatePart.CALLS, None, calls[:length]))
-        refuse(rec, "arrive", (LatePart.CALLS, None, calls[:length]), (LatePart.STRAND, None, 2))
+        refuse(rec, "arrive", (LatePart.CALLS, None, calls[:length]), (LatePart.STRAND, None, 4))
     refuse(rec, "arrive", (LatePart.CALLS, None, calls + [-1]))
     refuse(rec, "arrive", (LatePart.CALLS, None, []), (LatePart.STRAND, None, -1))
-    for strand in (-1, 2, 3, 2147483647):
+    for strand in (-1, 4, 5, 2147483647, -2147483648):
         refuse(rec, "arrive", (LatePart.STRAND, None, strand))
-    refuse(rec, "arrive", (LatePart.CALLS, None, calls[:9]), (LatePart.CALLS, words, 0), (LatePart.STRAND, None, 2))
+    refuse(rec, "arrive", (LatePart.CALLS, None, calls[:9]), (LatePart.CALLS, words, 0), (LatePart.STRAND, None, 4))
     refuse(rec, "arrive", (LatePart.CALLS, 2 * words + qual, 1), (LatePart.CALLS, words, 0))
 
 
@@ -742,7 +743,7 @@ def number_faults(rec):
     rec.add("depart", empty, [], [[], [], [0, -5], [], LOWEST_LENT, 0])
     rec.note("several faults at once, in their order: ranges before, 4, 5, 13, 14, ranges after")
     faults = [(LatePart.TOTAL, None, 1), (LatePart.CALLS, 2 * ARRIVING.words + ARRIVING.qual, 1),
-              (LatePart.CALLS, ARRIVING.words, 0), (LatePart.STRAND, None, 2), (LatePart.NUMBER, None, 0),
+              (LatePart.CALLS, ARRIVING.words, 0), (LatePart.STRAND, None, 4), (LatePart.NUMBER, None, 0),
               (LatePart.COUNTS, 0, MAX_COUNT)]
     full = late_sample(0)[0]
     for i in range(len(faults)):
@@ -758,8 +759,140 @@ def late(rec, rng):
         part(rec)
 
 
+# ---- Muted reads, beside their voting twins.
+
+
+def with_mute(case, numbers):
+    """The case with these fragments muted."""
+    fragments = [muted(x) if f in numbers else x for f, x in enumerate(case.fragments)]
+    return Case(case.variants, fragments, case.cutoff)
+
+
+def muted_strands(rec):
+    rec.note("muted: strands 2 and 3 are accepted, of a read with calls, without, and of an absent one; 4, -1, .. not")
+    words, bases = late_sample()
+    at, strand = Layout.of(words), FRAGMENT.strand
+    for f in (0, 2, 4):
+        for value in [*STRANDS, -1, len(STRANDS), 2147483647, -2147483648]:
+            rec.check(with_word(words, at.fragment(f) + strand, value), bases)
+    rec.note("muted: the ranges of its calls (4), their rising and its chain (5) are checked as ever")
+    quiet = with_word(words, at.fragment(0) + strand, MUTED_FORWARD)
+    first = quiet[at.fragment(0) + FRAGMENT.first]
+    for place, value in [(CALL.qual, 1), (CALL.one_minus_qual, LOWEST - 1), (CALL.allele, 2), (CALL.variant, 1),
+                         (CALL.next, 4)]:
+        rec.check(with_word(quiet, at.call(first) + place, value), bases)
+
+
+def quiet_case():
+    """Three heterozygous variants; reads 0, 1 and 2 link them in one way, 3 and 4 in another, read 5 has one call. One call
+    is at the cutoff."""
+    variants = [Variant(10, 0, (0, 1), ["A", "G"]), Variant(20, 4, (0, 1), ["C", "T"]),
+                Variant(30, 9, (1, 0), ["G", "A", "T"])]
+    alleles = [[1, 1, 1], [0, 0, 0], [1, 1], [1, 0, 1], [0, 1, 2]]
+    fragments = [Fragment(f % 2, [Call(v, a, -30000 - 100 * f, -40) for v, a in enumerate(own)])
+                 for f, own in enumerate(alleles)]
+    fragments[1].calls[2].qual = -2000
+    return Case(variants, fragments + [Fragment(1, [Call(1, 1, -13607, -12)])], -2000)
+
+
+# The muted reads of the quiet case, one list after the other; rates at which a read tells.
+QUIET = [(), (0,), (3,), (3, 4), (0, 2, 5), range(6)]
+COMMON = [-8193] * 4 + [-1, -1]
+
+
+def muted_answers(rec):
+    cases = [encode(with_mute(quiet_case(), numbers)) for numbers in QUIET]
+    rec.note("none muted, then one, some, all. nohap: their calls are ambiguous and do not score, and depth counts them")
+    for data in cases:
+        rec.nohap(*data, COMMON, rooms("nohap", 3))
+    rec.note("flist, without and with single reads: a muted read has no line, and the ids count the written ones")
+    for single, data in itertools.product((0, 1), cases):
+        rec.flist(*data, single, 120)
+    rec.note("run: a muted read's likelihoods are 0, and it has no part in scores and totals")
+    for data in cases:
+        rec.run(*data, COMMON, [48, 49, 48], [0] * 3, [0, 1, 2, 2, 0, 1], 50, rooms("run", 3, 6))
+
+
+def muted_twins(rec):
+    rec.note("two reads that disagree, one of them muted, and both: nohap and run")
+    for strands in [(0, 1), (2, 1), (0, 3), (2, 3), (3, 2), (1, 2), (3, 0)]:
+        data = encode(alone(["A", "G"], (0, 1), [(a, -90000, -1, strand) for a, strand in zip((1, 0), strands)]))
+        rec.nohap(*data, RATES, rooms("nohap", 1))
+        rec.run(*data, RATES, [48], [0], [0], 10, rooms("run", 1, 2))
+    rec.note("sample (j), 113 reads of A and of G, with a read of G muted, then one of A")
+    both = alone(["A", "G"], (0, 1), [(a, -5796, -1700, 0) for a in (0, 1) for _ in range(113)])
+    for f in (225, 0):
+        rec.run(*encode(with_mute(both, [f])), RATES, [48], [0], [0], 10, rooms("run", 1, 226))
+
+
+def muted_lists(rec):
+    rec.note("muted reads arrive, beside their voting twins: ambiguous counts, likelihoods 0, the total as it was")
+    standing = late_standing()
+    for f, read in [(1, LONG), (4, SHORT), (4, SINGLE), (1, EMPTY)]:
+        rec.entries += [standing.arrive(f, read), standing.arrive(f, muted(read))]
+    rec.note("they come and go; a departed one's strand stays, and a voting read takes its number, and the other way round")
+    left = follow(rec, standing, [
+        arrival(1, muted(LONG)), arrival(4, muted(SHORT)), departure(1), arrival(1, LONG), departure(4), departure(0),
+        arrival(0, muted(SHORT)), arrival(4, muted(EMPTY)), departure(3), departure(4), arrival(3, muted(SINGLE))])
+    after_muted(rec, left)
+    rec.note("all reads are muted; then one of them votes again")
+    words, bases = late_sample()
+    words, at = list(words), Layout.of(words)
+    for f in range(at.f):
+        words[at.fragment(f) + FRAGMENT.strand] += MUTED_FORWARD
+    standing = fresh(words, bases, RATES, LATE_PHASE, standing.haplotypes)
+    left = follow(rec, standing, [departure(0), arrival(0, muted(LONG)), arrival(4, muted(SHORT)), departure(3)])
+    after_muted(rec, left)
+    follow(rec, left, [departure(0), arrival(0, LONG), departure(4), arrival(1, SHORT)])
+
+
+def after_muted(rec, left):
+    rec.note("what is left, through check, nohap, flist and run")
+    n, f = left.words[HEAD.n], left.words[HEAD.f]
+    rec.check(left.words, left.bases)
+    rec.nohap(left.words, left.bases, RATES, rooms("nohap", n))
+    rec.flist(left.words, left.bases, 1, 60)
+    rec.run(left.words, left.bases, RATES, LATE_PHASE, [0] * n, list(range(n)), 50, rooms("run", n, f))
+
+
+def muted_faults(rec):
+    rec.note("a muted arrival is refused as any other: 4, 5, 13, 14; at an absent number of any strand it is not")
+    words, bases = late_sample()
+    at, strand = Layout.of(words), FRAGMENT.strand
+    place = ARRIVING.words + ARRIVING.qual
+    for mute in (MUTED_FORWARD, MUTED_REVERSE):
+        quiet = (LatePart.STRAND, None, mute)
+        for value in (1, LOWEST - 1, LOWEST):
+            refuse(rec, "arrive", quiet, (LatePart.CALLS, place, value))
+        refuse(rec, "arrive", quiet, (LatePart.CALLS, place + 1, 1))
+        refuse(rec, "arrive", quiet, (LatePart.CALLS, ARRIVING.words, 0))
+        refuse(rec, "arrive", quiet, (LatePart.CALLS, None, [0] * 3))
+        refuse(rec, "arrive", quiet, (LatePart.NUMBER, None, 3))
+        refuse(rec, "arrive", quiet, words=late_sample(0)[0])
+        for own in STRANDS:
+            refuse(rec, "arrive", quiet, words=with_word(words, at.fragment(1) + strand, own))
+    rec.note("10, place 0, of what would be written: a muted read's calls count as ambiguous and nowhere else")
+    standing = late_standing()
+    for read in (LONG, muted(LONG)):
+        arrived = standing.arrive(1, read)
+        gone = standing.after(arrived).depart(1)
+        for count in (COUNTED.counts, COUNTED.forward, COUNTED.ambiguous):
+            rec.add("arrive", words, bases, with_parts(arrived.parts, [(LatePart.COUNTS, count, MAX_COUNT)]))
+            rec.add("depart", gone.words, bases, with_parts(gone.parts, [(LatePart.COUNTS, count, 0)]))
+        rec.add("arrive", words, bases, with_parts(arrived.parts, [(LatePart.TOTAL, None, LOWEST_LENT)]))
+    rec.note("a muted read's departure, too, takes off what is lent")
+    for two in ([-100000, -99000], [0, LOWEST_LENT]):
+        lent = [(LatePart.LIKELIHOODS, PAIR + h, x) for h, x in enumerate(two)]
+        rec.add("depart", gone.words, bases, with_parts(gone.parts, lent))
+
+
+def muted_reads(rec, _rng):
+    for part in (muted_strands, muted_answers, muted_twins, muted_lists, muted_faults):
+        part(rec)
+
+
 # The requests that the program has; a later operation joins the list with its library function.
-LATER = [priors, orders, phase, flist, nohap, runs, late]
+LATER = [priors, orders, phase, flist, nohap, runs, late, muted_reads]
 
 
 def recorded():

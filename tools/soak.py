@@ -25,8 +25,8 @@ import time
 import knots
 import model
 from cases import RATES, random_positions, random_qualities, random_variant
-from layout import (ABSENT, ARRIVING, CALL, COUNTED, FRAGMENT, HEAD, LOWEST, MAX_CALLS, MAX_FRAGMENTS, MAX_VARIANTS, PAIR,
-                    VARIANT, Layout, Record)
+from layout import (ABSENT, ARRIVING, CALL, COUNTED, FORWARD, FRAGMENT, HEAD, LOWEST, MAX_CALLS, MAX_FRAGMENTS,
+                    MAX_VARIANTS, MUTED_FORWARD, MUTED_REVERSE, PAIR, REVERSE, STRANDS, VARIANT, Layout, Record)
 
 ROOT = pathlib.Path(__file__).resolve().parent.parent
 HEADER = ROOT / "capi" / "condorbed.h"
@@ -93,9 +93,12 @@ CUTOFF, HALF, USED, FREE, PAST = -2000, -4096, 1024, 300, 8
 # Words that are out of range in one place or another.
 ODD = [0, 1, 2, -1, 5, MAX_VARIANTS, LOWEST - 1, 2**31 - 1, -2**31]
 # What happens: the lines of the table. An arrival with calls is one of the second to fourth, some also of the two after.
-NO_ROOM = "14: fewer records than calls"
+# Of the muted reads those that would have usable calls.
+NO_ROOM, MUTED_CAME, MUTED_WENT = "14: fewer records than calls", "a muted read arrived", "a muted read departed"
+AT_MUTED = "arrived at a muted one's number"
 KINDS = ("arrived without calls", "arrived on free records", "arrived on unused records", "arrived on both",
          "took just the free chain", "took all that was left", "departed", "departed without calls",
+         MUTED_CAME, MUTED_WENT, AT_MUTED,
          "4: a call is out of range", "5: calls do not rise", "5: broken length", "5: no such strand",
          "13: arriving at a present one", "13: arriving at no number", "13: departing from an absent one",
          "13: departing from no number", NO_ROOM)
@@ -112,6 +115,20 @@ def elements(kind, values):
     return (kind * len(values))(*values)
 
 
+def muted(strand):
+    return strand in (MUTED_FORWARD, MUTED_REVERSE)
+
+
+def usable(strand, call):
+    """Whether a call of a read on this strand is usable."""
+    return not muted(strand) and call.qual < CUTOFF
+
+
+def silenced(strand, calls):
+    """Whether a muted read has a call that would be usable if it voted."""
+    return muted(strand) and any(usable(FORWARD, call) for call in calls)
+
+
 class Kept:
     """The case, its values, and where its records are. A step costs as much as its calls, and nothing is read back from
     the library. The operations give the answers that are expected."""
@@ -125,13 +142,13 @@ class Kept:
         self.phased = [v.genotype[0] != v.genotype[1] and [len(a) for a in v.alleles[:2]] == [1, 1] and byte in b"01"
                        for v, byte in zip(self.variants, self.phase)]
         while len(self.free) > FREE:
-            self.arrive(rng.choice(self.absent), rng.randrange(2), random_calls(rng, self, rng.randint(0, 12)))
+            self.arrive(rng.choice(self.absent), random_strand(rng), random_calls(rng, self, rng.randint(0, 12)))
         self.likelihoods[:-PAST], self.counts[:-PAST], self.total = afresh(self.slices())
         self.tally.clear()
 
     def without_reads(self, rng):
         """The slices: a free chain in any order; anything in its records' other words and in unused ones."""
-        fragments = [model.Fragment(rng.randrange(2), [], present=False) for _ in range(AT.f)]
+        fragments = [model.Fragment(random_strand(rng), [], present=False) for _ in range(AT.f)]
         words, bases = model.encode(model.Case(self.variants, fragments, CUTOFF), used=USED, free=list(self.free),
                                     idle={r: rng.choices(ODD, k=CALL.words) for r in range(1, AT.c + 1)})
         haplotypes = [rng.randrange(len(v.alleles)) for v in self.variants for _ in range(PAIR)]
@@ -163,7 +180,7 @@ class Kept:
         falls = [i for i in range(1, len(calls)) if calls[i].variant <= calls[i - 1].variant]
         if falls:
             return 5, falls[0], "calls do not rise"
-        if len(given) % ARRIVING.words or strand not in model.STRANDS:
+        if len(given) % ARRIVING.words or strand not in STRANDS:
             return 5, len(calls), "broken length" if len(given) % ARRIVING.words else "no such strand"
         if f >= AT.f or self.chains[f] is not None:
             return 13, f, "arriving at no number" if f >= AT.f else "arriving at a present one"
@@ -176,9 +193,11 @@ class Kept:
             return self.refused(*fault)
         self.absent.remove(f)
         self.present.append(f)
+        self.tally[AT_MUTED] += muted(self.strand(f))
+        self.tally[MUTED_CAME] += silenced(strand, calls)
         self.link(f, strand, calls, self.taken(len(calls)))
         self.count(strand, calls, 1)
-        self.likelihoods[PAIR * f:PAIR * (f + 1)] = two = self.likelihoods_of(calls)
+        self.likelihoods[PAIR * f:PAIR * (f + 1)] = two = self.likelihoods_of(strand, calls)
         self.total += share(*two)
         return answered(total=self.total)
 
@@ -201,24 +220,29 @@ class Kept:
         words[HEAD.used], words[HEAD.free] = self.used, self.free[0] if self.free else 0
         self.chains[f] = records
 
-    def likelihoods_of(self, calls):
-        own = [c for c in calls if c.qual < CUTOFF and self.phased[c.variant]]
+    def strand(self, f):
+        return self.words[AT.fragment(f) + FRAGMENT.strand]
+
+    def likelihoods_of(self, strand, calls):
+        own = [c for c in calls if usable(strand, c) and self.phased[c.variant]]
         return [sum(c.one_minus_qual if c.allele == self.haplotypes[PAIR * c.variant + h] else c.qual for c in own)
                 for h in range(PAIR)]
 
     def count(self, strand, calls, change):
         for call in calls:
-            own, stranded = COUNTED.words * call.variant, COUNTED.reverse if strand else COUNTED.forward
-            usable = [COUNTED.counts + call.allele, stranded + call.allele]
-            for place in usable if call.qual < CUTOFF else [COUNTED.ambiguous]:
+            own, stranded = COUNTED.words * call.variant, COUNTED.reverse if strand == REVERSE else COUNTED.forward
+            counted = [COUNTED.counts + call.allele, stranded + call.allele]
+            for place in counted if usable(strand, call) else [COUNTED.ambiguous]:
                 self.counts[own + place] += change
 
     def depart(self, f):
         if f >= AT.f or self.chains[f] is None:
             return self.refused(13, f, "departing from no number" if f >= AT.f else "departing from an absent one")
         words, records = self.words, self.chains[f]
+        strand, calls = self.strand(f), [CALL.read(words, AT.call(r)) for r in records]
         self.tally["departed" if records else "departed without calls"] += 1
-        self.count(words[AT.fragment(f) + FRAGMENT.strand], [CALL.read(words, AT.call(r)) for r in records], -1)
+        self.tally[MUTED_WENT] += silenced(strand, calls)
+        self.count(strand, calls, -1)
         self.total -= share(*self.likelihoods[PAIR * f:PAIR * (f + 1)])
         self.likelihoods[PAIR * f:PAIR * (f + 1)] = [0] * PAIR
         words[AT.fragment(f) + FRAGMENT.first], self.chains[f] = ABSENT, None
@@ -289,8 +313,14 @@ def walk(words):
 
 # A turn's reads have at most so many calls. Turns of long reads are short.
 MOST = [8] + [60] * 2 + [600] * 4
-# The share of arrivals in growth and of departures in decline; of operations with a fault; of reads that just fit.
-MORE, FAULTY, EXACT = 0.85, 0.08, 0.1
+# The share of arrivals in growth and of departures in decline; of operations with a fault; of reads that just fit; of muted
+# reads.
+MORE, FAULTY, EXACT, MUTED = 0.85, 0.08, 0.1, 0.25
+
+
+def random_strand(rng):
+    """Any of the strands; some reads are muted."""
+    return rng.choice([MUTED_FORWARD, MUTED_REVERSE] if rng.random() < MUTED else [FORWARD, REVERSE])
 
 
 def random_calls(rng, kept, size):
@@ -308,7 +338,7 @@ def with_fault(rng, kept, f, strand, calls):
         (f, strand, calls[:some] + [rng.choice(ODD)] + calls[some + 1:]),
         (f, strand, calls[:some - some % ARRIVING.words] + calls),
         (f, strand, calls[:some]),
-        (f, rng.choice([-1, len(model.STRANDS), 2**31 - 1]), calls),
+        (f, rng.choice([-1, len(STRANDS), 2**31 - 1]), calls),
         (rng.choice([AT.f, 2**32 - 1] + kept.present[-2:]), strand, calls)])
 
 
@@ -319,7 +349,7 @@ def random_operation(rng, kept, arrivals, most):
         wrong = kept.absent[:1] + kept.absent[-1:] + [AT.f, 2**32 - 1]
         return "depart", (rng.choice(wrong if faulty else kept.present or wrong),)
     calls = random_calls(rng, kept, exact if exact <= AT.n and rng.random() < EXACT else rng.randint(0, most))
-    arrival = rng.choice(kept.absent or kept.present), rng.randrange(2), calls
+    arrival = rng.choice(kept.absent or kept.present), random_strand(rng), calls
     for _ in range(rng.randint(1, 2) if faulty else 0):
         arrival = with_fault(rng, kept, *arrival)
     return "arrive", arrival

@@ -1,10 +1,11 @@
 #!/usr/bin/env python3
-"""Tests that oracle/compare notices a wrong value of calling without haplotypes: python3 tools/test_compare.py [--model]
+"""Tests that oracle/compare notices wrong values: python3 tools/test_compare.py [--model]
 
-Run after oracle/build. The program's answers, with --model those of tools/model.py, are given one deliberate fault at a time:
-in the first variant of each request a word of its answer, its qual or its gq is one more. The comparison must count just the
-answers that the fault changed. Then the model has the fault too: now only longshot's values can show it, so all are counted but
-those of gq, which longshot defines in another way. Last, longshot's gq is given in the place of the program's.
+Run after oracle/build. The program's answers, with --model those of tools/model.py, are given one deliberate fault at a time.
+Of calling without haplotypes: in the first variant of each request a word of its answer, its qual or its gq is one more. Of
+muted reads, in several operations: they vote; or their calls count nowhere. The comparison must count just the answers that
+the fault changed. Then the model has the fault too: now only longshot's values can show it, so all are counted but those of
+gq, which longshot defines in another way. Last, longshot's gq is given in the place of the program's.
 """
 import argparse
 import importlib.machinery
@@ -13,6 +14,7 @@ import pathlib
 import random
 
 from layout import CALLED
+from model import Case, Fragment, check, encode
 from protocol import LEFT_OUT, Request, ask
 
 SEED, COUNT = 4, 300
@@ -40,8 +42,29 @@ def raised(answer, line, place):
     return "\n".join(" ".join(words) for words in lines)
 
 
-def noticed(right, wrong):
-    """Of COUNT requests, how many wrong answers are not the right ones, and how many the comparison counts."""
+def voting(fragment):
+    """The fragment with a vote."""
+    return Fragment(fragment.strand % 2, fragment.calls, fragment.present)
+
+
+def dropped(fragment):
+    """The fragment without its calls, if it is muted."""
+    return Fragment(fragment.strand, fragment.calls if fragment.votes() else [], fragment.present)
+
+
+MUTED_FAULTS = [("muted reads vote", voting, ["nohap", "run", "flist"]), ("muted calls count nowhere", dropped, ["nohap"])]
+
+
+def with_fragments(request, change):
+    """The request on its case with each fragment changed."""
+    case = check(request.words, request.bases)
+    data = encode(Case(case.variants, [change(x) for x in case.fragments], case.cutoff))
+    return Request(request.word, *data, request.parts, request.rooms)
+
+
+def noticed(right, wrong, words=("nohap",)):
+    """Of COUNT cases, how many answers of these operations there are, how many wrong ones are not the right ones, and how
+    many the comparison counts."""
     changed = 0
 
     def tested(requests):
@@ -51,21 +74,27 @@ def noticed(right, wrong):
         return answers
 
     comparison = compare.Comparison(tested)
-    compare.accepted(comparison, random.Random(SEED), ["nohap"], COUNT, False)
-    return changed, comparison.different
+    compare.accepted(comparison, random.Random(SEED), words, COUNT, False)
+    return sum(comparison.compared.values()), changed, comparison.different
 
 
-def with_fault(right, line, place):
-    return lambda requests: [raised(answer, line, place) for answer in right(requests)]
-
-
-def in_both(right, line, place):
-    """The same, where the model has the fault too."""
-    Request.answer = lambda request: raised(BY_MODEL(request), line, place)
+def in_both(right, wrong, words=("nohap",)):
+    """The same, where the model has the fault too; `wrong` makes wrong answers of right ones."""
+    Request.answer = lambda request: wrong(by_model)([request])[0]
     try:
-        return noticed(right, with_fault(right, line, place))
+        return noticed(right, wrong(right), words)
     finally:
         Request.answer = BY_MODEL
+
+
+def raising(line, place):
+    """The fault that raises one element of an answer."""
+    return lambda right: lambda requests: [raised(answer, line, place) for answer in right(requests)]
+
+
+def muting(change):
+    """The fault that takes each fragment for a changed one."""
+    return lambda right: lambda requests: right([with_fragments(request, change) for request in requests])
 
 
 def with_longshots(right):
@@ -77,17 +106,30 @@ def with_longshots(right):
     return wrong
 
 
+class Result:
+    """A test: its name, how many answers there were, changed and differ, and how many should differ."""
+
+    def __init__(self, name, counts, wanted=None):
+        self.name, (self.all, self.changed, self.different) = name, counts
+        self.wanted = self.changed if wanted is None else wanted
+
+    def good(self):
+        return self.different == self.wanted and (self.changed > 0) == (self.name != "no fault")
+
+    def text(self):
+        return "%s: %d of %d answers changed, %d differ%s" % (
+            self.name, self.changed, self.all, self.different, "" if self.good() else ": FAILED")
+
+
 def results(right):
-    """Each test's name, how many answers changed, how many differ and how many should."""
-    changed, different = noticed(right, right)
-    yield "no fault", changed, different, 0
+    yield Result("no fault", noticed(right, right))
     for name, line, place in FAULTS:
-        changed, different = noticed(right, with_fault(right, line, place))
-        yield name, changed, different, changed
-        changed, different = in_both(right, line, place)
-        yield name + ", in the model too", changed, different, 0 if line == GQS else changed
-    changed, different = noticed(right, with_longshots(right))
-    yield "longshot's gq", changed, different, changed
+        yield Result(name, noticed(right, raising(line, place)(right)))
+        yield Result(name + ", in the model too", in_both(right, raising(line, place)), 0 if line == GQS else None)
+    for name, change, words in MUTED_FAULTS:
+        yield Result(name, noticed(right, muting(change)(right), words))
+        yield Result(name + ", in the model too", in_both(right, muting(change), words))
+    yield Result("longshot's gq", noticed(right, with_longshots(right)))
 
 
 def main():
@@ -97,10 +139,9 @@ def main():
     compare.need_built([compare.ORACLE] if given.model else [compare.ORACLE, compare.PROGRAM])
     right = by_model if given.model else compare.by_program
     passed, failed = 0, 0
-    for name, changed, different, wanted in results(right):
-        good = different == wanted and (changed > 0) == (name != "no fault")
-        passed, failed = passed + good, failed + (not good)
-        print("%s: %d of %d answers changed, %d differ%s" % (name, changed, COUNT, different, "" if good else ": FAILED"))
+    for result in results(right):
+        passed, failed = passed + result.good(), failed + (not result.good())
+        print(result.text())
     print("%d passed, %d failed" % (passed, failed))
     raise SystemExit(failed > 0)
 

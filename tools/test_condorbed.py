@@ -94,8 +94,9 @@ def request(word, words=None, bases=None, rates=RATES, phase=(48, 49), sets=(0, 
     own = list(CASE[0])
     for place, value in (words or {}).items():
         own[place] = value
-    parts = {"check": [], "priors": [rates], "phase": [phase, sets], "run": [rates, phase, sets, orders, limit],
-             "flist": [0], "filter": [quals, density_qual, 30, 1, 80], "orders": [0]}[word]
+    parts = {"check": [], "priors": [rates], "nohap": [rates], "phase": [phase, sets],
+             "run": [rates, phase, sets, orders, limit], "flist": [0], "filter": [quals, density_qual, 30, 1, 80],
+             "orders": [0]}[word]
     return Request(word, own, bases or CASE[1], parts, rooms if rooms is not None else needs(word, 2, 1))
 
 
@@ -138,8 +139,9 @@ REFUSALS = [
         "both qualities in -262144..0", "Its words are 2 0 -13607 -623 0"]),
     (late("arrive", CALLS=[0, 2, -27213, -59]), "refused 4 0", [
         "arriving call 0 is out of range", "its variant must be below 1", "Its words are 0 2 -27213 -59"]),
-    (request("check", {AT.fragment(0) + FRAGMENT.strand: 2}), "refused 5 0", [
-        "fragment 0 is wrong", "strand 0 or 1", "Its words are 1 2"]),
+    (request("check", {AT.fragment(0) + FRAGMENT.strand: 4}), "refused 5 0", [
+        "fragment 0 is wrong", "its strand 0 (forward)", "or 3 (muted reverse)", "Its words are 1 4"]),
+    (request("check", {AT.fragment(0) + FRAGMENT.strand: -1}), "refused 5 0", ["fragment 0 is wrong", "Its words are 1 -1"]),
     (request("check", {AT.fragment(0) + FRAGMENT.first: -2}), "refused 5 0", ["-1, if it is absent, or in 0..2"]),
     (request("check", {AT.call(2) + CALL.next: 1}), "refused 5 0", ["each next must be in 0..2, and the variants must rise"]),
     (request("check", {HEAD.free: 2}), "refused 5 1", [
@@ -147,7 +149,9 @@ REFUSALS = [
     (request("check", {AT.fragment(0) + FRAGMENT.first: -1}), "refused 5 1", [
         "starts at record 0 (0: there is none)", "each of the records 1..2 must be in a fragment's chain or in this one"]),
     (late("arrive", CALLS=[0, 1, -27213, -59] * 2), "refused 5 1", ["arriving call 1 does not rise"]),
-    (late("arrive", STRAND=2), "refused 5 1", ["the arrival has 4 words and the strand 2", "the strand 0 or 1"]),
+    (late("arrive", STRAND=4), "refused 5 1", [
+        "the arrival has 4 words and the strand 4", "and the strand 0 (forward), 1 (reverse), 2 (muted forward)"]),
+    (late("arrive", STRAND=2, CALLS=[0, 1, 1, -59]), "refused 4 0", ["arriving call 0 is out of range"]),
     (late("arrive", CALLS=[0, 1, -27213]), "refused 5 0", ["the arrival has 3 words", "4 words for each call"]),
     (request("priors", rates=RATES[:5] + [0]), "refused 6 5", ["rate 5, tv, is 0", "-262144..-1"]),
     (request("priors", rates=[-1] * 6), "refused 6 6", ["the first four rates are too high", "less than 1"]),
@@ -202,6 +206,23 @@ def test_late():
     told = command("--explain", "-", text=following("arrive", back).text().encode())[0]
     expect_in("an arrival in a free record", told, "1 variant, 2 fragments (1 absent), 0 calls",
               "Fragment 1 arrived with 1 call, first record 1. Call records used: 1 of 1, 0 of them free.")
+
+
+def test_muted():
+    """A muted read on file, and one that arrives and departs."""
+    told = command("--explain", "-", text=request("nohap", {AT.fragment(0) + FRAGMENT.strand: 3}).text().encode())[0]
+    expect_in("a muted read", told, "2 variants, 1 fragment (1 muted), 2 calls", "All calls of a muted read are ambiguous.")
+    counts = [line.split()[5:9] for line in told.splitlines()[-2:]]
+    expect("the counts with a muted read", counts, [["0,0", "0,0", "0,0", "1"]] * 2)
+    told = command("--explain", "-", text=late("arrive", STRAND=3).text().encode())[0]
+    expect_in("a muted arrival", told, "1 variant, 2 fragments (1 absent), 0 calls",
+              "Fragment 1 arrived, muted, with 1 call, first record 1.",
+              "Its likelihoods are 0 and 0. Phased total: -49012 steps.", "All calls of a muted read are ambiguous.")
+    expect("the counts of a muted arrival", told.splitlines()[-1].split(), ["0", "100", "A/G", "0,0", "0,0", "0,0", "1"])
+    told = command("--explain", "-", text=following("depart", late("arrive", STRAND=3)).text().encode())[0]
+    expect_in("a muted departure", told, "1 variant, 2 fragments (1 muted), 1 call", "Fragment 1 left",
+              "Phased total: -49012 steps.")
+    expect("the counts of a muted departure", told.splitlines()[-1].split(), ["0", "100", "A/G", "0,0", "0,0", "0,0", "0"])
 
 
 def following(word, asked):
@@ -326,7 +347,7 @@ def test_stale(root, wanted):
     expect("answers after a good check", build(root)[::2], (wanted, 0))
 
 
-TESTS = [test_samples, test_run_as_phase, test_refusals, test_unsettled, test_late, test_unreadable, test_help,
+TESTS = [test_samples, test_run_as_phase, test_refusals, test_unsettled, test_late, test_muted, test_unreadable, test_help,
          test_faults, test_build]
 
 

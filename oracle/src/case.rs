@@ -1,5 +1,6 @@
-//! A case of document 01, section 2, as amended by requests 1 and 3, as the source's variants and fragments. The case is
-//! an accepted one. An absent fragment is read as one without calls; free and unused records are not read.
+//! A case of document 01, section 2, as amended by requests 1, 3 and 5, as the source's variants and fragments. The case is
+//! an accepted one. An absent fragment is read as one without calls; free and unused records are not read. The source does
+//! not know muted fragments: the calls of one get the quality 0, both qualities alike, which is below no cutoff.
 //!
 //! Here, in `layout`, stand all strides, offsets and limits that the oracle and the benchmark know.
 
@@ -142,8 +143,18 @@ pub mod layout {
             self.0[0].max(0) as usize
         }
 
+        /// 0 forward, 1 reverse; 2 and 3 the same, muted.
         pub fn strand(&self) -> i32 {
             self.0[1]
+        }
+
+        pub fn reverse(&self) -> bool {
+            self.strand() % 2 == 1
+        }
+
+        /// Whether it is on file without a vote.
+        pub fn muted(&self) -> bool {
+            self.strand() >= 2
         }
     }
 
@@ -289,9 +300,13 @@ fn variant_of(pos0: usize, dp: usize, genotype: Genotype, alleles: Vec<String>) 
     }
 }
 
+/// The calls of a muted fragment have both qualities 0.
 fn fragment(words: &Words, f: usize) -> Fragment {
+    let own = words.fragment(f);
+    assert!(0 <= own.strand() && own.strand() < 4, "a strand");
+    let steps = |quality: i32| LogProb(if own.muted() { 0.0 } else { f64::from(quality) });
     let mut calls = vec![];
-    let mut next = words.fragment(f).first();
+    let mut next = own.first();
     while next != 0 {
         let call = words.call(next);
         assert!(ranged(call.qual()) && ranged(call.one_minus_qual()), "a quality");
@@ -299,12 +314,12 @@ fn fragment(words: &Words, f: usize) -> Fragment {
             frag_ix: f,
             var_ix: call.variant(),
             allele: call.allele(),
-            qual: LogProb(f64::from(call.qual())),
-            one_minus_qual: LogProb(f64::from(call.one_minus_qual())),
+            qual: steps(call.qual()),
+            one_minus_qual: steps(call.one_minus_qual()),
         });
         next = call.next();
     }
-    fragment_of(calls, words.fragment(f).strand() == 1)
+    fragment_of(calls, own.reverse())
 }
 
 pub fn fragment_of(calls: Vec<FragCall>, reverse_strand: bool) -> Fragment {

@@ -12,27 +12,18 @@ use lib.Dec.{eqb}
 use lib.IntN.{ℤ, pos}
 use lib.ListN.{length, getD, length-map}
 use Rattle.steps.proofs.Signed.{by-test}
-use Rattle.variants_and_fragments.specs.Case.{Case, Fragment, Call, usable, fragmentOf, noFragment}
+use Rattle.variants_and_fragments.specs.Case.{Case, Fragment, Call, direction, usable, fragmentOf, noFragment}
 use Rattle.variants_and_fragments.specs.Pileup.{Row, rowOf, only, usableCalls, rowsFrom, rowsOf, atVariant, pileOf, ambiguousIn, ambiguousFrom, ambiguousCount}
 use Rattle.variants_and_fragments.specs.Sums.{countOver}
-use Rattle.variants_and_fragments.proofs.Only.{only-in, only-out, only-none, only-map}
+use Rattle.variants_and_fragments.proofs.Only.{only-in, only-out, only-none, only-map, only-cong}
+use Rattle.variants_and_fragments.proofs.Sums.{countOver-cong}
 use Rattle.genotype_probs.specs.declared.Rates.{Rates}
-use Rattle.no_haplotypes.specs.NoHaplotypes.{rowStrand, alleleCalls, strandCalls, answerFrom, variantAnswer, answerAt}
+use Rattle.no_haplotypes.specs.NoHaplotypes.{rowDirection, alleleCalls, strandCalls, answerFrom, variantAnswer, answerAt}
 use Rattle.no_haplotypes.proofs.CountLaws.{only-count}
 use Rattle.late_reads.specs.Values.{counted, readCount}
 use Rattle.afresh.specs.Fresh.{countWordAt}
 
--- ---- lists
-pub only-cong : {X : Type 0} (p q : X → Bool) (xs : List X) → ((x : X) → p x ≡ q x) → only p xs ≡ only q xs
-unfolding only
-only-cong p q [] e = refl
-only-cong p q (x ∷ xs) e = rw (e x, only-cong p q xs e)
-
-pub count-cong : {X : Type 0} (xs : List X) (m n : X → ℕ) → ((x : X) → m x ≡ n x) → countOver xs m ≡ countOver xs n
-unfolding countOver
-count-cong [] m n e = refl
-count-cong (x ∷ xs) m n e = rw (e x, count-cong xs m n e)
-
+-- ---- tests
 and-swap : (a b c : Bool) → (a && (b && c)) ≡ (b && (a && c))
 and-swap true b c = refl
 and-swap false true c = refl
@@ -98,7 +89,7 @@ module _ (case : Case) (v : ℕ) where
       ap length (only-twice p (atVariant v) (rowsOf case))
       ∙ from-rows cutoff (λ row. atVariant v row && p row) (λ x call. eqb (call .variant) v && q x call) 0 fragments
       (λ i h call. let z : 0 + i ≡ i = omega arith in rw z (ap (λ t. eqb (call .variant) v && t) (e i h call)))
-      ∙ count-cong fragments _ _ (λ x. ap length (only-cong _ _ (x .calls) (λ call. and-swap (usable cutoff x call) (eqb (call .variant) v) (q x call))))
+      ∙ countOver-cong fragments _ _ (λ x. ap length (only-cong _ _ (x .calls) (λ call. and-swap (usable cutoff x call) (eqb (call .variant) v) (q x call))))
 
   -- what a fragment adds at place j of v's ten
   abbrev adds : ℕ → Fragment → ℕ
@@ -107,7 +98,7 @@ module _ (case : Case) (v : ℕ) where
   -- calls that are counted at j by a test t
   counted-by : (j : ℕ) (t : Fragment → Call → Bool) → ((x : Fragment) (call : Call) → counted cutoff x j call ≡ t x call)
       → countOver fragments (λ x. length (only (λ call. eqb (call .variant) v && t x call) (x .calls))) ≡ countOver fragments (adds j)
-  counted-by j t e = count-cong fragments _ _ (λ x. ap length (only-cong _ _ (x .calls) (λ call. ap (λ b. eqb (call .variant) v && b) (sym (e x call)))))
+  counted-by j t e = countOver-cong fragments _ _ (λ x. ap length (only-cong _ _ (x .calls) (λ call. ap (λ b. eqb (call .variant) v && b) (sym (e x call)))))
 
   alleles-are : (a : ℕ) → a < 3 → alleleCalls case v a ≡ countOver fragments (adds a)
   unfolding alleleCalls counted
@@ -122,11 +113,11 @@ module _ (case : Case) (v : ℕ) where
       let j = 3 + (3 * s + a) in
       let m : j % 3 ≡ a = omega arith in
       let d : j / 3 ≡ 1 + s = omega arith in
-      pile-count (λ (row : Row). eqb (rowStrand case row) s && eqb (row .call .allele) a) (λ x call. eqb (x .strand) s && eqb (call .allele) a) (λ f l call. refl)
-      ∙ counted-by j (λ x call. usable cutoff x call && (eqb (x .strand) s && eqb (call .allele) a))
+      pile-count (λ (row : Row). eqb (rowDirection case row) s && eqb (row .call .allele) a) (λ x call. eqb (direction (x .strand)) s && eqb (call .allele) a) (λ f l call. refl)
+      ∙ counted-by j (λ x call. usable cutoff x call && (eqb (direction (x .strand)) s && eqb (call .allele) a))
       (λ x call.
-      rw (ne-eqb j 9 (omega arith), m, d, le-ltb j 3 (omega arith), strand-test s (x .strand))
-      (ap (λ t. usable cutoff x call && t) (and-comm (eqb (call .allele) a) (eqb (x .strand) s))))
+      rw (ne-eqb j 9 (omega arith), m, d, le-ltb j 3 (omega arith), strand-test s (direction (x .strand)))
+      (ap (λ t. usable cutoff x call && t) (and-comm (eqb (call .allele) a) (eqb (direction (x .strand)) s))))
 
   ambiguous-are : ambiguousCount case v ≡ countOver fragments (adds 9)
   unfolding ambiguousCount ambiguousIn counted

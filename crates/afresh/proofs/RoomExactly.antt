@@ -14,7 +14,7 @@ use lib.ListN.{length}
 use Rattle.variants_and_fragments.specs.declared.Sizes.{Sizes}
 use Rattle.variants_and_fragments.specs.Case.{fragmentOf}
 use Rattle.variants_and_fragments.specs.Check.{checkCaseAndHaplotypesOutcome}
-use Rattle.variants_and_fragments.specs.Layout.{sizesOf}
+use Rattle.variants_and_fragments.specs.Layout.{maxStrand, sizesOf}
 use Rattle.variants_and_fragments.specs.Refusals.{Outcome, refused, done, andThen}
 use Rattle.variants_and_fragments.specs.Words.{within}
 use Rattle.variants_and_fragments.proofs.Bools.{both, not-on, true-false}
@@ -76,7 +76,7 @@ module _ (input : LateInput) (f : ℕ) (strand : ℤ) (calls : List ℤ) where
         other-refused _ 5 _ _ (λ e. omega arith) (λ shaped.
         other-refused _ 13 _ _ (λ e. omega arith) (λ there.
         unless-refused _ 14 _ _ (λ off _ at.
-        let a = both (eqb (length calls) (arrivingWords * m)) (within (pos 0) (pos 1) strand) shaped in
+        let a = both (eqb (length calls) (arrivingWords * m)) (within (pos 0) (pos maxStrand) strand) shaped in
         let b = both (ltb f (s .f)) (not (fragmentOf (caseOf input) f .present)) there in (
           sym at,
           few-of off,
@@ -109,7 +109,7 @@ module _ (input : LateInput) (f : ℕ) (strand : ℤ) (calls : List ℤ) where
   unfolding arriveOutcome arrivingOutcome
   short before few =
       let off : leb m (length (room (input .words) s)) ≡ false = lt-leb m (length (room (input .words) s)) (omega (arith, room-length (input .words) s)) in
-      let shaped : (eqb (length calls) (arrivingWords * m) && within (pos 0) (pos 1) strand) ≡ true = rw (eq-eqb _ _ (before .whole), before .strand-in) in
+      let shaped : (eqb (length calls) (arrivingWords * m) && within (pos 0) (pos maxStrand) strand) ≡ true = rw (eq-eqb _ _ (before .whole), before .strand-in) in
       let there : (ltb f (s .f) && not (fragmentOf (caseOf input) f .present)) ≡ true = rw (lt-ltb _ _ (before .below), before .absent) in
       let stops : arrivingOutcome input f strand calls s ≡ refused 14 m = sym (
       unless-at _ 14 m _ off

@@ -9,7 +9,7 @@ use lib.IntN.{ℤ, pos}
 use lib.ListN.{length}
 use Rattle.variants_and_fragments.specs.Case.{fragmentOf}
 use Rattle.variants_and_fragments.specs.Chain.{freeChain}
-use Rattle.variants_and_fragments.specs.Layout.{sizesOf}
+use Rattle.variants_and_fragments.specs.Layout.{maxStrand, sizesOf}
 use Rattle.variants_and_fragments.specs.Refusals.{done, refused}
 use Rattle.variants_and_fragments.specs.Words.{within}
 use Rattle.late_reads.specs.Arriving.{arrivingWords, wholeCalls, arrivingOk, arrivingRises}
@@ -25,7 +25,7 @@ pub record BeforeRoom (input : LateInput) (f : ℕ) (strand : ℤ) (calls : List
   pub each-in : (i : ℕ) → i < wholeCalls calls → arrivingOk (input .words) (sizesOf (input .words)) calls i ≡ true
   pub each-rises : (i : ℕ) → i < wholeCalls calls → arrivingRises calls i ≡ true
   pub whole : length calls ≡ arrivingWords * wholeCalls calls
-  pub strand-in : within (pos 0) (pos 1) strand ≡ true
+  pub strand-in : within (pos 0) (pos maxStrand) strand ≡ true
   pub below : f < sizesOf (input .words) .f
   pub absent : fragmentOf (caseOf input) f .present ≡ false
 

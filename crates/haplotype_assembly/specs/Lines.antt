@@ -8,7 +8,7 @@ use lib.Dec.{leb, ltb, eqb}
 use lib.ListN.{length}
 use Rattle.steps.specs.Logs.{steps}
 use Rattle.steps.specs.Phred.{phredOf, qualityByte}
-use Rattle.variants_and_fragments.specs.Case.{Case, Fragment, Call, usable, variantOf}
+use Rattle.variants_and_fragments.specs.Case.{Case, Fragment, Call, direction, usable, variantOf}
 use Rattle.variants_and_fragments.specs.Pileup.{only}
 use Rattle.haplotype_assembly.specs.Phase.{phasedRule}
 
@@ -27,7 +27,7 @@ minus = 45
 
 -- reverse strand '+' (odd)
 unfoldable pub strandByte : ℕ → ℕ
-strandByte strand = cond (eqb strand 0) minus plus
+strandByte strand = cond (eqb (direction strand) 0) minus plus
 
 -- the byte of a digit
 abbrev pub digit : ℕ → ℕ
@@ -41,7 +41,7 @@ decimalFrom (suc turns) n = cond (ltb n 10) [] (decimalFrom turns (n / 10)) ++ (
 unfoldable pub decimal : ℕ → List ℕ
 decimal n = decimalFrom (suc n) n
 
--- the calls that a line shows: usable ones at variants under the phased rule without the byte
+-- the calls that a line shows: usable ones at variants under the phased rule without the byte; a muted fragment has none (request 5)
 unfoldable pub lineCalls : Case → Fragment → List Call
 lineCalls case fragment =
     only (λ call. phasedRule (variantOf case (call .variant)) && usable (case .cutoff) fragment call) (fragment .calls)

@@ -128,11 +128,11 @@ pub struct Head {
     pub strand: usize,
 }
 
-// The byte of a strand: '+' where it is reverse.
+// The byte of a strand: '+' where it is reverse, so odd.
 pub fn strand_byte(strand: usize) -> u8
     ensures { λ b. ⌜ b ≡ strandByte strand ⌝ }
 {
-    if strand == 0 {
+    if strand % 2 == 0 {
         return b'-';
     }
     b'+'

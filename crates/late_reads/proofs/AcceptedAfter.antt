@@ -12,7 +12,7 @@ use lib.IntN.{ℤ, pos, negsuc}
 use Rattle.variants_and_fragments.specs.declared.Sizes.{Sizes}
 use Rattle.variants_and_fragments.specs.Refusals.{done}
 use Rattle.variants_and_fragments.specs.Words.{within, natOf}
-use Rattle.variants_and_fragments.specs.Layout.{cutoffAt, cutoffField, lowestQuality, pos0Field, depthField, genotypeField, alleleCountField, lengthField, firstField, strandField, variantWord, fragmentWord, lengthAt, variantOk, callOk}
+use Rattle.variants_and_fragments.specs.Layout.{maxStrand, cutoffAt, cutoffField, lowestQuality, pos0Field, depthField, genotypeField, alleleCountField, lengthField, firstField, strandField, variantWord, fragmentWord, lengthAt, variantOk, callOk}
 use Rattle.variants_and_fragments.specs.Chain.{strandAt, memb, reached, isReached, inChain, reachedCallOk, fragmentOk, freeOk}
 use Rattle.variants_and_fragments.specs.Alleles.{allelesStart, allelesOk}
 use Rattle.variants_and_fragments.specs.First.{firstFail}
@@ -34,7 +34,7 @@ wider u v (negsuc n) l h = h
 
 -- ---- the variants and their bytes
 module _ {w w' : List ℤ} {s : Sizes} {u v f : ℕ} (k : CaseIn w s) (keeps : Keeps w w' s u v f) where
-  variant-ok-same : (h : List ℕ) (x : ℕ) → x < s .n → variantOk w' h x ≡ variantOk w h x
+  pub variant-ok-same : (h : List ℕ) (x : ℕ) → x < s .n → variantOk w' h x ≡ variantOk w h x
   unfolding variantOk
   variant-ok-same h x l =
       let at : (field : ℕ) → field < 8 → variantWord w' x field ≡ variantWord w x field = λ field. variant-word k keeps x field l in
@@ -72,9 +72,9 @@ module _ {w w' : List ℤ} {s : Sizes} {u v f : ℕ} {own rest : List ℕ} (k : 
       go false e = refl
 
   -- ---- 5
-  strand-after : (g : ℕ) → g < s .f → strandAt w' after g ≤ 1
+  strand-after : (g : ℕ) → g < s .f → strandAt w' after g ≤ maxStrand
   strand-after g l = elim (ℕ-discrete g f) [
-    | yes e ↦ rw e (within-top 0 1 _ (changed .strand-in))
+    | yes e ↦ rw e (within-top 0 maxStrand _ (changed .strand-in))
     | no e ↦ omega (arith, k .frags g l .strand-in, ap natOf (changed .keeps .others g strandField l e (omega arith)))
   ]
 

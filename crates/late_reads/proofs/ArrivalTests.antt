@@ -13,6 +13,7 @@ use lib.ListN.{length}
 use Rattle.variants_and_fragments.specs.declared.Sizes.{Sizes}
 use Rattle.variants_and_fragments.specs.Case.{Fragment, fragmentOf}
 use Rattle.variants_and_fragments.specs.Chain.{presentAt}
+use Rattle.variants_and_fragments.specs.Layout.{maxStrand}
 use Rattle.variants_and_fragments.specs.Decode.{decode, fragmentFrom}
 use Rattle.variants_and_fragments.specs.Refusals.{done}
 use Rattle.variants_and_fragments.specs.Words.{natOf, within}
@@ -27,14 +28,14 @@ use Rattle.late_reads.specs.LateReads.{LateInput, arrivingOutcome}
 use Rattle.late_reads.specs.Inner.Ready.{Arriving, arrivingTests}
 
 -- ---- the length and the strand, as the code tests them
-top-one : (x : ℕ) → leb x 1 ≡ not (ltb 1 x)
-top-one x = elim (decLe x 1) [
-  | yes h ↦ rw (le-leb x 1 h, le-ltb 1 x h)
-  | no h ↦ let l : 1 < x = omega arith in rw (lt-leb x 1 l, lt-ltb 1 x l)
+not-over : (m x : ℕ) → leb x m ≡ not (ltb m x)
+not-over m x = elim (decLe x m) [
+  | yes h ↦ rw (le-leb x m h, le-ltb m x h)
+  | no h ↦ let l : m < x = omega arith in rw (lt-leb x m l, lt-ltb m x l)
 ]
 
-pub length-and-strand : (l k : ℕ) (z : ℤ) → (eqb l k && within (pos 0) (pos 1) z) ≡ not (not (eqb l k) || ltb 1 (natOf z))
-length-and-strand l k z = rw (upto-nat 1 z (lit< tt), top-one (natOf z)) (go (eqb l k) (ltb 1 (natOf z)))
+pub length-and-strand : (l k : ℕ) (z : ℤ) → (eqb l k && within (pos 0) (pos maxStrand) z) ≡ not (not (eqb l k) || ltb maxStrand (natOf z))
+length-and-strand l k z = rw (upto-nat maxStrand z (lit< tt), not-over maxStrand (natOf z)) (go (eqb l k) (ltb maxStrand (natOf z)))
   where
     go : (a b : Bool) → (a && not b) ≡ not (not a || b)
     go true b = refl
@@ -49,7 +50,7 @@ tests-past w s t f strand calls ok =
     let h3 = unless-past _ 5 _ _ t (h2 .1) in
     let h4 = unless-past _ 13 _ _ t (h3 .1) in
     let h5 = unless-past _ 14 _ _ t (h4 .1) in
-    let a = both (eqb (length calls) (arrivingWords * wholeCalls calls)) (within (pos 0) (pos 1) strand) (h3 .0) in
+    let a = both (eqb (length calls) (arrivingWords * wholeCalls calls)) (within (pos 0) (pos maxStrand) strand) (h3 .0) in
     let b = both (ltb f (s .f)) (not (presentAt w s f)) (h4 .0) in
     let e : s ≡ t = cc in (
       e,

@@ -35,9 +35,9 @@ record FirstIn (n b : ℕ) (call : Call) (calls : List Call) : Type 0 where
 first-in : {n b : ℕ} {call : Call} {calls : List Call} → Rising n b (call ∷ calls) → FirstIn n b call calls
 first-in (more lo hi three r) = record { above = lo; variant-in = hi; allele-in = three; rest = r }
 
-module _ {n : ℕ} {call : Call} {calls : List Call} {counts : List ℤ} (i : CallsLeft n (call ∷ calls) counts) (cutoff : ℤ) (x : Fragment) (two : x .strand ≤ 1) where
+module _ {n : ℕ} {call : Call} {calls : List Call} {counts : List ℤ} (i : CallsLeft n (call ∷ calls) counts) (cutoff : ℤ) (x : Fragment) where
   -- the next one may be counted
-  left-countable : {d : ℤ} → natAbs d ≤ 1 → n ≤ 1024 → Countable counts (x .strand) d (countedCall cutoff x call)
+  left-countable : {d : ℤ} → natAbs d ≤ 1 → n ≤ 1024 → Countable counts d (countedCall cutoff x call)
   left-countable one top =
       let f = first-in (i .rises) in
       let a = f .above in
@@ -46,7 +46,6 @@ module _ {n : ℕ} {call : Call} {calls : List Call} {counts : List ℤ} (i : Ca
       record {
         variant-in = omega arith;
         allele-in = f .allele-in;
-        strand-in = two;
         each-in = λ j h. record { there = omega arith; ranged = i .in-range (10 * call .variant + j) (omega arith) (omega arith); one = one };
       }
 
@@ -68,7 +67,7 @@ module _ {n : ℕ} {call : Call} {calls : List Call} {counts : List ℤ} (i : Ca
         low = suc (call .variant);
         rises = f .rest;
         long = omega arith;
-        in-range = λ e l m. rw (count-at cutoff x call (f .allele-in) two d counts (omega arith) e, ne-eqb (call .variant) (e / 10) (λ q. omega arith), +ℤ-idr) (i .in-range e (omega arith) m);
+        in-range = λ e l m. rw (count-at cutoff x call (f .allele-in) d counts (omega arith) e, ne-eqb (call .variant) (e / 10) (λ q. omega arith), +ℤ-idr) (i .in-range e (omega arith) m);
       }
 
 -- ---- whether they fit: the rest decides
@@ -82,21 +81,21 @@ pub record Adding (d cutoff : ℤ) (x : Fragment) (n : ℕ) (calls : List Call) 
   pub same : countCalls d cutoff x calls counts ≡ after
 
 -- at the start all are left
-module _ (cutoff : ℤ) (x : Fragment) (two : x .strand ≤ 1) {n : ℕ} (r : Rising n 0 (x .calls)) {left : List Call} (e : x .calls ≡ left) (counts : List ℤ) (lent : countsFit n counts ≡ true) (long : 10 * n ≤ length counts) where
+module _ (cutoff : ℤ) (x : Fragment) {n : ℕ} (r : Rising n 0 (x .calls)) {left : List Call} (e : x .calls ≡ left) (counts : List ℤ) (lent : countsFit n counts ≡ true) (long : 10 * n ≤ length counts) where
   all-left : CallsLeft n left counts
   all-left = rw e at (left-start counts r long lent)
 
   pub arriving-fit-start : Fitting (pos 1) cutoff x n counts left (countsFit n (countsArrived cutoff n x counts))
-  arriving-fit-start = record { left = all-left; decides = rw (← e) (all-fit (pos 1) cutoff x two r counts long lent ∙ ap (countsFit n) (arrived-is cutoff x two n counts)) }
+  arriving-fit-start = record { left = all-left; decides = rw (← e) (all-fit (pos 1) cutoff x r counts long lent ∙ ap (countsFit n) (arrived-is cutoff x n counts)) }
 
   pub departing-fit-start : Fitting (negsuc 0) cutoff x n counts left (countsFit n (countsDeparted cutoff n x counts))
-  departing-fit-start = record { left = all-left; decides = rw (← e) (all-fit (negsuc 0) cutoff x two r counts long lent ∙ ap (countsFit n) (departed-is cutoff x two n counts)) }
+  departing-fit-start = record { left = all-left; decides = rw (← e) (all-fit (negsuc 0) cutoff x r counts long lent ∙ ap (countsFit n) (departed-is cutoff x n counts)) }
 
   pub arriving-start : Adding (pos 1) cutoff x n left counts (countsArrived cutoff n x counts)
-  arriving-start = record { left = all-left; same = rw (← e) (all-counted (pos 1) cutoff x two r counts long ∙ arrived-is cutoff x two n counts) }
+  arriving-start = record { left = all-left; same = rw (← e) (all-counted (pos 1) cutoff x r counts long ∙ arrived-is cutoff x n counts) }
 
   pub departing-start : Adding (negsuc 0) cutoff x n left counts (countsDeparted cutoff n x counts)
-  departing-start = record { left = all-left; same = rw (← e) (all-counted (negsuc 0) cutoff x two r counts long ∙ departed-is cutoff x two n counts) }
+  departing-start = record { left = all-left; same = rw (← e) (all-counted (negsuc 0) cutoff x r counts long ∙ departed-is cutoff x n counts) }
 
 module _ {d cutoff : ℤ} {x : Fragment} {n : ℕ} {counts : List ℤ} {left : List Call} {answer : Bool} (i : Fitting d cutoff x n counts left answer) where
   pub fit-end : left ≡ [] → true ≡ answer
@@ -104,9 +103,9 @@ module _ {d cutoff : ℤ} {x : Fragment} {n : ℕ} {counts : List ℤ} {left : L
   fit-end e = rw e at (i .decides)
 
   -- a call more
-  module _ {call : Call} {calls : List Call} (e : left ≡ call ∷ calls) (two : x .strand ≤ 1) where
-    pub fit-countable : natAbs d ≤ 1 → n ≤ 1024 → Countable counts (x .strand) d (countedCall cutoff x call)
-    fit-countable = left-countable (rw e at (i .left)) cutoff x two
+  module _ {call : Call} {calls : List Call} (e : left ≡ call ∷ calls) where
+    pub fit-countable : natAbs d ≤ 1 → n ≤ 1024 → Countable counts d (countedCall cutoff x call)
+    fit-countable = left-countable (rw e at (i .left)) cutoff x
 
     pub fit-stop : callFits d (x .strand) (countedCall cutoff x call) counts ≡ false → false ≡ answer
     unfolding allb
@@ -114,17 +113,17 @@ module _ {d cutoff : ℤ} {x : Fragment} {n : ℕ} {counts : List ℤ} {left : L
 
     pub fit-on : callFits d (x .strand) (countedCall cutoff x call) counts ≡ true → Fitting d cutoff x n counts calls answer
     unfolding allb
-    fit-on h = record { left = left-next (rw e at (i .left)) cutoff x two; decides = rw h at (rw e at (i .decides)) }
+    fit-on h = record { left = left-next (rw e at (i .left)) cutoff x; decides = rw h at (rw e at (i .decides)) }
 
 module _ {d cutoff : ℤ} {x : Fragment} {n : ℕ} {left : List Call} {counts after : List ℤ} (i : Adding d cutoff x n left counts after) where
   pub add-end : left ≡ [] → counts ≡ after
   unfolding countCalls
   add-end e = rw e at (i .same)
 
-  module _ {call : Call} {calls : List Call} (e : left ≡ call ∷ calls) (two : x .strand ≤ 1) where
-    pub add-countable : {c : ℤ} → natAbs c ≤ 1 → n ≤ 1024 → Countable counts (x .strand) c (countedCall cutoff x call)
-    add-countable = left-countable (rw e at (i .left)) cutoff x two
+  module _ {call : Call} {calls : List Call} (e : left ≡ call ∷ calls) where
+    pub add-countable : {c : ℤ} → natAbs c ≤ 1 → n ≤ 1024 → Countable counts c (countedCall cutoff x call)
+    add-countable = left-countable (rw e at (i .left)) cutoff x
 
     pub add-on : (put : List ℤ) → put ≡ countCall d (x .strand) (countedCall cutoff x call) counts → Adding d cutoff x n calls put after
     unfolding countCalls
-    add-on put q = rw q (record { left = left-counted (rw e at (i .left)) cutoff x two d; same = rw e at (i .same) })
+    add-on put q = rw q (record { left = left-counted (rw e at (i .left)) cutoff x d; same = rw e at (i .same) })

@@ -60,7 +60,7 @@ abbrev pub ranged : ℤ → Bool
 ranged z = within (pos 0) (pos maxCount) z
 
 -- ---- calls of read x, counted with d
-module _ (d cutoff : ℤ) (x : Fragment) (two : x .strand ≤ 1) where
+module _ (d cutoff : ℤ) (x : Fragment) where
   -- how many of the calls count at element e
   abbrev howMany : ℕ → List Call → ℕ
   howMany e calls = length (only (countsAt cutoff x e) calls)
@@ -88,7 +88,7 @@ module _ (d cutoff : ℤ) (x : Fragment) (two : x .strand ≤ 1) where
       let put = countCall d (x .strand) (countedCall cutoff x call) counts in
       let l = count-length d (x .strand) (countedCall cutoff x call) counts in
       calls-at r put (omega arith) e
-      ∙ rw (count-at cutoff x call three two d counts (omega arith) e)
+      ∙ rw (count-at cutoff x call three d counts (omega arith) e)
       (by-test (countsAt cutoff x e call)
       (λ t. rw (t, only-in (countsAt cutoff x e) call calls t, +ℤ-assoc))
       (λ t. rw (t, only-out (countsAt cutoff x e) call calls t, +ℤ-idr)))
@@ -119,7 +119,7 @@ module _ (d cutoff : ℤ) (x : Fragment) (two : x .strand ≤ 1) where
   fit-ranged counts (more {b} {call} {calls} lo hi three r) h e k =
       let f = both (fits counts call) (allb (fits counts) calls) h in
       by-test (countsAt cutoff x e call)
-      (λ t. rw (only-in (countsAt cutoff x e) call calls t, no-more call e r t, +ℤ-idr) (fit-at cutoff x call three two d counts (f .0) e t))
+      (λ t. rw (only-in (countsAt cutoff x e) call calls t, no-more call e r t, +ℤ-idr) (fit-at cutoff x call three d counts (f .0) e t))
       (λ t. rw (only-out (countsAt cutoff x e) call calls t) (fit-ranged counts r (f .1) e k))
 
   -- and the other way round
@@ -129,7 +129,7 @@ module _ (d cutoff : ℤ) (x : Fragment) (two : x .strand ≤ 1) where
   ranged-fit counts none k h = refl
   ranged-fit {n} counts (more {b} {call} {calls} lo hi three r) k h =
       rw (
-        at-fit cutoff x call three two d counts (λ e t.
+        at-fit cutoff x call three d counts (λ e t.
             let v = eqb-true (call .variant) (e / 10) (both (eqb (call .variant) (e / 10)) (counted cutoff x (e % 10) call) t .0) in
             rw (only-in (countsAt cutoff x e) call calls t, no-more call e r t, +ℤ-idr) at (h e (omega arith))),
         ranged-fit counts r k (λ e l. by-test (countsAt cutoff x e call)
@@ -151,9 +151,9 @@ module _ (d cutoff : ℤ) (x : Fragment) (two : x .strand ≤ 1) where
         (λ t. ranged-fit counts r k (λ e l. rw (is e l) at (all-below p (10 * n) t e l)))
 
 -- d is 1 for an arrival and −1 for a departure
-module _ (cutoff : ℤ) (x : Fragment) (two : x .strand ≤ 1) (n : ℕ) (counts : List ℤ) where
-  pub arrived-is : countsAfter (pos 1) cutoff x two n counts ≡ countsArrived cutoff n x counts
+module _ (cutoff : ℤ) (x : Fragment) (n : ℕ) (counts : List ℤ) where
+  pub arrived-is : countsAfter (pos 1) cutoff x n counts ≡ countsArrived cutoff n x counts
   arrived-is = written-same _ _ (10 * n) counts (λ e l. rw (times-one (readCount cutoff x e)))
 
-  pub departed-is : countsAfter (negsuc 0) cutoff x two n counts ≡ countsDeparted cutoff n x counts
+  pub departed-is : countsAfter (negsuc 0) cutoff x n counts ≡ countsDeparted cutoff n x counts
   departed-is = written-same _ _ (10 * n) counts (λ e l. rw (times-less (readCount cutoff x e)))

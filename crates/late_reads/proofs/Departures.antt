@@ -16,7 +16,7 @@ use lib.Seq.{getD-set-same, getD-set-other, getD-append-add}
 use Rattle.variants_and_fragments.specs.declared.Sizes.{Sizes}
 use Rattle.variants_and_fragments.specs.Refusals.{done}
 use Rattle.variants_and_fragments.specs.Words.{word, within, none, natOf, natAt}
-use Rattle.variants_and_fragments.specs.Layout.{callWords, sizesOf, usedField, freeField, firstField, strandField, nextField, fragmentAt, fragmentWord, callAt, callWord, callSet}
+use Rattle.variants_and_fragments.specs.Layout.{callWords, maxStrand, sizesOf, usedField, freeField, firstField, strandField, nextField, fragmentAt, fragmentWord, callAt, callWord, callSet}
 use Rattle.variants_and_fragments.specs.Chain.{firstCallAt, strandAt, nextCallAt, nextOk, chainOf, freeChain, memb}
 use Rattle.variants_and_fragments.specs.Check.{checkCaseAndHaplotypesOutcome}
 use Rattle.variants_and_fragments.specs.Decode.{fragmentFrom, decode}
@@ -198,7 +198,7 @@ module _ {w : List ℤ} {s : Sizes} (k : CaseIn w s) (f : ℕ) (l : f < s .f) wh
   departed-changed = record {
     keeps = departed-keeps;
     inside = l;
-    strand-in = rw (departed-strand, upto-nat 1 (fragmentWord w s f strandField) (lit< tt)) (le-leb (strandAt w s f) 1 (k .frags f l .strand-in));
+    strand-in = rw (departed-strand, upto-nat maxStrand (fragmentWord w s f strandField) (lit< tt)) (le-leb (strandAt w s f) maxStrand (k .frags f l .strand-in));
     first-in = rw departed-first refl;
     chain-is = departed-chain;
     links = λ x m. true-false m refl;

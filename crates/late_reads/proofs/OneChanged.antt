@@ -17,7 +17,7 @@ use lib.ListN.{length, getD}
 use lib.Signed.{leZ}
 use Rattle.variants_and_fragments.specs.declared.Sizes.{Sizes}
 use Rattle.variants_and_fragments.specs.Words.{word, within, below, none, natOf, natAt}
-use Rattle.variants_and_fragments.specs.Layout.{sizesOf, variantsField, fragmentsField, callsField, cutoffField, callWords, fragmentWords, variantWords, usedField, freeField, firstField, strandField, nextField, variantField, alleleField, qualField, oneMinusQualField, alleleCountField, fragmentAt, variantAt, variantWord, fragmentWord, callWord, alleleCountAt, callVariantAt, callWordsOk, callOk}
+use Rattle.variants_and_fragments.specs.Layout.{maxStrand, sizesOf, variantsField, fragmentsField, callsField, cutoffField, callWords, fragmentWords, variantWords, usedField, freeField, firstField, strandField, nextField, variantField, alleleField, qualField, oneMinusQualField, alleleCountField, fragmentAt, variantAt, variantWord, fragmentWord, callWord, alleleCountAt, callVariantAt, callWordsOk, callOk}
 use Rattle.variants_and_fragments.specs.Chain.{firstCallAt, nextCallAt, nextOk, linkOk, chainFrom, chainOf, freeChain, memb, reached, isReached, inChain, goodChain}
 use Rattle.variants_and_fragments.specs.Decode.{callFrom}
 use Rattle.variants_and_fragments.specs.Inner.Layout.{Sized}
@@ -53,7 +53,7 @@ pub record Keeps (w w' : List ℤ) (s : Sizes) (u v f : ℕ) : Type 0 where
 pub record Changed (w w' : List ℤ) (s : Sizes) (u v f : ℕ) (own rest : List ℕ) : Type 0 where
   pub keeps : Keeps w w' s u v f
   pub inside : f < s .f
-  pub strand-in : within (pos 0) (pos 1) (fragmentWord w' s f strandField) ≡ true
+  pub strand-in : within (pos 0) (pos maxStrand) (fragmentWord w' s f strandField) ≡ true
   pub first-in : within (negsuc 0) (pos u) (fragmentWord w' s f firstField) ≡ true
   pub chain-is : chainOf w' (roomAs s u v) f ≡ own
   pub links : (x : ℕ) → memb x own ≡ true → linkOk w' (roomAs s u v) x ≡ true

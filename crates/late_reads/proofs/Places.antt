@@ -17,7 +17,7 @@ use mir.Syntax.{w32}
 use mir.Val.{SFits, toZ, ofZ, hbits}
 use lib.Seq.{getD-set-same, getD-set-other}
 use Rattle.steps.proofs.Signed.{by-test, true-false, plus-fits, plus-read}
-use Rattle.variants_and_fragments.specs.Case.{Fragment, Call, usable}
+use Rattle.variants_and_fragments.specs.Case.{Fragment, Call, direction, usable}
 use Rattle.variants_and_fragments.specs.Words.{within}
 use Rattle.variants_and_fragments.proofs.Bools.{both}
 use Rattle.variants_and_fragments.proofs.Ranges.{within-top}
@@ -72,32 +72,29 @@ module _ (d : ℤ) {k m : ℕ} {a b : CountedCall} (e : k ≡ m) (q : a ≡ b) (
   pub same-count : countCall d k a counts ≡ countCall d m b counts
   same-count = rw (e, q)
 
-  pub same-countable : Countable counts m d b → Countable counts k d a
-  same-countable h = rw (e, q) h
-
 -- ---- the places of a call that may be counted
-module _ {counts : List ℤ} {strand : ℕ} {d : ℤ} {call : CountedCall} (c : Countable counts strand d call) where
+module _ {counts : List ℤ} {d : ℤ} {call : CountedCall} (c : Countable counts d call) where
   pub at-allele : CountsIn counts (allelePlace call) d
   at-allele = c .each-in (call .allele) (omega (arith, c .allele-in))
 
-  pub at-strand : CountsIn counts (strandPlace strand call) d
-  at-strand =
-      let e : 10 * call .variant + (3 * (1 + strand) + call .allele) ≡ strandPlace strand call = omega arith in
-      rw e at (c .each-in (3 * (1 + strand) + call .allele) (omega (arith, c .allele-in, c .strand-in)))
+  pub at-strand : (strand : ℕ) → CountsIn counts (strandPlace strand call) d
+  at-strand strand =
+      let e : 10 * call .variant + (3 * (1 + direction strand) + call .allele) ≡ strandPlace strand call = omega arith in
+      rw e at (c .each-in (3 * (1 + direction strand) + call .allele) (omega (arith, c .allele-in)))
 
   pub at-ambiguous : CountsIn counts (ambiguousPlace call) d
   at-ambiguous = c .each-in 9 (omega arith)
 
   -- the first store leaves the second place as it is
-  pub at-strand-next : CountsIn (addAt d (allelePlace call) counts) (strandPlace strand call) d
-  at-strand-next = record {
-    there = rw length-set (at-strand .there);
-    ranged = rw (added-other d (allelePlace call) (strandPlace strand call) counts (λ e. omega (arith, c .allele-in))) (at-strand .ranged);
-    one = at-strand .one;
+  pub at-strand-next : (strand : ℕ) → CountsIn (addAt d (allelePlace call) counts) (strandPlace strand call) d
+  at-strand-next strand = record {
+    there = rw length-set (at-strand strand .there);
+    ranged = rw (added-other d (allelePlace call) (strandPlace strand call) counts (λ e. omega (arith, c .allele-in))) (at-strand strand .ranged);
+    one = at-strand strand .one;
   }
 
 -- ---- where a call of read x counts
-module _ (cutoff : ℤ) (x : Fragment) (call : Call) (three : call .allele < 3) (two : x .strand ≤ 1) where
+module _ (cutoff : ℤ) (x : Fragment) (call : Call) (three : call .allele < 3) where
   abbrev seen : CountedCall
   seen = countedCall cutoff x call
 
@@ -116,12 +113,12 @@ module _ (cutoff : ℤ) (x : Fragment) (call : Call) (three : call .allele < 3) 
   at-its-strand u =
       let v = call .variant in
       let a = call .allele in
-      let j = 3 * (1 + x .strand) + a in
-      let q : (10 * v + 3 * (1 + x .strand) + a) / 10 ≡ v = omega arith in
-      let r : (10 * v + 3 * (1 + x .strand) + a) % 10 ≡ j = omega arith in
+      let j = 3 * (1 + direction (x .strand)) + a in
+      let q : (10 * v + 3 * (1 + direction (x .strand)) + a) / 10 ≡ v = omega arith in
+      let r : (10 * v + 3 * (1 + direction (x .strand)) + a) % 10 ≡ j = omega arith in
       let m : j % 3 ≡ a = omega arith in
-      let k : j / 3 ≡ 1 + x .strand = omega arith in
-      rw (q, r, eq-eqb v v refl, ne-eqb j 9 (omega arith), u, m, eq-eqb a a refl, le-ltb j 3 (omega arith), k, eq-eqb (1 + x .strand) (1 + x .strand) refl)
+      let k : j / 3 ≡ 1 + direction (x .strand) = omega arith in
+      rw (q, r, eq-eqb v v refl, ne-eqb j 9 (omega arith), u, m, eq-eqb a a refl, le-ltb j 3 (omega arith), k, eq-eqb (1 + direction (x .strand)) (1 + direction (x .strand)) refl)
 
   at-the-last : usable cutoff x call ≡ false → countsAt cutoff x (ambiguousPlace seen) call ≡ true
   unfolding counted
@@ -142,11 +139,11 @@ module _ (cutoff : ℤ) (x : Fragment) (call : Call) (three : call .allele < 3) 
         by-test (eqb j 9)
         (λ n. true-false (p .1) (rw (n, u)))
         (λ n.
-        let b = both (eqb (call .allele) (j % 3)) (ltb j 3 || eqb (j / 3) (1 + x .strand)) (rw (n, u) at (p .1)) in
+        let b = both (eqb (call .allele) (j % 3)) (ltb j 3 || eqb (j / 3) (1 + direction (x .strand))) (rw (n, u) at (p .1)) in
         let a = eqb-true (call .allele) (j % 3) (b .0) in
         by-test (ltb j 3)
         (λ l. inl (omega (arith, ltb-true j 3 l)))
-        (λ l. inr (omega (arith, eqb-true (j / 3) (1 + x .strand) (rw l at (b .1))))))
+        (λ l. inr (omega (arith, eqb-true (j / 3) (1 + direction (x .strand)) (rw l at (b .1))))))
 
     only-ambiguous : usable cutoff x call ≡ false → countsAt cutoff x e call ≡ true → e ≡ ambiguousPlace seen
     unfolding counted

@@ -21,7 +21,7 @@ use Rattle.variants_and_fragments.specs.Inner.Chain.{firstRecordAt}
 use Rattle.variants_and_fragments.proofs.Bools.{both}
 use Rattle.variants_and_fragments.proofs.Chain.{next-rises}
 use Rattle.variants_and_fragments.proofs.Linked.{Linked, ends, goes, chain-linked}
-use Rattle.variants_and_fragments.proofs.Ranges.{within-top, below-less}
+use Rattle.variants_and_fragments.proofs.Ranges.{below-less}
 use Rattle.variants_and_fragments.proofs.Records.{call-facts}
 use Rattle.variants_and_fragments.proofs.Tabulated.{table-start, table-more, table-end}
 use Rattle.variants_and_fragments.proofs.Walks.{start-chain, chain-end, chain-none, chain-step}
@@ -69,10 +69,6 @@ module _ {w : List ℤ} {s : Sizes} {f : ℕ} {strand : ℤ} {calls : List ℤ} 
   unfolding arrivingRead
   arriving-rises = table-rising (arrivingCall calls) (s .n) (wholeCalls calls) arriving-in arriving-up (wholeCalls calls) 0 0 (omega arith) (λ l. omega arith)
 
-  pub arriving-strand : arrivingRead strand calls .strand ≤ 1
-  unfolding arrivingRead
-  arriving-strand = within-top 0 1 strand (a .strand-in)
-
 -- the calls left at call i
 abbrev pub arrivingLeft : List ℤ → ℕ → List Call
 arrivingLeft calls i = tabulateFrom (arrivingCall calls) i (wholeCalls calls - i)
@@ -101,10 +97,6 @@ module _ {w : List ℤ} {s : Sizes} (case : CaseIn w s) (f : ℕ) (h : f < s .f)
   pub chain-rises : Rising (s .n) 0 (fragmentFrom w s f .calls)
   unfolding fragmentFrom
   chain-rises = let i = case .frags f h in linked-rising w s (case .variants) 0 (chain-linked (case .sized .used-top) i) (λ l. omega arith) (i .calls)
-
-  pub chain-strand : fragmentFrom w s f .strand ≤ 1
-  unfolding fragmentFrom
-  chain-strand = case .frags f h .strand-in
 
 -- the calls left after k records, at record r
 abbrev pub chainLeft : List ℤ → Sizes → ℕ → ℕ → List Call

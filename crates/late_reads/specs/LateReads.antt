@@ -11,7 +11,7 @@ use Rattle.variants_and_fragments.specs.declared.Sizes.{Sizes}
 use Rattle.variants_and_fragments.specs.Case.{Case, fragmentOf}
 use Rattle.variants_and_fragments.specs.Check.{checkCaseAndHaplotypesOutcome}
 use Rattle.variants_and_fragments.specs.Decode.{decode}
-use Rattle.variants_and_fragments.specs.Layout.{sizesOf}
+use Rattle.variants_and_fragments.specs.Layout.{maxStrand, sizesOf}
 use Rattle.variants_and_fragments.specs.Refusals.{Outcome, done, refusal, unless, each, andThen, longEnough, Promise}
 use Rattle.variants_and_fragments.specs.Words.{within}
 use Rattle.haplotype_assembly.specs.Phase.{phasedFlags}
@@ -88,7 +88,7 @@ module _ (input : LateInput) (f : ℕ) (strand : ℤ) (calls : List ℤ) where
       let m = wholeCalls calls in
       each 4 (arrivingOk (input .words) s calls) 0 m
       (each 5 (arrivingRises calls) 0 m
-      (unless (eqb (length calls) (arrivingWords * m) && within (pos 0) (pos 1) strand) 5 m
+      (unless (eqb (length calls) (arrivingWords * m) && within (pos 0) (pos maxStrand) strand) 5 m
       (unless (ltb f (s .f) && not (fragmentOf (caseOf input) f .present)) 13 f
       (unless (leb m (length (room (input .words) s))) 14 m
       (done s)))))

@@ -8,7 +8,7 @@ use lib.Dec.{eqb, ltb}
 use lib.IntN.{ℤ, pos, negℤ, _+ℤ_, _-ℤ_}
 use lib.ListN.{length, getD, set}
 use Rattle.steps.specs.Logs.{mixOf}
-use Rattle.variants_and_fragments.specs.Case.{Case, Fragment, Call, usable}
+use Rattle.variants_and_fragments.specs.Case.{Case, Fragment, Call, direction, usable}
 use Rattle.variants_and_fragments.specs.First.{holdsBelow}
 use Rattle.variants_and_fragments.specs.Pileup.{only, usableCalls}
 use Rattle.variants_and_fragments.specs.Words.{within}
@@ -54,7 +54,7 @@ likelihoodOn fixed x i = likelihood (fixed .phased) (λ v. getD (fixed .haps) (2
 unfoldable pub counted : ℤ → Fragment → ℕ → Call → Bool
 counted cutoff x j call =
     cond (eqb j 9) (not (usable cutoff x call))
-    (usable cutoff x call && (eqb (call .allele) (j % 3) && (ltb j 3 || eqb (j / 3) (1 + x .strand))))
+    (usable cutoff x call && (eqb (call .allele) (j % 3) && (ltb j 3 || eqb (j / 3) (1 + direction (x .strand)))))
 
 -- how many of its calls count at element e, place e mod 10 of variant e div 10
 unfoldable pub readCount : ℤ → Fragment → ℕ → ℕ

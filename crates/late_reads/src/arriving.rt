@@ -14,6 +14,7 @@ use variants_and_fragments::Checked;
 use variants_and_fragments::Refusal;
 use variants_and_fragments::Sizes;
 use variants_and_fragments::calls::call_words_ok;
+use variants_and_fragments::layout::MAX_STRAND;
 use variants_and_fragments::layout::is_present;
 use variants_and_fragments::layout::nat_of;
 use variants_and_fragments::layout::next_call;
@@ -111,7 +112,7 @@ pub fn arriving_fault(words: &[i32], s: Sizes, arrival: Arrival, calls: &[i32]) 
     if flat < m {
         return Checked::Refused(Refusal::Chain(flat));
     }
-    if (calls.len() != ARRIVING_WORDS * m) | (1 < nat_of(arrival.strand)) {
+    if (calls.len() != ARRIVING_WORDS * m) | (MAX_STRAND < nat_of(arrival.strand)) {
         return Checked::Refused(Refusal::Chain(m));
     }
     if s.f <= f {

@@ -40,13 +40,13 @@ fn fits_at(counts: &[i32], e: usize, d: i32) -> bool
 
 // What the counts of a call at its read's strand would be with d more are in range.
 fn call_fits(counts: &[i32], call: CountedCall, strand: usize, d: i32) -> bool
-    requires { ⌜ Countable (now counts) strand d call ⌝ }
+    requires { ⌜ Countable (now counts) d call ⌝ }
     ensures { λ r. ⌜ r ≡ callFits d strand call (now (counts .entry)) ⌝ }
 {
     let at = 10 * call.variant;
     if call.usable {
         let one = fits_at(counts, at + call.allele, d);
-        let two = fits_at(counts, at + 3 * (1 + strand) + call.allele, d);
+        let two = fits_at(counts, at + 3 * (1 + strand % 2) + call.allele, d);
         return one & two;
     }
     fits_at(counts, at + 9, d)
@@ -62,13 +62,13 @@ fn add_at(counts: &mut [i32], e: usize, d: i32)
 
 // Adds d to the counts of a call at its read's strand.
 fn count_call(counts: &mut [i32], call: CountedCall, strand: usize, d: i32)
-    requires { ⌜ Countable (now counts) strand d call ⌝ }
+    requires { ⌜ Countable (now counts) d call ⌝ }
     ensures { λ _. ⌜ now (counts .exit) ≡ countCall d strand call (now (counts .entry)) ⌝ }
 {
     let at = 10 * call.variant;
     if call.usable {
         add_at(counts, at + call.allele, d);
-        add_at(counts, at + 3 * (1 + strand) + call.allele, d);
+        add_at(counts, at + 3 * (1 + strand % 2) + call.allele, d);
     } else {
         add_at(counts, at + 9, d);
     }

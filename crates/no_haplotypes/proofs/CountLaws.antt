@@ -22,7 +22,7 @@ use Rattle.variants_and_fragments.proofs.Alls.{all-imp, all-map, all-append}
 use Rattle.variants_and_fragments.proofs.Decoded.{fragments-are, strand-is}
 use Rattle.variants_and_fragments.proofs.GoodCases.{fragment-in}
 use Rattle.variants_and_fragments.proofs.Only.{only-in, only-out, only-none, only-append, only-all}
-use Rattle.no_haplotypes.specs.NoHaplotypes.{rowStrand, alleleCalls, strandCalls, callsAt}
+use Rattle.no_haplotypes.specs.NoHaplotypes.{rowDirection, alleleCalls, strandCalls, callsAt}
 
 -- ---- lists
 pub only-count : {X : Type 0} (p : X → Bool) (xs ys : List X) → length (only p (xs ++ ys)) ≡ length (only p xs) + length (only p ys)
@@ -77,22 +77,17 @@ module _ (case : Case) where
   shows x row = eqb (row .call .allele) x
 
   abbrev on : ℕ → ℕ → Row → Bool
-  on strand x row = eqb (rowStrand case row) strand && eqb (row .call .allele) x
+  on strand x row = eqb (rowDirection case row) strand && eqb (row .call .allele) x
 
-  -- there are two strands
-  abbrev TwoStrands : Type 0
-  TwoStrands = (f : ℕ) → fragmentOf case f .strand ≤ 1
-
-  both-strands : TwoStrands → (x : ℕ) (rows : List Row) → length (only (on 0 x) rows) + length (only (on 1 x) rows) ≡ length (only (shows x) rows)
-  both-strands two x [] = rw (only-none (on 0 x), only-none (on 1 x), only-none (shows x))
-  both-strands two x (row ∷ rows) =
-      let s = two (row .fragment) in
+  both-strands : (x : ℕ) (rows : List Row) → length (only (on 0 x) rows) + length (only (on 1 x) rows) ≡ length (only (shows x) rows)
+  both-strands x [] = rw (only-none (on 0 x), only-none (on 1 x), only-none (shows x))
+  both-strands x (row ∷ rows) =
       by-test (shows x row)
-      (λ t. elim (ℕ-discrete (rowStrand case row) 0) [
-        | yes f ↦ rw (only-in (on 0 x) row rows (rw (eq-eqb (rowStrand case row) 0 f, t)), only-out (on 1 x) row rows (rw (ne-eqb (rowStrand case row) 1 (λ g. omega arith))), only-in (shows x) row rows t) (omega (arith, both-strands two x rows))
-        | no f ↦ rw (only-out (on 0 x) row rows (rw (ne-eqb (rowStrand case row) 0 f)), only-in (on 1 x) row rows (rw (eq-eqb (rowStrand case row) 1 (omega arith), t)), only-in (shows x) row rows t) (omega (arith, both-strands two x rows))
+      (λ t. elim (ℕ-discrete (rowDirection case row) 0) [
+        | yes f ↦ rw (only-in (on 0 x) row rows (rw (eq-eqb (rowDirection case row) 0 f, t)), only-out (on 1 x) row rows (rw (ne-eqb (rowDirection case row) 1 (λ g. omega arith))), only-in (shows x) row rows t) (omega (arith, both-strands x rows))
+        | no f ↦ rw (only-out (on 0 x) row rows (rw (ne-eqb (rowDirection case row) 0 f)), only-in (on 1 x) row rows (rw (eq-eqb (rowDirection case row) 1 (omega arith), t)), only-in (shows x) row rows t) (omega (arith, both-strands x rows))
       ])
-      (λ t. rw (only-out (on 0 x) row rows (rw (t, and-false)), only-out (on 1 x) row rows (rw (t, and-false)), only-out (shows x) row rows t) (both-strands two x rows))
+      (λ t. rw (only-out (on 0 x) row rows (rw (t, and-false)), only-out (on 1 x) row rows (rw (t, and-false)), only-out (shows x) row rows t) (both-strands x rows))
 
   three-alleles : (rows : List Row) → All (λ row. row .call .allele < 3) rows → length (only (shows 0) rows) + length (only (shows 1) rows) + length (only (shows 2) rows) ≡ length rows
   three-alleles [] end = rw (only-none (shows 0), only-none (shows 1), only-none (shows 2))
@@ -107,19 +102,12 @@ module _ (case : Case) where
       ]
 
   -- forward plus reverse equal the counts
-  pub forward-reverse : TwoStrands → (v x : ℕ) → strandCalls case v 0 x + strandCalls case v 1 x ≡ alleleCalls case v x
+  pub forward-reverse : (v x : ℕ) → strandCalls case v 0 x + strandCalls case v 1 x ≡ alleleCalls case v x
   unfolding strandCalls alleleCalls
-  forward-reverse two v x = both-strands two x (pileOf case v)
-
--- past the fragments stands one of strand 0
-strands-two : (case : Case) → ((f : ℕ) → f < length (case .fragments) → fragmentOf case f .strand ≤ 1) → (f : ℕ) → fragmentOf case f .strand ≤ 1
-strands-two case h f = cases f (length (case .fragments)) (h f) (λ l. rw (List·getD-eq-default (case .fragments) noFragment l) (omega arith))
+  forward-reverse v x = both-strands x (pileOf case v)
 
 -- ---- of a good case, as every accepted case is (variants_and_fragments/proofs/GoodCases)
 module _ {case : Case} (good : GoodCase case) where
-  pub two-strands : (f : ℕ) → fragmentOf case f .strand ≤ 1
-  two-strands = strands-two case (λ f h. fragment-in good f h .strand-in)
-
   call-three : (row : Row) → GoodCall (case .variants) (row .call) → row .call .allele < 3
   call-three row g = omega (arith, g .allele-in, good .variants-in (row .call .variant) (g .variant-in) .three-alleles)
 
@@ -150,7 +138,3 @@ module _ {case : Case} (good : GoodCase case) where
   pub absent-none : (v x : ℕ) → alleleCount (variantOf case v) ≤ x → alleleCalls case v x ≡ 0
   unfolding alleleCalls pileOf
   absent-none v x h = none-shows v x h (rowsOf case) rows-good
-
--- ---- of the words of an accepted case
-pub case-strands : {w : List ℤ} {s : Sizes} → CaseIn w s → (b : List ℕ) (f : ℕ) → fragmentOf (decode w b) f .strand ≤ 1
-case-strands {w} {s} k b = strands-two (decode w b) (λ f h. let l : f < s .f = omega (arith, fragments-are k b) in omega (arith, strand-is k b f l, k .frags f l .strand-in))

@@ -21,7 +21,7 @@ use Rattle.variants_and_fragments.proofs.Short.{short-fits}
 use Rattle.variants_and_fragments.proofs.Written.{written-at}
 use Rattle.genotype_probs.specs.declared.Rates.{Rates}
 use Rattle.no_haplotypes.specs.NoHaplotypes.{alleleCalls, strandCalls, callsAt, answerFrom, countWord, forwardWord, reverseWord, ambiguousWord, CountsAddUp, variantAnswer, answerAt, CallSlices, callGenotypesNoHaplotypesOutcome, callGenotypesNoHaplotypesWritten, CalledNoHaplotypes}
-use Rattle.no_haplotypes.proofs.CountLaws.{forward-reverse, two-strands, counts-ambiguous, absent-none}
+use Rattle.no_haplotypes.proofs.CountLaws.{forward-reverse, counts-ambiguous, absent-none}
 
 -- ---- the words of a variant, whatever its posteriors
 module _ (post : List ℤ) (k : ℕ) (case : Case) (v : ℕ) where
@@ -56,7 +56,7 @@ module _ (post : List ℤ) (k : ℕ) (case : Case) (v : ℕ) where
   words-add-up : GoodCase case → CountsAddUp case v word
   words-add-up good = record {
     calls = all-words good;
-    strands = λ x h. rw (forward-word x h, reverse-word x h, count-word x h) (ap pos (forward-reverse case (two-strands good) v x));
+    strands = λ x h. rw (forward-word x h, reverse-word x h, count-word x h) (ap pos (forward-reverse case v x));
     absent = λ x h l. rw (count-word x h) (ap pos (absent-none good v x l));
   }
 

@@ -15,7 +15,7 @@ use lib.Seq.{getD-set-same, getD-set-other}
 use Rattle.steps.proofs.AddExp.{add-size}
 use Rattle.steps.proofs.Signed.{add-abs, minus-abs, cases}
 use Rattle.variants_and_fragments.specs.declared.Sizes.{Sizes}
-use Rattle.variants_and_fragments.specs.Case.{Call}
+use Rattle.variants_and_fragments.specs.Case.{Call, direction}
 use Rattle.variants_and_fragments.specs.Decode.{tabulateFrom}
 use Rattle.variants_and_fragments.specs.Layout.{strandAt}
 use Rattle.variants_and_fragments.specs.Pileup.{Row, only}
@@ -68,7 +68,7 @@ tallied-start {w} {s} u = record {
   counts-are = λ strand x l h. rw (u .counts-zero, getD-replicate {A = ℕ} 6 (3 * strand + x) 0 0 (omega arith), only-none (shownOn w s strand x));
 }
 
-module _ {w : List ℤ} {s : Sizes} {rows : List Row} {total : ℤ} {gains : List ℤ} {counts : List ℕ} (t : Tallied w s rows total gains counts) (row : Row) (top : row .call .allele < 3) (low : strandAt w s (row .fragment) ≤ 1) where
+module _ {w : List ℤ} {s : Sizes} {rows : List Row} {total : ℤ} {gains : List ℤ} {counts : List ℕ} (t : Tallied w s rows total gains counts) (row : Row) (top : row .call .allele < 3) where
   abbrev x : ℕ
   x = row .call .allele
 
@@ -97,10 +97,10 @@ module _ {w : List ℤ} {s : Sizes} {rows : List Row} {total : ℤ} {gains : Lis
   abbrev place : ℕ
   place = countPlace w s row
 
-  not-shown : (strand y : ℕ) → (strandAt w s (row .fragment) ≡ strand → row .call .allele ≡ y → ⊥) → shownOn w s strand y row ≡ false
-  not-shown strand y n = elim (ℕ-discrete (strandAt w s (row .fragment)) strand) [
-    | yes e ↦ rw (eq-eqb (strandAt w s (row .fragment)) strand e, ne-eqb (row .call .allele) y (n e))
-    | no e ↦ rw (ne-eqb (strandAt w s (row .fragment)) strand e)
+  not-shown : (strand y : ℕ) → (direction (strandAt w s (row .fragment)) ≡ strand → row .call .allele ≡ y → ⊥) → shownOn w s strand y row ≡ false
+  not-shown strand y n = elim (ℕ-discrete (direction (strandAt w s (row .fragment))) strand) [
+    | yes e ↦ rw (eq-eqb (direction (strandAt w s (row .fragment))) strand e, ne-eqb (row .call .allele) y (n e))
+    | no e ↦ rw (ne-eqb (direction (strandAt w s (row .fragment))) strand e)
   ]
 
   counts-on : (strand y : ℕ) → strand < 2 → y < 3 → getD (set counts place (getD counts place 0 + 1)) (3 * strand + y) 0 ≡ length (only (shownOn w s strand y) (rows ++ (row ∷ [])))
@@ -109,10 +109,10 @@ module _ {w : List ℤ} {s : Sizes} {rows : List Row} {total : ℤ} {gains : Lis
       let c = t .counts-are strand y l h in
       elim (ℕ-discrete place (3 * strand + y)) [
         | yes e ↦
-            let f : strandAt w s (row .fragment) ≡ strand = omega arith in
+            let f : direction (strandAt w s (row .fragment)) ≡ strand = omega arith in
             let g : row .call .allele ≡ y = omega arith in
             let m = t .counts-long in
-            rw (e, getD-set-same counts (3 * strand + y) (getD counts (3 * strand + y) 0 + 1) 0 (omega arith), only-count p rows (row ∷ []), only-in p row [] (rw (eq-eqb (strandAt w s (row .fragment)) strand f, eq-eqb (row .call .allele) y g)), only-none p) (omega arith)
+            rw (e, getD-set-same counts (3 * strand + y) (getD counts (3 * strand + y) 0 + 1) 0 (omega arith), only-count p rows (row ∷ []), only-in p row [] (rw (eq-eqb (direction (strandAt w s (row .fragment))) strand f, eq-eqb (row .call .allele) y g)), only-none p) (omega arith)
         | no n ↦ rw (getD-set-other counts place (3 * strand + y) (getD counts place 0 + 1) 0 (λ e. n (sym e)), only-count p rows (row ∷ []), only-out p row [] (not-shown strand y (λ e f. n (omega arith))), only-none p) (omega arith)
       ]
 

@@ -1,4 +1,4 @@
--- 01, section 4, as amended by request 4: calling genotypes without haplotypes.
+-- 01, section 4, as amended by requests 4 and 5: calling genotypes without haplotypes.
 -- Assumes nothing.
 use mathlib.Core.Path.{_≡_}
 use mathlib.Core.Bool.{false, cond, _&&_, _||_}
@@ -10,7 +10,7 @@ use lib.Ieee.{Float}
 use lib.ListN.{length, getD}
 use Rattle.steps.specs.Logs.{mixOf}
 use Rattle.variants_and_fragments.specs.Sums.{sumOver, countOver}
-use Rattle.variants_and_fragments.specs.Case.{Case, Call, alleleCount, variantOf, fragmentOf}
+use Rattle.variants_and_fragments.specs.Case.{Case, Call, alleleCount, direction, variantOf, fragmentOf}
 use Rattle.variants_and_fragments.specs.Refusals.{Outcome, done, andThen, each, longEnough, Promise}
 use Rattle.variants_and_fragments.specs.Check.{checkCaseOutcome}
 use Rattle.variants_and_fragments.specs.Decode.{tabulate, decode}
@@ -54,18 +54,18 @@ gqFrom post k = gqOf post k (calledFrom post k)
 
 -- ---- counts
 
--- the strand of a row's fragment
-abbrev pub rowStrand : Case → Row → ℕ
-rowStrand case row = fragmentOf case (row .fragment) .strand
+-- the direction of a row's fragment
+abbrev pub rowDirection : Case → Row → ℕ
+rowDirection case row = direction (fragmentOf case (row .fragment) .strand)
 
 module _ (case : Case) (v : ℕ) where
   -- the usable calls at v that show allele x; none where it is absent
   unfoldable pub alleleCalls : ℕ → ℕ
   alleleCalls x = length (only (λ (row : Row). eqb (row .call .allele) x) (pileOf case v))
 
-  -- those of them on a strand: 0 forward, 1 reverse
+  -- those of them in a direction: 0 forward, 1 reverse
   unfoldable pub strandCalls : ℕ → ℕ → ℕ
-  strandCalls strand x = length (only (λ (row : Row). eqb (rowStrand case row) strand && eqb (row .call .allele) x) (pileOf case v))
+  strandCalls strand x = length (only (λ (row : Row). eqb (rowDirection case row) strand && eqb (row .call .allele) x) (pileOf case v))
 
   -- all calls at v, usable and ambiguous
   unfoldable pub callsAt : ℕ

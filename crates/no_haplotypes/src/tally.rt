@@ -69,7 +69,7 @@ fn add_call(
     let strand = layout::strand_of(words, s, row.fragment);
     add_gain(gains, x, o - q);
     add_gain(gains, 3 + x, m - q);
-    count_one(counts, 3 * strand + x);
+    count_one(counts, 3 * (strand % 2) + x);
     row.qual
 }
 

@@ -6,6 +6,7 @@ ghost use Rattle.variants_and_fragments.specs.Inner.Words.{debtOf};
 ghost use Rattle.variants_and_fragments.specs.Inner.Sums.{DownTo};
 ghost use Rattle.pileup.specs.Inner.Packed.{Packable, heldRow, rowFrom, packed, unpacked, UsableIs};
 use steps::LogProb;
+use variants_and_fragments::layout::MUTED;
 
 // A call that is usable, with the number of its fragment.
 pub struct Row {
@@ -67,9 +68,9 @@ pub fn unpack(word: u64) -> Row
     }
 }
 
-// Whether a call is usable: its quality is below the cutoff; equality is ambiguous. `strand` is its fragment's: a fragment may come to have a say.
+// Whether a call is usable: its quality is below the cutoff, equality being ambiguous, and its fragment, which has this strand, votes.
 pub fn usable(cutoff: i32, strand: usize, qual: i32) -> bool
     ensures { λ r. ⌜ UsableIs cutoff strand qual r ⌝ }
 {
-    qual < cutoff
+    (qual < cutoff) & (strand < MUTED)
 }

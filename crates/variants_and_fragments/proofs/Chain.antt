@@ -11,7 +11,7 @@ use lib.Dec.{leb, ltb, eqb, lit<}
 use borrow.Author.Tests.{le-leb, lt-leb, eq-eqb, ne-eqb, leb-true, ltb-true}
 use Rattle.variants_and_fragments.specs.declared.Sizes.{Sizes}
 use Rattle.variants_and_fragments.specs.Words.{within}
-use Rattle.variants_and_fragments.specs.Layout.{maxCalls, firstField, strandField, nextField, fragmentWord, callWord, callVariantAt}
+use Rattle.variants_and_fragments.specs.Layout.{maxCalls, maxStrand, firstField, strandField, nextField, fragmentWord, callWord, callVariantAt}
 use Rattle.variants_and_fragments.specs.Chain.{firstCallAt, presentAt, strandAt, nextCallAt, chainFrom, chainOf, isRecord, memb, reached, nextOk, linkOk, goodChain, fragmentOk}
 use Rattle.variants_and_fragments.specs.Inner.Layout.{Sized}
 use Rattle.variants_and_fragments.specs.Inner.Chain.{recordOf}
@@ -60,32 +60,32 @@ module _ (w : List ℤ) (s : Sizes) (r : ℕ) where
 -- ---- a fragment
 module _ (w : List ℤ) (s : Sizes) (f : ℕ) where
   pub record FragmentTests : Type 0 where
-    pub strand-in : strandAt w s f ≤ 1
+    pub strand-in : strandAt w s f ≤ maxStrand
     pub first-in : within (negsuc 0) (pos (s .used)) (fragmentWord w s f firstField) ≡ true
     pub right : goodChain (linkOk w s) (reached w s f) (chainOf w s f) ≡ true
 
   pub fragment-tests : fragmentOk w s f ≡ true → FragmentTests
   unfolding fragmentOk
   fragment-tests h =
-      let a = both (within (pos 0) (pos 1) (fragmentWord w s f strandField)) _ h in
+      let a = both (within (pos 0) (pos maxStrand) (fragmentWord w s f strandField)) _ h in
       let b = both (within (negsuc 0) (pos (s .used)) (fragmentWord w s f firstField)) (goodChain (linkOk w s) (reached w s f) (chainOf w s f)) (a .1) in
-      record { strand-in = within-top 0 1 _ (a .0); first-in = b .0; right = b .1 }
+      record { strand-in = within-top 0 maxStrand _ (a .0); first-in = b .0; right = b .1 }
 
-  strand-test : within (pos 0) (pos 1) (fragmentWord w s f strandField) ≡ leb (strandAt w s f) 1
-  strand-test = upto-nat 1 (fragmentWord w s f strandField) (lit< tt)
+  strand-test : within (pos 0) (pos maxStrand) (fragmentWord w s f strandField) ≡ leb (strandAt w s f) maxStrand
+  strand-test = upto-nat maxStrand (fragmentWord w s f strandField) (lit< tt)
 
-  pub frag-strand : 1 < strandAt w s f → false ≡ fragmentOk w s f
+  pub frag-strand : maxStrand < strandAt w s f → false ≡ fragmentOk w s f
   unfolding fragmentOk
-  frag-strand h = simp (strand-test, lt-leb (strandAt w s f) 1 h)
+  frag-strand h = simp (strand-test, lt-leb (strandAt w s f) maxStrand h)
 
-  module _ (strand-in : strandAt w s f ≤ 1) where
+  module _ (strand-in : strandAt w s f ≤ maxStrand) where
     pub frag-first : within (negsuc 0) (pos (s .used)) (fragmentWord w s f firstField) ≡ false → false ≡ fragmentOk w s f
     unfolding fragmentOk
-    frag-first h = simp (strand-test, le-leb (strandAt w s f) 1 strand-in, h)
+    frag-first h = simp (strand-test, le-leb (strandAt w s f) maxStrand strand-in, h)
 
     pub frag-in : within (negsuc 0) (pos (s .used)) (fragmentWord w s f firstField) ≡ true → goodChain (linkOk w s) (reached w s f) (chainOf w s f) ≡ fragmentOk w s f
     unfolding fragmentOk
-    frag-in h = simp (strand-test, le-leb (strandAt w s f) 1 strand-in, h)
+    frag-in h = simp (strand-test, le-leb (strandAt w s f) maxStrand strand-in, h)
 
 -- ---- where a chain starts, and where it goes on
 pub record-bounds : (s : Sizes) (r : ℕ) → isRecord s r ≡ true → (1 ≤ r) × (r ≤ s .used)

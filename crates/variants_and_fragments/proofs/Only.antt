@@ -1,4 +1,4 @@
--- Those of a list of which a test holds: one element more, how many, along an append and a map, and what holds of each.
+-- Those of a list of which a test holds: one element more, how many, along an append and a map, what holds of each, and tests that are the same.
 -- Assumes nothing.
 use mathlib.Core.Path.{_≡_, refl, ap}
 use mathlib.Core.Bool.{Bool, true, false, cond}
@@ -67,3 +67,8 @@ pub only-no : {X : Type 0} (xs : List X) → only (λ _. false) xs ≡ []
 unfolding only
 only-no [] = refl
 only-no (x ∷ xs) = only-no xs
+
+pub only-cong : {X : Type 0} (p q : X → Bool) (xs : List X) → ((x : X) → p x ≡ q x) → only p xs ≡ only q xs
+unfolding only
+only-cong p q [] e = refl
+only-cong p q (x ∷ xs) e = rw (e x, only-cong p q xs e)

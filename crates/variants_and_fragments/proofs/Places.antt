@@ -61,12 +61,14 @@ record Places : Type 0 where
   wrong-allele : checkCaseOutcome (head 1 1 1 0 ++ snv 10 ++ fragment 1 0 ++ call 0 2 0) ag ≡ refused 4 1
   no-variant : checkCaseOutcome (head 0 1 1 0 ++ fragment 1 0 ++ call 0 0 0) [] ≡ refused 4 1
   -- found past a link back and past a strand that is 5's; not looked for where no fragment comes, nor in the unused tail
-  past-link-back : checkCaseOutcome (head 1 1 2 0 ++ snv 10 ++ fragment 2 2 ++ call 0 2 2 ++ call 0 1 1) ag ≡ refused 4 1
+  past-link-back : checkCaseOutcome (head 1 1 2 0 ++ snv 10 ++ fragment 2 4 ++ call 0 2 2 ++ call 0 1 1) ag ≡ refused 4 1
   free-call : checkCaseOutcome (headFree 1 2 2 2 2 ++ snv 10 ++ fragment 1 0 ++ absent 1 ++ call 0 1 0 ++ call 7 7 0) ag ≡ done (record { n = 1; f = 2; c = 2; used = 2; free = 2; cutoff = pos 0 })
   unused : checkCaseOutcome (headUsing 1 1 2 0 (pos 1) ++ snv 10 ++ fragment 1 0 ++ call 0 1 0 ++ call 7 7 9) ag ≡ done (record { n = 1; f = 1; c = 2; used = 1; free = 0; cutoff = pos 0 })
+  -- strands 2 and 3 are those of muted fragments (request 5)
+  muted : checkCaseOutcome (head 1 2 1 0 ++ snv 10 ++ fragment 1 2 ++ absent 3 ++ call 0 1 0) ag ≡ done (record { n = 1; f = 2; c = 1; used = 1; free = 0; cutoff = pos 0 })
   -- 5: the strand, of an absent fragment too; a chain into the tail; the later of two that share a record; a variant that does not rise
-  wrong-strand : checkCaseOutcome (head 1 1 1 0 ++ snv 10 ++ fragment 1 2 ++ call 0 1 0) ag ≡ refused 5 0
-  absent-strand : checkCaseOutcome (head 1 1 0 0 ++ snv 10 ++ absent 2) ag ≡ refused 5 0
+  wrong-strand : checkCaseOutcome (head 1 1 1 0 ++ snv 10 ++ fragment 1 4 ++ call 0 1 0) ag ≡ refused 5 0
+  absent-strand : checkCaseOutcome (head 1 1 0 0 ++ snv 10 ++ absent 4) ag ≡ refused 5 0
   into-tail : checkCaseOutcome (headUsing 1 1 1 0 (pos 0) ++ snv 10 ++ fragment 1 0 ++ call 0 1 0) ag ≡ refused 5 0
   shared : checkCaseOutcome (head 1 2 1 0 ++ snv 10 ++ fragment 1 0 ++ fragment 1 0 ++ call 0 1 0) ag ≡ refused 5 1
   not-rising : checkCaseOutcome (head 1 1 2 0 ++ snv 10 ++ fragment 1 0 ++ call 0 1 2 ++ call 0 1 0) ag ≡ refused 5 0
@@ -100,6 +102,7 @@ places = record {
   past-link-back = refl;
   free-call = refl;
   unused = refl;
+  muted = refl;
   wrong-strand = refl;
   absent-strand = refl;
   into-tail = refl;

@@ -50,6 +50,11 @@ unfolding countOver
 count-map h [] n = refl
 count-map h (x ∷ xs) n = ap (λ m. n (h x) + m) (count-map h xs n)
 
+pub countOver-cong : {X : Type 0} (xs : List X) (m n : X → ℕ) → ((x : X) → m x ≡ n x) → countOver xs m ≡ countOver xs n
+unfolding countOver
+countOver-cong [] m n e = refl
+countOver-cong (x ∷ xs) m n e = rw (e x, countOver-cong xs m n e)
+
 pub count-same : {X : Type 0} (xs : List X) (m : ℕ) → countOver xs (λ _. m) ≡ m * length xs
 unfolding countOver
 count-same [] m = omega arith

@@ -1,8 +1,9 @@
--- 01, section 2, as amended by request 1: a case, free of its layout. Sections 3 to 7 are definitions over this record.
+-- 01, section 2, as amended by requests 1 and 5: a case, free of its layout. Sections 3 to 7 are definitions over this record.
 -- Assumes nothing.
-use mathlib.Core.Bool.{Bool, false}
+use mathlib.Core.Bool.{Bool, false, _&&_}
 use mathlib.Core.List.{List, []}
-use Prim.Native.Nat.{ℕ}
+use Prim.Native.Nat.{ℕ, _%_}
+use lib.Dec.{ltb}
 use lib.IntN.{ℤ}
 use lib.ListN.{length, getD}
 use lib.Signed.{ltZ}
@@ -23,7 +24,8 @@ pub record Call : Type 0 where
   pub qual : ℤ
   pub one-minus-qual : ℤ
 
--- a fragment: whether it is present, its strand (0 forward, 1 reverse) and its calls by rising variant; an absent one has no calls
+-- a fragment: whether it is present, its strand (0 forward, 1 reverse, 2 muted forward, 3 muted reverse) and its calls by rising variant; an
+-- absent one has no calls
 pub record Fragment : Type 0 where
   pub present : Bool
   pub strand : ℕ
@@ -38,9 +40,17 @@ pub record Case : Type 0 where
 abbrev pub alleleCount : Variant → ℕ
 alleleCount variant = length (variant .alleles)
 
--- a call is usable when its quality is below the cutoff; equality is ambiguous
+-- request 5: a muted fragment stays on file and does not vote
+abbrev pub votes : Fragment → Bool
+votes fragment = ltb (fragment .strand) 2
+
+-- forward (0) or reverse (1), muted or not: the strand's parity
+abbrev pub direction : ℕ → ℕ
+direction strand = strand % 2
+
+-- a call is usable when its quality is below the cutoff and its fragment votes; equality is ambiguous, and so is every call of a muted fragment
 unfoldable pub usable : ℤ → Fragment → Call → Bool
-usable cutoff fragment call = ltZ (call .qual) cutoff
+usable cutoff fragment call = ltZ (call .qual) cutoff && votes fragment
 
 -- what stands past the end of a list of variants or fragments; nothing reads it
 abbrev pub noVariant : Variant

@@ -1,4 +1,4 @@
--- 01, section 2 and numbers 4 and 5 of the table, as amended by requests 1 and 3: the chains. A fragment's chain starts at its first call and
+-- 01, section 2 and numbers 4 and 5 of the table, as amended by requests 1, 3 and 5: the chains. A fragment's chain starts at its first call and
 -- goes on by each call's next; zero ends it, and so does what is no used record. The free chain starts at the head's word 5 and goes on in the
 -- same way. w is the words, s the sizes; r, t are record numbers from 1.
 -- Assumes nothing.
@@ -10,7 +10,7 @@ use lib.Dec.{leb, ltb, eqb}
 use Rattle.variants_and_fragments.specs.declared.Sizes.{Sizes}
 use Rattle.variants_and_fragments.specs.First.{holdsBelow}
 use Rattle.variants_and_fragments.specs.Words.{within}
-use Rattle.variants_and_fragments.specs.Layout.{firstField, strandField, nextField, fragmentWord, callWord, callVariantAt, callOk}
+use Rattle.variants_and_fragments.specs.Layout.{maxStrand, firstField, strandField, nextField, fragmentWord, callWord, callVariantAt, callOk}
 pub use Rattle.variants_and_fragments.specs.Layout.{firstCallAt, presentAt, strandAt, nextCallAt}
 
 -- ---- a chain
@@ -64,10 +64,10 @@ unfolding memb
 goodChain right l [] = true
 goodChain right l (r ∷ rs) = not (memb r l) && (right r && goodChain right (r ∷ l) rs)
 
--- strand 0 or 1, first call in −1..used, and a good chain; of a record that two fragments share the later one is wrong
+-- strand in 0..3, first call in −1..used, and a good chain; of a record that two fragments share the later one is wrong
 unfoldable pub fragmentOk : List ℤ → Sizes → ℕ → Bool
 fragmentOk w s f =
-    within (pos 0) (pos 1) (fragmentWord w s f strandField)
+    within (pos 0) (pos maxStrand) (fragmentWord w s f strandField)
     && (within (negsuc 0) (pos (s .used)) (fragmentWord w s f firstField) && goodChain (linkOk w s) (reached w s f) (chainOf w s f))
 
 -- ---- 5 at place F, the free chain (request 3)

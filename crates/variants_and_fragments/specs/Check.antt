@@ -1,4 +1,4 @@
--- 01, "Refusals by number and place", numbers 1 to 5 as amended by requests 1 and 3: the outcome of the check of a case.
+-- 01, "Refusals by number and place", numbers 1 to 5 as amended by requests 1, 3 and 5: the outcome of the check of a case.
 -- Assumes nothing.
 use mathlib.Core.List.{List, []}
 use Prim.Native.Nat.{ℕ}

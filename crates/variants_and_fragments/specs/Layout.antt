@@ -1,4 +1,4 @@
--- 01, section 2, as amended by requests 1 and 3: the layout of a case, the one place that knows where a word stands; and under the numbers 2 and 4 of
+-- 01, section 2, as amended by requests 1, 3 and 5: the layout of a case, the one place that knows where a word stands; and under the numbers 2 and 4 of
 -- "Refusals by number and place" what is asked of a variant record and of a call record. w is the words, s the sizes.
 -- Assumes nothing.
 use mathlib.Core.Bool.{Bool, true, cond, _&&_}
@@ -12,7 +12,7 @@ use Rattle.variants_and_fragments.specs.declared.Sizes.{Sizes}
 use Rattle.variants_and_fragments.specs.declared.CallWords.{CallWords}
 use Rattle.variants_and_fragments.specs.Words.{word, within, below, natOf, natAt}
 
--- ---- the numbers of section 2, as amended by requests 1 and 3
+-- ---- the numbers of section 2, as amended by requests 1, 3 and 5
 -- words of the head, of a variant, a fragment, a call
 abbrev pub headWords : ℕ
 headWords = 6
@@ -42,6 +42,10 @@ maxAlleles = 3
 
 abbrev pub maxAlleleLength : ℕ
 maxAlleleLength = 64
+
+-- strands are in 0..3 (request 5)
+abbrev pub maxStrand : ℕ
+maxStrand = 3
 
 -- the cutoff and both qualities are in −262144..0
 abbrev pub lowestQuality : ℤ

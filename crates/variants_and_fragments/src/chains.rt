@@ -1,4 +1,4 @@
-// The check of the chains: numbers 4 and 5 of document 01's table, as amended by requests 1 and 3.
+// The check of the chains: numbers 4 and 5 of document 01's table, as amended by requests 1, 3 and 5.
 ghost use mathlib.Core.Path.{_≡_};
 ghost use Prim.Native.Nat.{suc, _+_, _<_, _≤_};
 ghost use lib.Dec.{eqb};
@@ -15,6 +15,7 @@ use crate::Checked;
 use crate::Refusal;
 use crate::Sizes;
 use crate::calls::first_bad_call;
+use crate::layout::MAX_STRAND;
 use crate::layout::call_variant;
 use crate::layout::first_call;
 use crate::layout::first_ok;
@@ -104,7 +105,7 @@ fn fragment_ok(words: &[i32], s: Sizes, f: usize, seen: &mut [u8]) -> bool
     ensures { λ r. ⌜ FragmentChecked (now (words .entry)) s f (now (seen .exit)) r ⌝ }
 {
     let strand = strand_of(words, s, f);
-    if 1 < strand {
+    if MAX_STRAND < strand {
         return false;
     }
     if !first_ok(words, s, f) {

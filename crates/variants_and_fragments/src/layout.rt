@@ -1,4 +1,4 @@
-// The layout of a case, the one file that knows where a word stands: the numbers of section 2 as amended by requests 1 and 3, the readings of a word, a
+// The layout of a case, the one file that knows where a word stands: the numbers of section 2 as amended by requests 1, 3 and 5, the readings of a word, a
 // reader for each field, and a setter for those that arrivals and departures write.
 ghost use mathlib.Core.Path.{_≡_};
 ghost use Prim.Native.Nat.{_+_, _<_, _≤_};
@@ -78,6 +78,11 @@ pub const MAX_ALLELES: usize = 3;
 pub const MAX_ALLELE_LENGTH: usize = 64;
 
 pub const LOWEST_QUALITY: i32 = -262144;
+
+// The last strand, and the first one of muted fragments: 2 forward, 3 reverse.
+pub const MAX_STRAND: usize = 3;
+
+pub const MUTED: usize = 2;
 
 // The first call of a fragment that is absent.
 pub const ABSENT: i32 = -1;

@@ -80,7 +80,7 @@ pub enum VarFilter {
     DensityAndDepthAndStrandBias,
 }
 
-// The check of a case: numbers 1 to 5 of document 01's table as amended by requests 1 and 3, in order, or the sizes that the head gives.
+// The check of a case: numbers 1 to 5 of document 01's table as amended by requests 1, 3 and 5, in order, or the sizes that the head gives.
 pub fn check_case(words: &[i32], bases: &[u8]) -> Checked
     ensures { λ r. ⌜ outcomeOf r ≡ checkCaseOutcome (now (words .entry)) (now (bases .entry)) ⌝ }
 {

@@ -5,7 +5,7 @@ use mathlib.Core.List.{List, [], _∷_}
 use Prim.Native.Nat.{ℕ, _+_, _*_, _≤_, _<_}
 use lib.IntN.{ℤ, pos, natAbs, _+ℤ_, _-ℤ_}
 use lib.ListN.{length, getD, set}
-use Rattle.variants_and_fragments.specs.Case.{Fragment, Call, usable}
+use Rattle.variants_and_fragments.specs.Case.{Fragment, Call, direction, usable}
 use Rattle.variants_and_fragments.specs.First.{holdsBelow}
 use Rattle.variants_and_fragments.specs.Words.{within}
 use Rattle.variants_and_fragments.specs.Written.{written}
@@ -18,12 +18,12 @@ use Rattle.late_reads.specs.Values.{maxCount, readCount}
 abbrev pub addAt : ℤ → ℕ → List ℤ → List ℤ
 addAt d e counts = set counts e (getD counts e (pos 0) +ℤ d)
 
--- the elements at which a call counts: a usable one at its allele, and at its allele on the strand of its read
+-- the elements at which a call counts: a usable one at its allele, and at its allele in the direction of its read
 abbrev pub allelePlace : CountedCall → ℕ
 allelePlace call = 10 * call .variant + call .allele
 
 abbrev pub strandPlace : ℕ → CountedCall → ℕ
-strandPlace strand call = 10 * call .variant + 3 * (1 + strand) + call .allele
+strandPlace strand call = 10 * call .variant + 3 * (1 + direction strand) + call .allele
 
 -- an ambiguous one at the last
 abbrev pub ambiguousPlace : CountedCall → ℕ
@@ -48,10 +48,9 @@ pub record CountsIn (counts : List ℤ) (e : ℕ) (d : ℤ) : Type 0 where
   pub one : natAbs d ≤ 1
 
 -- the ten counts of a call's variant are there and in range
-pub record Countable (counts : List ℤ) (strand : ℕ) (d : ℤ) (call : CountedCall) : Type 0 where
+pub record Countable (counts : List ℤ) (d : ℤ) (call : CountedCall) : Type 0 where
   pub variant-in : call .variant < 1024
   pub allele-in : call .allele < 3
-  pub strand-in : strand ≤ 1
   pub each-in : (j : ℕ) → j < 10 → CountsIn counts (10 * call .variant + j) d
 
 -- a call of read x as the counts see it

@@ -10,7 +10,7 @@ use Rattle.variants_and_fragments.specs.declared.Sizes.{Sizes}
 use Rattle.variants_and_fragments.specs.Case.{Fragment, Call, usable}
 use Rattle.variants_and_fragments.specs.Chain.{presentAt}
 use Rattle.variants_and_fragments.specs.Decode.{fragmentFrom}
-use Rattle.variants_and_fragments.specs.Layout.{cutoffAt}
+use Rattle.variants_and_fragments.specs.Layout.{maxStrand, cutoffAt}
 use Rattle.variants_and_fragments.specs.Refusals.{Outcome, done, unless, each, Promise}
 use Rattle.variants_and_fragments.specs.Words.{within}
 use Rattle.variants_and_fragments.specs.Inner.Accepted.{CaseIn}
@@ -38,7 +38,7 @@ pub record Arriving (w : List ℤ) (s : Sizes) (f : ℕ) (strand : ℤ) (calls :
   pub each-in : (i : ℕ) → i < wholeCalls calls → arrivingOk w s calls i ≡ true
   pub each-rises : (i : ℕ) → i < wholeCalls calls → arrivingRises calls i ≡ true
   pub whole : length calls ≡ arrivingWords * wholeCalls calls
-  pub strand-in : within (pos 0) (pos 1) strand ≡ true
+  pub strand-in : within (pos 0) (pos maxStrand) strand ≡ true
   pub below : f < s .f
   pub absent : presentAt w s f ≡ false
   pub fits : wholeCalls calls ≤ length (room w s)
@@ -49,7 +49,7 @@ arrivingTests w s f strand calls =
     let m = wholeCalls calls in
     each 4 (arrivingOk w s calls) 0 m
     (each 5 (arrivingRises calls) 0 m
-    (unless (eqb (length calls) (arrivingWords * m) && within (pos 0) (pos 1) strand) 5 m
+    (unless (eqb (length calls) (arrivingWords * m) && within (pos 0) (pos maxStrand) strand) 5 m
     (unless (ltb f (s .f) && not (presentAt w s f)) 13 f
     (unless (leb m (length (room w s))) 14 m
     (done s)))))

@@ -9,7 +9,7 @@ use lib.Dec.{eqb, ltb}
 use lib.IntN.{ℤ, pos, natAbs, _+ℤ_, _-ℤ_}
 use lib.ListN.{length, getD, set, drop, replicate}
 use Rattle.variants_and_fragments.specs.declared.Sizes.{Sizes}
-use Rattle.variants_and_fragments.specs.Case.{Call}
+use Rattle.variants_and_fragments.specs.Case.{Call, direction}
 use Rattle.variants_and_fragments.specs.Decode.{tabulate}
 use Rattle.variants_and_fragments.specs.Layout.{strandAt, alleleCountAt}
 use Rattle.variants_and_fragments.specs.Pileup.{Row, only}
@@ -45,12 +45,12 @@ oneGain call = mixOf (call .qual) (call .one-minus-qual) -ℤ call .qual
 unfoldable pub gainAt : (Call → ℤ) → ℕ → Row → ℤ
 gainAt gain x row = cond (eqb (row .call .allele) x) (gain (row .call)) (pos 0)
 
--- a row shows allele x on a strand, and where it is counted
+-- a row shows allele x in a direction, and where it is counted
 abbrev pub shownOn : List ℤ → Sizes → ℕ → ℕ → Row → Bool
-shownOn w s strand x row = eqb (strandAt w s (row .fragment)) strand && eqb (row .call .allele) x
+shownOn w s strand x row = eqb (direction (strandAt w s (row .fragment))) strand && eqb (row .call .allele) x
 
 abbrev pub countPlace : List ℤ → Sizes → Row → ℕ
-countPlace w s row = 3 * strandAt w s (row .fragment) + row .call .allele
+countPlace w s row = 3 * direction (strandAt w s (row .fragment)) + row .call .allele
 
 -- the gains of three alleles where both match, then where one does; and the counts of two strands. None is near the end of its type
 pub record GainsIn (gains : List ℤ) : Type 0 where

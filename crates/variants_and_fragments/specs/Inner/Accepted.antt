@@ -8,7 +8,7 @@ use lib.ListN.{length, getD}
 use lib.IntN.{ℤ, pos, negsuc}
 use Rattle.variants_and_fragments.specs.declared.Sizes.{Sizes}
 use Rattle.variants_and_fragments.specs.Words.{within}
-use Rattle.variants_and_fragments.specs.Layout.{firstField, fragmentWord, sizesOf, cutoffAt, lowestQuality, alleleCountAt, callVariantAt, calledAlleleAt, qualAt, oneMinusQualAt, callOk}
+use Rattle.variants_and_fragments.specs.Layout.{maxStrand, firstField, fragmentWord, sizesOf, cutoffAt, lowestQuality, alleleCountAt, callVariantAt, calledAlleleAt, qualAt, oneMinusQualAt, callOk}
 use Rattle.variants_and_fragments.specs.Inner.Layout.{Sized}
 use Rattle.variants_and_fragments.specs.Chain.{strandAt, chainOf, linkOk, nextOk, goodChain, reached, inChain, freeChain}
 use Rattle.variants_and_fragments.specs.Alleles.{allelesStart, isBase}
@@ -28,7 +28,7 @@ pub record CallIn (w : List ℤ) (s : Sizes) (r : ℕ) : Type 0 where
 
 -- a fragment and its own chain
 pub record FragmentIn (w : List ℤ) (s : Sizes) (f : ℕ) : Type 0 where
-  pub strand-in : strandAt w s f ≤ 1
+  pub strand-in : strandAt w s f ≤ maxStrand
   pub first-in : within (negsuc 0) (pos (s .used)) (fragmentWord w s f firstField) ≡ true
   pub right : goodChain (linkOk w s) (reached w s f) (chainOf w s f) ≡ true
   pub calls : allb (callOk w s) (chainOf w s f) ≡ true

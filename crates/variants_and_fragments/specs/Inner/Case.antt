@@ -55,8 +55,8 @@ pub record GoodCall (variants : List Variant) (call : Call) : Type 0 where
 pub record GoodFragment (variants : List Variant) (fragment : Fragment) : Type 0 where
   -- an absent one has no calls
   pub absent : fragment .present ≡ false → fragment .calls ≡ []
-  -- strand (0 forward, 1 reverse)
-  pub strand-in : fragment .strand ≤ 1
+  -- strand (0..3)
+  pub strand-in : fragment .strand ≤ 3
   pub calls-in : All (GoodCall variants) (fragment .calls)
   -- variants rise strictly along a chain
   pub rises : rising (fragment .calls) ≡ true

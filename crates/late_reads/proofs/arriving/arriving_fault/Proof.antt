@@ -18,6 +18,7 @@ use Rattle.variants_and_fragments.specs.declared.Sizes.{Sizes}
 use Rattle.variants_and_fragments.specs.Chain.{presentAt}
 use Rattle.variants_and_fragments.specs.Check.{outcomeOf}
 use Rattle.variants_and_fragments.specs.First.{firstFail}
+use Rattle.variants_and_fragments.specs.Layout.{maxStrand}
 use Rattle.variants_and_fragments.specs.Refusals.{Outcome, refused, done, unless, each}
 use Rattle.variants_and_fragments.specs.Words.{natOf, within}
 use Rattle.variants_and_fragments.proofs.Outcomes.{unless-on, unless-at, each-on, each-at}
@@ -57,7 +58,7 @@ abbrev absentLine : tie.Start → Outcome Sizes
 absentLine st = unless (ltb (F st) (S st .f) && not (presentAt (W st) (S st) (F st))) 13 (F st) (roomLine st)
 
 abbrev strandLine : tie.Start → Outcome Sizes
-strandLine st = unless (eqb (length (Calls st)) (arrivingWords * M st) && within (pos 0) (pos 1) (Strand st)) 5 (M st) (absentLine st)
+strandLine st = unless (eqb (length (Calls st)) (arrivingWords * M st) && within (pos 0) (pos maxStrand) (Strand st)) 5 (M st) (absentLine st)
 
 abbrev risesLine : tie.Start → Outcome Sizes
 risesLine st = each 5 (arrivingRises (Calls st)) 0 (M st) (strandLine st)
@@ -95,9 +96,9 @@ strand-read c = let f : SFits w32 (Strand (st3 c)) = search needs in rw (toZ-ofZ
 
 -- the test of the length and the strand
 abbrev whole : tie.Start → Bool
-whole st = eqb (length (Calls st)) (arrivingWords * M st) && within (pos 0) (pos 1) (Strand st)
+whole st = eqb (length (Calls st)) (arrivingWords * M st) && within (pos 0) (pos maxStrand) (Strand st)
 
-strand-test : (st : tie.Start) → whole st ≡ not (not (eqb (length (Calls st)) (arrivingWords * M st)) || ltb 1 (natOf (Strand st)))
+strand-test : (st : tie.Start) → whole st ≡ not (not (eqb (length (Calls st)) (arrivingWords * M st)) || ltb maxStrand (natOf (Strand st)))
 strand-test st = length-and-strand (length (Calls st)) (arrivingWords * M st) (Strand st)
 
 after-strand : (c : tie.Else3) → absentLine (st3 (c .before)) ≡ tests (st3 (c .before))

@@ -19,7 +19,7 @@ use Rattle.late_reads.proofs.counts.arriving_fits.Statement.{statement}
 use Rattle.late_reads.proofs.counts.arriving_fits.Tie as tie
 use Rattle.late_reads.proofs.CountRuns.{Fitting, arriving-fit-start, fit-end, fit-countable, fit-stop, fit-on}
 use Rattle.late_reads.proofs.Places.{same-fits}
-use Rattle.late_reads.proofs.ReadCalls.{arrivingLeft, arriving-left, arriving-more, arriving-out, arriving-rises, arriving-strand}
+use Rattle.late_reads.proofs.ReadCalls.{arrivingLeft, arriving-left, arriving-more, arriving-out, arriving-rises}
 
 abbrev Inv-loop : tie.InvT-loop
 Inv-loop words s arrival calls counts m strand i₀ i =
@@ -36,9 +36,6 @@ st c = c .before .before .before
 abbrev read : tie.Start Inv-loop μ-loop → Fragment
 read c = arrivingRead (c .args .arrival .strand) (now (c .args .calls))
 
-strand-in : (c : tie.Start Inv-loop μ-loop) → read c .strand ≤ 1
-strand-in c = arriving-strand (c .pre .0) (c .pre .1 .0)
-
 strand-is : (c : tie.After-nat-of Inv-loop μ-loop) → c .nat-of .result ≡ read (c .before .before) .strand
 unfolding arrivingRead
 strand-is c =
@@ -53,28 +50,28 @@ loop-holds : tie.Need-loop-holds Inv-loop μ-loop
 loop-holds c =
     let s = c .before .before in
     let p = s .pre in
-    (omega arith, arriving-fit-start _ (read s) (strand-in s) (arriving-rises (p .0) (p .1 .0)) (arriving-left (now (s .args .calls)) _) (now (s .args .counts)) (p .1 .1 .0) (p .1 .1 .1))
+    (omega arith, arriving-fit-start _ (read s) (arriving-rises (p .0) (p .1 .0)) (arriving-left (now (s .args .calls)) _) (now (s .args .counts)) (p .1 .1 .0) (p .1 .1 .1))
 
 call-fits-requires : tie.Need-call-fits-requires Inv-loop μ-loop
 call-fits-requires c κs =
     let l = c .before .before in
     let s = st l in
-    rw (c .arriving-call .ensures, strand-is (l .before))
-    (fit-countable (l .loop .inv .1) (arriving-more (now (s .args .calls)) (l .loop .i) (c .before .loop-test .taken)) (strand-in s) (omega arith) (s .pre .0 .sized .n-top))
+    rw (c .arriving-call .ensures)
+    (fit-countable (l .loop .inv .1) (arriving-more (now (s .args .calls)) (l .loop .i) (c .before .loop-test .taken)) (omega arith) (s .pre .0 .sized .n-top))
 
 returns : tie.Need-returns Inv-loop μ-loop
 returns c =
     let t = c .before in
     let l = t .before .before .before in
     let s = st l in
-    fit-stop (l .loop .inv .1) (arriving-more (now (s .args .calls)) (l .loop .i) (t .before .before .loop-test .taken)) (strand-in s) (sym (tested t) ∙ not-true _ (c .if1 .taken))
+    fit-stop (l .loop .inv .1) (arriving-more (now (s .args .calls)) (l .loop .i) (t .before .before .loop-test .taken)) (sym (tested t) ∙ not-true _ (c .if1 .taken))
 
 loop-again : tie.Need-loop-again Inv-loop μ-loop
 loop-again c =
     let t = c .before in
     let l = t .before .before .before in
     let s = st l in
-    (omega arith, fit-on (l .loop .inv .1) (arriving-more (now (s .args .calls)) (l .loop .i) (t .before .before .loop-test .taken)) (strand-in s) (sym (tested t) ∙ not-false _ (c .if1 .left)))
+    (omega arith, fit-on (l .loop .inv .1) (arriving-more (now (s .args .calls)) (l .loop .i) (t .before .before .loop-test .taken)) (sym (tested t) ∙ not-false _ (c .if1 .left)))
 
 returns-2 : tie.Need-returns-2 Inv-loop μ-loop
 returns-2 c = let l = c .before in fit-end (l .loop .inv .1) (arriving-out (now (st l .args .calls)) (l .loop .i) (c .loop-test .left))

@@ -11,7 +11,7 @@ fits-at-requires : tie.Need-fits-at-requires
 fits-at-requires c κs = let st = c .before .before .before in rw (toZ-ofZ (st .fits .d)) (at-allele (st .pre))
 
 fits-at-requires-2 : tie.Need-fits-at-requires-2
-fits-at-requires-2 c κs = let st = c .before .before .before .before .before in rw (toZ-ofZ (st .fits .d)) (at-strand (st .pre))
+fits-at-requires-2 c κs = let st = c .before .before .before .before .before in rw (toZ-ofZ (st .fits .d)) (at-strand (st .pre) (st .args .strand))
 
 returns : tie.Need-returns
 unfolding callFits

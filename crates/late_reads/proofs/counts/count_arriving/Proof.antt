@@ -20,7 +20,7 @@ use Rattle.late_reads.proofs.counts.count_arriving.Statement.{statement
 use Rattle.late_reads.proofs.counts.count_arriving.Tie as tie
 use Rattle.late_reads.proofs.CountRuns.{Adding, arriving-start, add-end, add-countable, add-on}
 use Rattle.late_reads.proofs.Places.{same-count}
-use Rattle.late_reads.proofs.ReadCalls.{arrivingLeft, arriving-left, arriving-more, arriving-out, arriving-rises, arriving-strand}
+use Rattle.late_reads.proofs.ReadCalls.{arrivingLeft, arriving-left, arriving-more, arriving-out, arriving-rises}
 
 abbrev Inv-loop : tie.InvT-loop
 Inv-loop words s arrival calls counts₀ m strand i₀ counts i =
@@ -37,9 +37,6 @@ st c = c .before .before .before
 abbrev read : tie.Start Inv-loop μ-loop → Fragment
 read c = arrivingRead (c .args .arrival .strand) (now (c .args .calls))
 
-strand-in : (c : tie.Start Inv-loop μ-loop) → read c .strand ≤ 1
-strand-in c = arriving-strand (c .pre .0) (c .pre .1 .0)
-
 strand-is : (c : tie.After-nat-of Inv-loop μ-loop) → c .nat-of .result ≡ read (c .before .before) .strand
 unfolding arrivingRead
 strand-is c =
@@ -50,15 +47,15 @@ loop-holds : tie.Need-loop-holds Inv-loop μ-loop
 loop-holds c =
     let s = c .before .before in
     let p = s .pre in
-    (omega arith, arriving-start _ (read s) (strand-in s) (arriving-rises (p .0) (p .1 .0)) (arriving-left (now (s .args .calls)) _) (now (s .args .counts)) (p .1 .1 .0) (p .1 .1 .1))
+    (omega arith, arriving-start _ (read s) (arriving-rises (p .0) (p .1 .0)) (arriving-left (now (s .args .calls)) _) (now (s .args .counts)) (p .1 .1 .0) (p .1 .1 .1))
 
 count-call-requires : tie.Need-count-call-requires Inv-loop μ-loop
 count-call-requires c κs =
     let turn = c .before .before in
     let l = turn .before in
     let s = st l in
-    rw (c .arriving-call .ensures, strand-is (l .before))
-    (add-countable (l .loop .inv .1) (arriving-more (now (s .args .calls)) (l .loop .i) (turn .loop-test .taken)) (strand-in s) (omega arith) (s .pre .0 .sized .n-top))
+    rw (c .arriving-call .ensures)
+    (add-countable (l .loop .inv .1) (arriving-more (now (s .args .calls)) (l .loop .i) (turn .loop-test .taken)) (omega arith) (s .pre .0 .sized .n-top))
 
 loop-again : tie.Need-loop-again Inv-loop μ-loop
 loop-again c =
@@ -67,7 +64,7 @@ loop-again c =
     let l = turn .before in
     let s = st l in (
       omega arith,
-      add-on (l .loop .inv .1) (arriving-more (now (s .args .calls)) (l .loop .i) (turn .loop-test .taken)) (strand-in s) _
+      add-on (l .loop .inv .1) (arriving-more (now (s .args .calls)) (l .loop .i) (turn .loop-test .taken)) _
           (t .count-call .ensures ∙ same-count (pos 1) (strand-is (l .before)) (t .before .arriving-call .ensures) _),
     )
 

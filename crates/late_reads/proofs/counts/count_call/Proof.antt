@@ -14,7 +14,7 @@ add-at-requires-2 : tie.Need-add-at-requires-2
 add-at-requires-2 c κs =
     let one = c .before .before .before in
     let st = one .before .before .before .before .before in
-    rw (one .add-at .ensures, toZ-ofZ (st .fits .d)) (at-strand-next (st .pre))
+    rw (one .add-at .ensures, toZ-ofZ (st .fits .d)) (at-strand-next (st .pre) (st .args .strand))
 
 add-at-requires-3 : tie.Need-add-at-requires-3
 add-at-requires-3 c κs = let st = c .before .before .before in rw (toZ-ofZ (st .fits .d)) (at-ambiguous (st .pre))

@@ -18,8 +18,8 @@ use Rattle.late_reads.specs.Inner.Counting.{countsDeparted}
 use Rattle.late_reads.proofs.counts.count_departing.Statement.{statement}
 use Rattle.late_reads.proofs.counts.count_departing.Tie as tie
 use Rattle.late_reads.proofs.CountRuns.{Adding, departing-start, add-end, add-countable, add-on}
-use Rattle.late_reads.proofs.Places.{same-count, same-countable}
-use Rattle.late_reads.proofs.ReadCalls.{chainLeft, chain-left, chain-over, chain-out, chain-rises, chain-strand, ChainTurn, chain-turn}
+use Rattle.late_reads.proofs.Places.{same-count}
+use Rattle.late_reads.proofs.ReadCalls.{chainLeft, chain-left, chain-over, chain-out, chain-rises, ChainTurn, chain-turn}
 
 abbrev Inv-loop : tie.InvT-loop
 Inv-loop words s f counts₀ c cutoff strand r₀ k₀ counts r k =
@@ -38,9 +38,6 @@ st l = l .before .before .before .before
 
 abbrev read : tie.At-loop Inv-loop μ-loop → Fragment
 read l = fragmentFrom (st l .args .words .now) (st l .args .s) (st l .args .f)
-
-strand-in : (l : tie.At-loop Inv-loop μ-loop) → read l .strand ≤ 1
-strand-in l = chain-strand (st l .pre .0) (st l .args .f) (st l .pre .1 .0)
 
 strand-is : (l : tie.At-loop Inv-loop μ-loop) → l .before .before .strand-of .result ≡ read l .strand
 unfolding fragmentFrom
@@ -64,7 +61,7 @@ loop-holds c =
     let w = a .words .now in
     let e = c .first-call .ensures in (
       onward-start w (a .s) (a .f) _ e (p .0 .frags _ (p .1 .0)),
-      rw e (departing-start _ _ (chain-strand (p .0) (a .f) (p .1 .0)) (chain-rises (p .0) (a .f) (p .1 .0)) (chain-left w (a .s) (a .f)) (a .counts .now) (p .1 .1 .0) (p .1 .1 .1)),
+      rw e (departing-start _ _ (chain-rises (p .0) (a .f) (p .1 .0)) (chain-left w (a .s) (a .f)) (a .counts .now) (p .1 .1 .0) (p .1 .1 .1)),
     )
 
 returns : tie.Need-returns Inv-loop μ-loop
@@ -76,13 +73,13 @@ same-length c = ap length (returns c) ∙ simp written-length
 count-call-requires : tie.Need-count-call-requires Inv-loop μ-loop
 count-call-requires c κs =
     let l = lp c in
-    same-countable _ (strand-is l) (turn c .counted-is) _ (add-countable (l .loop .inv .1) (turn c .left-is) (strand-in l) (omega arith) (st l .pre .0 .sized .n-top))
+    rw (turn c .counted-is) (add-countable (l .loop .inv .1) (turn c .left-is) (omega arith) (st l .pre .0 .sized .n-top))
 
 loop-again : tie.Need-loop-again Inv-loop μ-loop
 loop-again c =
     let t = c .before .before in
     let l = lp t in
-    (turn t .on, add-on (l .loop .inv .1) (turn t .left-is) (strand-in l) _ (c .before .count-call .ensures ∙ same-count (negsuc 0) (strand-is l) (turn t .counted-is) _))
+    (turn t .on, add-on (l .loop .inv .1) (turn t .left-is) _ (c .before .count-call .ensures ∙ same-count (negsuc 0) (strand-is l) (turn t .counted-is) _))
 
 returns-2 : tie.Need-returns-2 Inv-loop μ-loop
 returns-2 c = let l = c .before in add-end (l .loop .inv .1) (chain-out _ _ (l .loop .k) (l .loop .r) (c .loop-test .left))

@@ -17,8 +17,8 @@ use Rattle.late_reads.specs.Inner.Counting.{callFits, countedCall, count
 use Rattle.late_reads.proofs.counts.departing_fits.Statement.{statement}
 use Rattle.late_reads.proofs.counts.departing_fits.Tie as tie
 use Rattle.late_reads.proofs.CountRuns.{Fitting, departing-fit-start, fit-end, fit-countable, fit-stop, fit-on}
-use Rattle.late_reads.proofs.Places.{same-fits, same-countable}
-use Rattle.late_reads.proofs.ReadCalls.{chainLeft, chain-left, chain-over, chain-out, chain-rises, chain-strand, ChainTurn, chain-turn}
+use Rattle.late_reads.proofs.Places.{same-fits}
+use Rattle.late_reads.proofs.ReadCalls.{chainLeft, chain-left, chain-over, chain-out, chain-rises, ChainTurn, chain-turn}
 
 abbrev Inv-loop : tie.InvT-loop
 Inv-loop words s f counts c cutoff strand r₀ k₀ r k =
@@ -37,9 +37,6 @@ st l = l .before .before .before .before
 
 abbrev read : tie.At-loop Inv-loop μ-loop → Fragment
 read l = fragmentFrom (st l .args .words .now) (st l .args .s) (st l .args .f)
-
-strand-in : (l : tie.At-loop Inv-loop μ-loop) → read l .strand ≤ 1
-strand-in l = chain-strand (st l .pre .0) (st l .args .f) (st l .pre .1 .0)
 
 strand-is : (l : tie.At-loop Inv-loop μ-loop) → l .before .before .strand-of .result ≡ read l .strand
 unfolding fragmentFrom
@@ -67,7 +64,7 @@ loop-holds c =
     let w = a .words .now in
     let e = c .first-call .ensures in (
       onward-start w (a .s) (a .f) _ e (p .0 .frags _ (p .1 .0)),
-      rw e (departing-fit-start _ _ (chain-strand (p .0) (a .f) (p .1 .0)) (chain-rises (p .0) (a .f) (p .1 .0)) (chain-left w (a .s) (a .f)) (a .counts .now) (p .1 .1 .0) (p .1 .1 .1)),
+      rw e (departing-fit-start _ _ (chain-rises (p .0) (a .f) (p .1 .0)) (chain-left w (a .s) (a .f)) (a .counts .now) (p .1 .1 .0) (p .1 .1 .1)),
     )
 
 returns : tie.Need-returns Inv-loop μ-loop
@@ -76,19 +73,19 @@ returns c = let l = c .before .before .before .before in fit-end (l .loop .inv .
 call-fits-requires : tie.Need-call-fits-requires Inv-loop μ-loop
 call-fits-requires c κs =
     let l = lp c in
-    same-countable _ (strand-is l) (turn c .counted-is) _ (fit-countable (l .loop .inv .1) (turn c .left-is) (strand-in l) (omega arith) (st l .pre .0 .sized .n-top))
+    rw (turn c .counted-is) (fit-countable (l .loop .inv .1) (turn c .left-is) (omega arith) (st l .pre .0 .sized .n-top))
 
 returns-2 : tie.Need-returns-2 Inv-loop μ-loop
 returns-2 c =
     let t = c .before in
     let l = lp (t .before) in
-    fit-stop (l .loop .inv .1) (turn (t .before) .left-is) (strand-in l) (sym (tested t) ∙ not-true _ (c .if1 .taken))
+    fit-stop (l .loop .inv .1) (turn (t .before) .left-is) (sym (tested t) ∙ not-true _ (c .if1 .taken))
 
 loop-again : tie.Need-loop-again Inv-loop μ-loop
 loop-again c =
     let t = c .before in
     let l = lp (t .before) in
-    (turn (t .before) .on, fit-on (l .loop .inv .1) (turn (t .before) .left-is) (strand-in l) (sym (tested t) ∙ not-false _ (c .if1 .left)))
+    (turn (t .before) .on, fit-on (l .loop .inv .1) (turn (t .before) .left-is) (sym (tested t) ∙ not-false _ (c .if1 .left)))
 
 returns-3 : tie.Need-returns-3 Inv-loop μ-loop
 returns-3 c = let l = c .before in fit-end (l .loop .inv .1) (chain-out _ _ (l .loop .k) (l .loop .r) (c .loop-test .left))

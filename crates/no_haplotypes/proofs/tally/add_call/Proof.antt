@@ -11,6 +11,7 @@ use lib.Seq.{getD-set-other}
 use mir.Syntax.{w64}
 use mir.Val.{toZ, ofZ}
 use Rattle.steps.proofs.Signed.{minus-fits, minus-read}
+use Rattle.variants_and_fragments.specs.Case.{direction}
 use Rattle.variants_and_fragments.specs.Layout.{strandAt}
 use Rattle.variants_and_fragments.specs.Pileup.{Row}
 use Rattle.pileup.specs.declared.row.Row.{Row as RowHeld}
@@ -131,15 +132,15 @@ add-gain-requires-2 c κs =
 abbrev strand-before : tie.After-count-one-arg → tie.After-strand-of
 strand-before c = c .before .before .before .before .before
 
-place-is : (d : tie.After-strand-of) → 3 * d .strand-of .result + allele (unpacked (mixing d)) ≡ countPlace (now (st (unpacked (mixing d)) .args .words)) (st (unpacked (mixing d)) .args .s) (row (unpacked (mixing d)))
+place-is : (d : tie.After-strand-of) → 3 * direction (d .strand-of .result) + allele (unpacked (mixing d)) ≡ countPlace (now (st (unpacked (mixing d)) .args .words)) (st (unpacked (mixing d)) .args .s) (row (unpacked (mixing d)))
 place-is d =
     let u = unpacked (mixing d) in
     omega (arith, d .strand-of .ensures, ap (λ (r : RowHeld). strandAt (now (st u .args .words)) (st u .args .s) (r .fragment)) (u .unpack .ensures), allele-is u)
 
-place-in : (d : tie.After-strand-of) → 3 * d .strand-of .result + allele (unpacked (mixing d)) < 6
+place-in : (d : tie.After-strand-of) → 3 * direction (d .strand-of .result) + allele (unpacked (mixing d)) < 6
 place-in d =
     let u = unpacked (mixing d) in
-    omega (arith, place-is d, row-in u .allele-in, st u .pre .0 .1 .frags (row u .fragment) (row-in u .fragment-in) .strand-in)
+    omega (arith, place-is d, row-in u .allele-in)
 
 mul-count-one : tie.Need-mul-count-one
 mul-count-one c = omega (arith, place-in (strand-before c))

@@ -75,7 +75,7 @@ loop-again c =
     let s = st l in
     let i = row-in l in
     let e = plus-read w64 (l .before .loop .total .0) (d .add-call .result .0) (total-small d) in
-    let k = tallied-on (l .before .loop .inv .2) (rowAt (now (s .args .piles)) (l .before .loop .c)) (i .allele-in) (s .pre .0 .1 .frags _ (i .fragment-in) .strand-in) (d .add-call .ensures) in
+    let k = tallied-on (l .before .loop .inv .2) (rowAt (now (s .args .piles)) (l .before .loop .c)) (i .allele-in) (d .add-call .ensures) in
     (omega (arith, l .before .loop .inv .0), omega (arith, l .loop-test .taken), rw (e, rows-more (now (s .args .piles)) (s .args .pile .start) (l .before .loop .c) (l .before .loop .inv .0)) k)
 
 returns : tie.Need-returns Inv-loop μ-loop

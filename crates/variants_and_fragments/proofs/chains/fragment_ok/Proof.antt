@@ -4,15 +4,15 @@ use mathlib.Core.Path.{refl, sym, _∙_}
 use Prim.Native.Nat.{_≤_}
 use borrow.Author.Tests.{not-true, not-false}
 use Rattle.variants_and_fragments.specs.Chain.{reached}
-use Rattle.variants_and_fragments.specs.Layout.{strandAt}
+use Rattle.variants_and_fragments.specs.Layout.{maxStrand, strandAt}
 use Rattle.variants_and_fragments.proofs.Bools.{true-false}
 use Rattle.variants_and_fragments.proofs.Chain.{frag-strand, frag-first, frag-in}
 use borrow.Author.Needs.{needs}
 use Rattle.variants_and_fragments.proofs.chains.fragment_ok.Statement.{statement}
 use Rattle.variants_and_fragments.proofs.chains.fragment_ok.Tie as tie
 
--- the strand is 0 or 1
-strand-in : (c : tie.Else1) → strandAt (c .before .before .before .args .words .now) (c .before .before .before .args .s) (c .before .before .before .args .f) ≤ 1
+-- the strand is in its range
+strand-in : (c : tie.Else1) → strandAt (c .before .before .before .args .words .now) (c .before .before .before .args .s) (c .before .before .before .args .f) ≤ maxStrand
 strand-in c = rw (c .before .strand-of .ensures) at (c .if1 .left)
 
 strand-of-requires : tie.Need-strand-of-requires

@@ -1,0 +1,6 @@
+pub mod Emptied
+pub mod OneUnmuted
+pub mod AllUnmuted
+pub mod MutedRead
+pub mod SameCalls
+pub mod SameAnswers

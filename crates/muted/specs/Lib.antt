@@ -1,0 +1,3 @@
+pub mod Unmuted
+pub mod SameAnswers
+pub mod MutedRead
