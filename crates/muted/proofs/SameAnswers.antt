@@ -53,7 +53,7 @@ use Rattle.late_reads.proofs.KeptCase.{kept-checked}
 use Rattle.muted.specs.Unmuted.{unmuted, unmutedCase, unmutedWords}
 use Rattle.muted.specs.SameAnswers.{besideWords, SameAnswers, AsUnmuted}
 use Rattle.muted.proofs.AllUnmuted.{checked-unmuted, accepted-unmuted, free-unmuted, decoded-unmuted}
-use Rattle.muted.proofs.SameCalls.{present-same, direction-same, all-calls-same, count-same, frags-same, rows-same, ambiguous-from-same, lines-same, line-count-same, fragment-there}
+use Rattle.muted.proofs.SameCalls.{votes-unmuted, present-same, direction-same, all-calls-same, count-same, frags-same, rows-same, ambiguous-from-same, lines-same, line-count-same, fragment-there}
 
 -- ---- of a case whose cutoff is not above 0: calling without haplotypes
 module _ (case : Case) (low : leZ (case .cutoff) (pos 0) ≡ true) where
@@ -331,5 +331,11 @@ module _ (w : List ℤ) (b : List ℕ) (s : Sizes) (ok : checkCaseOutcome w b �
     depart = λ phase haps kept f. (depart-same phase haps kept f, depart-written phase haps kept f);
   }
 
-pub as-unmuted : AsUnmuted
-as-unmuted = record { accepted = accepted-unmuted; stands = decoded-unmuted; same = same-answers }
+-- of every accepted input
+pub as-unmuted : (w : List ℤ) (b : List ℕ) (s : Sizes) → checkCaseOutcome w b ≡ done s → AsUnmuted w b s
+as-unmuted w b s ok = record {
+  accepted = accepted-unmuted w b s ok;
+  stands = decoded-unmuted w b s ok;
+  voting = λ f. rw (fragment-there (decode w b) f) (votes-unmuted (fragmentOf (decode w b) f));
+  same = same-answers w b s ok;
+}

@@ -6,6 +6,7 @@ use mathlib.Core.Bool.{Bool, true, false, cond, not, _&&_}
 use mathlib.Core.List.{List, [], _∷_, map}
 use Prim.Native.Nat.{ℕ, suc, _/_, _%_}
 use native.Mathlib.Omega.{arith}
+use borrow.Author.Tests.{lt-ltb}
 use lib.Dec.{eqb}
 use lib.IntN.{ℤ, pos}
 use lib.ListN.{length, length-map, List·getD-map}
@@ -39,6 +40,9 @@ by-vote g x h = by-test (votes x) (λ v. ap g (voting-same x v)) (λ m. ap g (mu
 calls-at : (v : ℕ) (calls : List Call) → length (only (λ (call : Call). eqb (call .variant) v) (map emptied calls)) ≡ length (only (λ (call : Call). eqb (call .variant) v) calls)
 unfolding emptied
 calls-at v calls = ap length (only-map emptied (λ (call : Call). eqb (call .variant) v) calls) ∙ length-map (only (λ (call : Call). eqb (call .variant) v) calls) emptied
+
+pub votes-unmuted : (x : Fragment) → votes (unmuted x) ≡ true
+votes-unmuted x = by-test (votes x) (λ v. ap votes (voting-same x v) ∙ v) (λ m. ap votes (muted-quiet x m) ∙ lt-ltb (direction (x .strand)) 2 (omega arith))
 
 pub present-same : (x : Fragment) → unmuted x .present ≡ x .present
 present-same x = by-vote (λ y. y .present) x (λ m. refl)

@@ -1,12 +1,13 @@
 -- Request 5: every operation answers as on the case of the reference run, and writes the same.
 -- Assumes nothing.
 use mathlib.Core.Path.{_≡_}
-use mathlib.Core.Bool.{Bool}
+use mathlib.Core.Bool.{Bool, true}
 use mathlib.Core.List.{List}
 use Prim.Native.Nat.{ℕ}
 use lib.Ieee.{Float}
 use lib.IntN.{ℤ}
 use Rattle.variants_and_fragments.specs.declared.Sizes.{Sizes}
+use Rattle.variants_and_fragments.specs.Case.{votes, fragmentOf}
 use Rattle.variants_and_fragments.specs.Check.{checkCaseOutcome}
 use Rattle.variants_and_fragments.specs.Decode.{decode}
 use Rattle.variants_and_fragments.specs.Refusals.{Outcome, done}
@@ -63,9 +64,11 @@ pub record SameAnswers (b : List ℕ) (w w' : List ℤ) : Type 0 where
       → let here = lateInput w b phase haps kept in let there = lateInput w' b phase haps kept in
       Same (departOutcome here f) (besideWords (departWritten here f)) (departOutcome there f) (besideWords (departWritten there f))
 
--- of every accepted case, the words of its reference run are accepted and stand for it, and each operation answers and writes the same: `as-unmuted` of
--- proofs/SameAnswers.antt
-pub record AsUnmuted : Type 0 where
-  pub accepted : (w : List ℤ) (b : List ℕ) (s : Sizes) → checkCaseOutcome w b ≡ done s → checkCaseOutcome (unmutedWords w) b ≡ done s
-  pub stands : (w : List ℤ) (b : List ℕ) (s : Sizes) → checkCaseOutcome w b ≡ done s → decode (unmutedWords w) b ≡ unmutedCase (decode w b)
-  pub same : (w : List ℤ) (b : List ℕ) (s : Sizes) → checkCaseOutcome w b ≡ done s → SameAnswers b w (unmutedWords w)
+-- of an accepted case, with these words, bases and sizes: `as-unmuted` of proofs/SameAnswers.antt
+pub record AsUnmuted (w : List ℤ) (b : List ℕ) (s : Sizes) : Type 0 where
+  -- the words of the reference run are accepted, stand for its case, and no fragment of it is muted
+  pub accepted : checkCaseOutcome (unmutedWords w) b ≡ done s
+  pub stands : decode (unmutedWords w) b ≡ unmutedCase (decode w b)
+  pub voting : (f : ℕ) → votes (fragmentOf (unmutedCase (decode w b)) f) ≡ true
+  -- each operation answers and writes the same
+  pub same : SameAnswers b w (unmutedWords w)
