@@ -2,14 +2,14 @@
 -- unmuted case.
 -- Assumes nothing.
 use mathlib.Core.Path.{_≡_, refl, sym, ap, _∙_, subst}
-use mathlib.Core.Bool.{true, false, cond}
+use mathlib.Core.Bool.{true, false}
 use mathlib.Core.List.{List, [], map}
 use Prim.Native.Nat.{ℕ, zero, suc, _≤_, _<_}
 use native.Mathlib.Omega.{arith}
 use native.Mathlib.Decide.{ℕ-discrete}
 use lib.Dec.{ltb}
 use lib.IntN.{ℤ}
-use lib.ListN.{length, getD, set, length-map, length-set, List·getD-map}
+use lib.ListN.{length, getD, length-map, length-set, List·getD-map}
 use lib.Seq.{ext-getD, getD-set-same, getD-set-other}
 use Rattle.steps.proofs.Signed.{by-test}
 use Rattle.variants_and_fragments.specs.declared.Sizes.{Sizes}

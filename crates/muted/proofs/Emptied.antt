@@ -1,10 +1,9 @@
 -- Words with the qualities of some records 0: the length and every other word stay, and each quality of these records is 0.
 -- Assumes nothing.
-use mathlib.Core.Path.{_≡_, refl, sym, _∙_}
+use mathlib.Core.Path.{_≡_, refl, _∙_}
 use mathlib.Core.Bool.{true}
 use mathlib.Core.List.{List, [], _∷_}
-use mathlib.Core.Logic.{_⊎_, inl, inr}
-use Prim.Native.Nat.{ℕ, _+_, _<_}
+use Prim.Native.Nat.{ℕ, _+_}
 use native.Mathlib.Omega.{arith}
 use native.Mathlib.Decide.{ℕ-discrete}
 use borrow.Author.Tests.{eq-eqb, ne-eqb}
@@ -18,7 +17,6 @@ use Rattle.variants_and_fragments.specs.Chain.{memb}
 use Rattle.variants_and_fragments.specs.Layout.{qualField, oneMinusQualField, callAt, callSet, callWord}
 use Rattle.variants_and_fragments.specs.Words.{word}
 use Rattle.variants_and_fragments.proofs.Bools.{or-right}
-use Rattle.late_reads.proofs.Apart.{or-cases}
 use Rattle.muted.specs.Unmuted.{recordsEmptied}
 
 -- ---- one word set to 0

@@ -1,13 +1,12 @@
 -- A muted read does not vote, and each of its calls is ambiguous.
 -- Assumes nothing.
 use mathlib.Core.Path.{_≡_, refl, ap, _∙_}
-use mathlib.Core.Bool.{Bool, true, false, cond, not, _&&_, _||_, and-true, and-false}
+use mathlib.Core.Bool.{Bool, false, cond, not, _&&_, _||_, and-true, and-false}
 use mathlib.Core.List.{List, [], _∷_}
 use Prim.Native.Nat.{ℕ, _+_, _/_, _%_}
 use lib.Dec.{eqb, ltb}
 use lib.IntN.{ℤ, pos}
 use lib.ListN.{length}
-use lib.Signed.{ltZ}
 use Rattle.steps.specs.Logs.{mixOf}
 use Rattle.steps.proofs.AddExp.{add-halves}
 use Rattle.steps.proofs.Signed.{by-test}

@@ -2,7 +2,7 @@
 -- the same haplotypes, and they stand for the case with that fragment unmuted (late_reads/proofs/OneChanged).
 -- Assumes nothing.
 use mathlib.Core.Path.{_≡_, refl, sym, ap, _∙_, subst}
-use mathlib.Core.Bool.{Bool, true, false, cond, _&&_}
+use mathlib.Core.Bool.{Bool, true, false}
 use mathlib.Core.List.{List, [], _∷_, map}
 use mathlib.Core.Logic.{inl}
 use Prim.Native.Nat.{ℕ, zero, suc, _+_, _≤_, _<_}
@@ -13,13 +13,12 @@ use lib.Dec.{leb, ltb, eqb, lit<}
 use lib.IntN.{ℤ, pos}
 use lib.ListN.{length, length-set}
 use lib.Seq.{getD-set-same, getD-set-other}
-use Rattle.steps.proofs.Signed.{by-test}
 use Rattle.variants_and_fragments.specs.declared.Sizes.{Sizes}
 use Rattle.variants_and_fragments.specs.Case.{direction}
 use Rattle.variants_and_fragments.specs.Refusals.{Outcome, done, refused}
 use Rattle.variants_and_fragments.specs.Words.{word, within, below, natOf}
 use Rattle.variants_and_fragments.specs.Layout.{maxStrand, sizesOf, usedField, freeField, firstField, strandField, variantField, alleleField, qualField, oneMinusQualField, nextField, fragmentAt, fragmentWord, callAt, callWord, alleleCountAt, variantOk, callOk}
-use Rattle.variants_and_fragments.specs.Chain.{strandAt, nextCallAt, nextOk, linkOk, isRecord, chainFrom, chainOf, freeChain, memb}
+use Rattle.variants_and_fragments.specs.Chain.{strandAt, nextCallAt, linkOk, chainFrom, chainOf, freeChain, memb}
 use Rattle.variants_and_fragments.specs.Check.{checkCaseAndHaplotypesOutcome}
 use Rattle.variants_and_fragments.specs.Decode.{callFrom, fragmentFrom, decode}
 use Rattle.variants_and_fragments.specs.First.{firstFail}
@@ -36,7 +35,6 @@ use Rattle.variants_and_fragments.proofs.Outcomes.{unless-on, each-at}
 use Rattle.variants_and_fragments.proofs.Ranges.{upto-nat}
 use Rattle.late_reads.specs.Values.{exchanged}
 use Rattle.late_reads.proofs.Apart.{memb-place, memb-all, distinct-join, chain-distinct, chains-apart, free-apart}
-use Rattle.late_reads.proofs.Distinct.{memb-at}
 use Rattle.late_reads.proofs.Room.{free-distinct}
 use Rattle.late_reads.proofs.OneChanged.{roomAs, Keeps, Changed, call-words-kept}
 use Rattle.late_reads.proofs.AcceptedAfter.{variant-ok-same, accepted-changed}

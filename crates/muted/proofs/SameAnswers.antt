@@ -2,10 +2,9 @@
 -- decoded case: its variants and its cutoff are the same, and so are usable calls, ambiguous counts and lines (SameCalls).
 -- Assumes nothing.
 use mathlib.Core.Path.{_≡_, refl, sym, ap, _∙_, fun-ext}
-use mathlib.Core.Bool.{Bool, true, false, _&&_}
+use mathlib.Core.Bool.{Bool, true, _&&_}
 use mathlib.Core.List.{List}
-use Prim.Native.Nat.{ℕ, _+_, _*_, _/_, _%_, _<_}
-use native.Mathlib.Omega.{arith}
+use Prim.Native.Nat.{ℕ, _+_, _/_, _%_}
 use lib.Dec.{eqb}
 use lib.Ieee.{Float}
 use lib.IntN.{ℤ, pos, _+ℤ_}
@@ -14,11 +13,11 @@ use lib.Signed.{leZ}
 use Rattle.steps.proofs.Signed.{by-test}
 use Rattle.variants_and_fragments.specs.declared.Sizes.{Sizes}
 use Rattle.variants_and_fragments.specs.Case.{Case, Fragment, Call, alleleCount, direction, variantOf, fragmentOf}
-use Rattle.variants_and_fragments.specs.Check.{checkCaseOutcome, checkCaseAndHaplotypesOutcome}
+use Rattle.variants_and_fragments.specs.Check.{checkCaseOutcome}
 use Rattle.variants_and_fragments.specs.Decode.{tabulate, decode}
-use Rattle.variants_and_fragments.specs.Layout.{sizesOf, cutoffAt, lowestQuality, variantField, alleleCountAt}
+use Rattle.variants_and_fragments.specs.Layout.{cutoffAt, lowestQuality, variantField, alleleCountAt}
 use Rattle.variants_and_fragments.specs.Pileup.{Row, only, rowsOf, pileOf, ambiguousCount}
-use Rattle.variants_and_fragments.specs.Refusals.{Outcome, refused, done, andThen, each}
+use Rattle.variants_and_fragments.specs.Refusals.{Outcome, refused, done, andThen}
 use Rattle.variants_and_fragments.specs.Sums.{sumOver}
 use Rattle.variants_and_fragments.specs.Words.{within, below, natOf}
 use Rattle.variants_and_fragments.specs.Inner.Accepted.{CaseIn}
@@ -26,7 +25,6 @@ use Rattle.variants_and_fragments.proofs.Accepted.{case-in, checked-in}
 use Rattle.variants_and_fragments.proofs.Bools.{both}
 use Rattle.variants_and_fragments.proofs.Decoded.{cutoff-is, allele-count-is}
 use Rattle.variants_and_fragments.proofs.Only.{only-cong}
-use Rattle.variants_and_fragments.proofs.Outcomes.{not-done}
 use Rattle.variants_and_fragments.proofs.Ranges.{below-less}
 use Rattle.variants_and_fragments.proofs.Sums.{count-map, countOver-cong}
 use Rattle.var_filter.specs.Filter.{Limits, counted, dense, markedDense, tooDeep, filterOf}
@@ -42,12 +40,12 @@ use Rattle.haplotype_assembly.specs.FlistBuffer.{generateFlistBufferOutcome, ge
 use Rattle.shuffle.specs.Answers.{sweepOrdersOutcome, sweepOrdersWritten}
 use Rattle.likelihoods.specs.SweepCaseOf.{sweepCaseOf}
 use Rattle.no_haplotypes.specs.NoHaplotypes as nohap
-use Rattle.no_haplotypes.specs.NoHaplotypes.{rowDirection, callGenotypesNoHaplotypesOutcome, callGenotypesNoHaplotypesWritten}
+use Rattle.no_haplotypes.specs.NoHaplotypes.{callGenotypesNoHaplotypesOutcome, callGenotypesNoHaplotypesWritten}
 use Rattle.with_haplotypes.specs.Round as round
-use Rattle.with_haplotypes.specs.Round.{RunInput, RoundInput, roundInput, runOf, caseOfRound}
+use Rattle.with_haplotypes.specs.Round.{RunInput, RoundInput, roundInput, runOf}
 use Rattle.with_haplotypes.specs.Promise.{RoundSlices, callGenotypesWithHaplotypesOutcome, callGenotypesWithHaplotypesWritten}
 use Rattle.late_reads.specs.Values.{Values, readCount, departed}
-use Rattle.late_reads.specs.Arriving.{arrivingWord, wholeCalls, arrivingOk, room}
+use Rattle.late_reads.specs.Arriving.{arrivingWord, arrivingOk, room}
 use Rattle.late_reads.specs.LateReads.{LateInput, lateInput, keptOutcome, arrivedValues, arrivingOutcome, arriveOutcome, arriveWritten, departedValues, departOutcome, departWritten}
 use Rattle.late_reads.proofs.KeptCase.{kept-checked}
 use Rattle.muted.specs.Unmuted.{unmuted, unmutedCase, unmutedWords}

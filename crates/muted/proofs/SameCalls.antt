@@ -2,18 +2,18 @@
 -- whose qualities are 0 is, since no cutoff is above 0; every other fragment stays.
 -- Assumes nothing.
 use mathlib.Core.Path.{_≡_, refl, sym, ap, _∙_}
-use mathlib.Core.Bool.{Bool, true, false, cond, not, _&&_}
+use mathlib.Core.Bool.{Bool, true, false, cond}
 use mathlib.Core.List.{List, [], _∷_, map}
 use Prim.Native.Nat.{ℕ, suc, _/_, _%_}
 use native.Mathlib.Omega.{arith}
 use borrow.Author.Tests.{lt-ltb}
 use lib.Dec.{eqb}
 use lib.IntN.{ℤ, pos}
-use lib.ListN.{length, length-map, List·getD-map}
+use lib.ListN.{length, length-map}
 use lib.Signed.{leZ, ltZ}
 use Rattle.steps.proofs.Signed.{by-test, zlin}
-use Rattle.variants_and_fragments.specs.Case.{Case, Fragment, Call, votes, direction, usable, fragmentOf, noFragment}
-use Rattle.variants_and_fragments.specs.Pileup.{Row, only, usableCalls, rowsFrom, ambiguousIn, ambiguousFrom}
+use Rattle.variants_and_fragments.specs.Case.{Case, Fragment, Call, votes, direction, usable, fragmentOf}
+use Rattle.variants_and_fragments.specs.Pileup.{only, usableCalls, rowsFrom, ambiguousIn, ambiguousFrom}
 use Rattle.variants_and_fragments.specs.Inner.Case.{All}
 use Rattle.variants_and_fragments.proofs.Alls.{all-map}
 use Rattle.variants_and_fragments.proofs.Only.{only-map}

@@ -9,18 +9,13 @@ use native.Mathlib.Omega.{arith}
 use borrow.Author.Tests.{eq-eqb, ne-eqb, eqb-true}
 use lib.Dec.{eqb}
 use lib.IntN.{ℤ}
-use lib.ListN.{length, length-append, List·getD-eq-default}
-use Rattle.steps.proofs.Signed.{by-test, cases}
-use Rattle.variants_and_fragments.specs.declared.Sizes.{Sizes}
-use Rattle.variants_and_fragments.specs.Inner.Accepted.{CaseIn}
-use Rattle.variants_and_fragments.specs.Case.{Case, Call, Fragment, usable, alleleCount, variantOf, fragmentOf, noFragment}
+use lib.ListN.{length, length-append}
+use Rattle.steps.proofs.Signed.{by-test}
+use Rattle.variants_and_fragments.specs.Case.{Case, Call, Fragment, usable, alleleCount, variantOf}
 use Rattle.variants_and_fragments.specs.Inner.Case.{All, end, also, GoodCall, GoodFragment, GoodCase}
-use Rattle.variants_and_fragments.specs.Decode.{decode}
 use Rattle.variants_and_fragments.specs.Pileup.{Row, rowOf, only, usableCalls, rowsFrom, rowsOf, atVariant, pileOf, ambiguousIn, ambiguousFrom, ambiguousCount}
 use Rattle.variants_and_fragments.specs.Sums.{countOver}
 use Rattle.variants_and_fragments.proofs.Alls.{all-imp, all-map, all-append}
-use Rattle.variants_and_fragments.proofs.Decoded.{fragments-are, strand-is}
-use Rattle.variants_and_fragments.proofs.GoodCases.{fragment-in}
 use Rattle.variants_and_fragments.proofs.Only.{only-in, only-out, only-none, only-append, only-all}
 use Rattle.no_haplotypes.specs.NoHaplotypes.{rowDirection, alleleCalls, strandCalls, callsAt}
 

@@ -1,7 +1,7 @@
 -- `count_departing` takes the calls of the fragment's chain off one after the other. At the loop's head, with those from record r on all are off.
 -- Assumes nothing.
 use mathlib.Core.Path.{_≡_, _∙_, ap}
-use Prim.Native.Nat.{_-_, _≤_}
+use Prim.Native.Nat.{_-_}
 use native.Mathlib.Omega.{arith}
 use borrow.Author.Needs.{needs, sfits-of}
 use lib.IntN.{negsuc}
