@@ -48,13 +48,13 @@ def muted(fragment):
     return Fragment(MUTED_FORWARD + fragment.strand % 2, fragment.calls, fragment.present)
 
 
-# The share of cases with muted fragments, the chance of each fragment there, and the share of arriving reads that are muted.
-# A third of all cases so lose a usable call; the muted fragments of the others have none to lose.
+# The share of cases in which fragments may be muted, the chance of each fragment there, and the share of arriving reads that
+# are muted. A third of all cases so lose a usable call.
 WITH_MUTED, CHANCES, ARRIVE_MUTED = 0.65, [0.25, 0.5, 0.5, 1], 0.25
 
 
 def with_muted(rng, case):
-    """The case, now and then with some or all of its fragments muted."""
+    """The case, mostly with some or all of its fragments muted."""
     chance = rng.choice(CHANCES) if rng.random() < WITH_MUTED else 0
     fragments = [muted(x) if rng.random() < chance else x for x in case.fragments]
     return Case(case.variants, fragments, case.cutoff)

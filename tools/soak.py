@@ -230,7 +230,7 @@ class Kept:
 
     def count(self, strand, calls, change):
         for call in calls:
-            own, stranded = COUNTED.words * call.variant, COUNTED.reverse if strand == REVERSE else COUNTED.forward
+            own, stranded = COUNTED.words * call.variant, COUNTED.reverse if strand % 2 == REVERSE else COUNTED.forward
             counted = [COUNTED.counts + call.allele, stranded + call.allele]
             for place in counted if usable(strand, call) else [COUNTED.ambiguous]:
                 self.counts[own + place] += change

@@ -54,17 +54,18 @@ impl<'a> Late<'a> {
         Late { request, words, strand, calls, haplotypes, phased }
     }
 
-    /// The likelihoods of all fragments; the benchmark's cases have no muted ones.
+    /// The likelihoods of all fragments; those of a muted one are 0.
     fn likelihoods(&self, words: &[i32], out: &mut [i64]) {
         let words = Words(words);
         let cutoff = words.cutoff();
         for (f, two) in out.chunks_mut(PAIR).enumerate() {
             let mut sum = [0; PAIR];
+            let votes = !words.fragment(f).muted();
             let mut next = words.fragment(f).first();
             while next != 0 {
                 let call = words.call(next);
                 let v = call.variant();
-                if call.qual() < cutoff && self.phased[v] == 1 {
+                if votes && call.qual() < cutoff && self.phased[v] == 1 {
                     for h in 0..PAIR {
                         let matches = self.haplotypes[PAIR * v + h] == call.allele();
                         sum[h] += i64::from(if matches { call.one_minus_qual() } else { call.qual() });

@@ -18,6 +18,9 @@ pub mod layout {
     pub const MAX_ALLELES: usize = 3;
     pub const MAX_LENGTH: usize = 64;
     pub const LOWEST: i32 = -262144;
+    /// Strands are 0 forward, 1 reverse, and from MUTED on the same, muted.
+    pub const STRANDS: i32 = 4;
+    pub const MUTED: i32 = 2;
 
     /// Words of the head and of each record.
     const HEAD: usize = 6;
@@ -143,7 +146,6 @@ pub mod layout {
             self.0[0].max(0) as usize
         }
 
-        /// 0 forward, 1 reverse; 2 and 3 the same, muted.
         pub fn strand(&self) -> i32 {
             self.0[1]
         }
@@ -154,7 +156,7 @@ pub mod layout {
 
         /// Whether it is on file without a vote.
         pub fn muted(&self) -> bool {
-            self.strand() >= 2
+            self.strand() >= MUTED
         }
     }
 
@@ -303,7 +305,7 @@ fn variant_of(pos0: usize, dp: usize, genotype: Genotype, alleles: Vec<String>) 
 /// The calls of a muted fragment have both qualities 0.
 fn fragment(words: &Words, f: usize) -> Fragment {
     let own = words.fragment(f);
-    assert!(0 <= own.strand() && own.strand() < 4, "a strand");
+    assert!(0 <= own.strand() && own.strand() < layout::STRANDS, "a strand");
     let steps = |quality: i32| LogProb(if own.muted() { 0.0 } else { f64::from(quality) });
     let mut calls = vec![];
     let mut next = own.first();

@@ -18,7 +18,7 @@ use Rattle.variants_and_fragments.specs.Sums.{countOver}
 use Rattle.variants_and_fragments.proofs.Only.{only-in, only-out, only-none, only-map, only-cong}
 use Rattle.variants_and_fragments.proofs.Sums.{countOver-cong}
 use Rattle.genotype_probs.specs.declared.Rates.{Rates}
-use Rattle.no_haplotypes.specs.NoHaplotypes.{rowDirection, alleleCalls, strandCalls, answerFrom, variantAnswer, answerAt}
+use Rattle.no_haplotypes.specs.NoHaplotypes.{rowStrand, alleleCalls, strandCalls, answerFrom, variantAnswer, answerAt}
 use Rattle.no_haplotypes.proofs.CountLaws.{only-count}
 use Rattle.late_reads.specs.Values.{counted, readCount}
 use Rattle.afresh.specs.Fresh.{countWordAt}
@@ -113,7 +113,7 @@ module _ (case : Case) (v : ℕ) where
       let j = 3 + (3 * s + a) in
       let m : j % 3 ≡ a = omega arith in
       let d : j / 3 ≡ 1 + s = omega arith in
-      pile-count (λ (row : Row). eqb (rowDirection case row) s && eqb (row .call .allele) a) (λ x call. eqb (direction (x .strand)) s && eqb (call .allele) a) (λ f l call. refl)
+      pile-count (λ (row : Row). eqb (rowStrand case row) s && eqb (row .call .allele) a) (λ x call. eqb (direction (x .strand)) s && eqb (call .allele) a) (λ f l call. refl)
       ∙ counted-by j (λ x call. usable cutoff x call && (eqb (direction (x .strand)) s && eqb (call .allele) a))
       (λ x call.
       rw (ne-eqb j 9 (omega arith), m, d, le-ltb j 3 (omega arith), strand-test s (direction (x .strand)))

@@ -25,7 +25,7 @@ plus = 43
 abbrev pub minus : ℕ
 minus = 45
 
--- reverse strand '+' (odd)
+-- reverse strand '+', forward '-': an oddity of the source that is kept
 unfoldable pub strandByte : ℕ → ℕ
 strandByte strand = cond (eqb (direction strand) 0) minus plus
 

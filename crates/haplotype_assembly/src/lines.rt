@@ -20,6 +20,7 @@ use pileup::row::unpack;
 use steps::phred::phred;
 use steps::phred::quality_byte;
 use variants_and_fragments::Sizes;
+use variants_and_fragments::layout::direction_of;
 use variants_and_fragments::layout::strand_of;
 
 // ---- the alleles
@@ -128,11 +129,11 @@ pub struct Head {
     pub strand: usize,
 }
 
-// The byte of a strand: '+' where it is reverse, so odd.
+// The byte of a strand: '+' where it is a reverse one.
 pub fn strand_byte(strand: usize) -> u8
     ensures { λ b. ⌜ b ≡ strandByte strand ⌝ }
 {
-    if strand % 2 == 0 {
+    if direction_of(strand) == 0 {
         return b'-';
     }
     b'+'

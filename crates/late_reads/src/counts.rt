@@ -19,6 +19,7 @@ use pileup::reader::read_call;
 use pileup::row::usable;
 use variants_and_fragments::Sizes;
 use variants_and_fragments::layout::cutoff_of;
+use variants_and_fragments::layout::direction_of;
 use variants_and_fragments::layout::first_call;
 use variants_and_fragments::layout::nat_of;
 use variants_and_fragments::layout::strand_of;
@@ -46,7 +47,7 @@ fn call_fits(counts: &[i32], call: CountedCall, strand: usize, d: i32) -> bool
     let at = 10 * call.variant;
     if call.usable {
         let one = fits_at(counts, at + call.allele, d);
-        let two = fits_at(counts, at + 3 * (1 + strand % 2) + call.allele, d);
+        let two = fits_at(counts, at + 3 * (1 + direction_of(strand)) + call.allele, d);
         return one & two;
     }
     fits_at(counts, at + 9, d)
@@ -68,7 +69,7 @@ fn count_call(counts: &mut [i32], call: CountedCall, strand: usize, d: i32)
     let at = 10 * call.variant;
     if call.usable {
         add_at(counts, at + call.allele, d);
-        add_at(counts, at + 3 * (1 + strand % 2) + call.allele, d);
+        add_at(counts, at + 3 * (1 + direction_of(strand)) + call.allele, d);
     } else {
         add_at(counts, at + 9, d);
     }

@@ -27,7 +27,7 @@ use Rattle.muted.specs.Unmuted.{unmuted, unmutedCase, fragmentUnmuted, u
 use Rattle.muted.proofs.OneUnmuted.{decoded-one, free-one, checked-one}
 
 -- a fragment that votes stays
-pub voting-same : (x : Fragment) → votes x ≡ true → unmuted x ≡ x
+pub voting-same : (x : Fragment) → votes (x .strand) ≡ true → unmuted x ≡ x
 unfolding unmuted
 voting-same x v = rw v
 
@@ -63,7 +63,7 @@ module _ (w : List ℤ) (b : List ℕ) (s : Sizes) (ok : checkCaseOutcome w b �
     here = i .later f (omega arith)
 
     -- it votes
-    voting-next : ltb (strandAt v s f) 2 ≡ true → Below w b s (suc f) (fragmentUnmuted v s f)
+    voting-next : votes (strandAt v s f) ≡ true → Below w b s (suc f) (fragmentUnmuted v s f)
     unfolding fragmentUnmuted
     voting-next t =
         let still : unmuted (fragmentOf (decode w b) f) ≡ fragmentOf (decode w b) f = voting-same _ (rw (← here, strand-is k b f l) t) in
@@ -78,7 +78,7 @@ module _ (w : List ℤ) (b : List ℕ) (s : Sizes) (ok : checkCaseOutcome w b �
         })
 
     -- it is muted
-    muted-next : ltb (strandAt v s f) 2 ≡ false → Below w b s (suc f) (fragmentUnmuted v s f)
+    muted-next : votes (strandAt v s f) ≡ false → Below w b s (suc f) (fragmentUnmuted v s f)
     unfolding exchanged checkCaseOutcome
     muted-next t =
         let p = passed v b [] s accepted in
@@ -99,7 +99,7 @@ module _ (w : List ℤ) (b : List ℕ) (s : Sizes) (ok : checkCaseOutcome w b �
         }
 
     next : Below w b s (suc f) (fragmentUnmuted v s f)
-    next = by-test (ltb (strandAt v s f) 2) voting-next muted-next
+    next = by-test (votes (strandAt v s f)) voting-next muted-next
 
   below : (f : ℕ) → f ≤ s .f → Below w b s f (unmutedTo w s f)
   unfolding unmutedTo

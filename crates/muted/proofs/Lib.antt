@@ -1,4 +1,4 @@
-pub mod Emptied
+pub mod Zeroed
 pub mod OneUnmuted
 pub mod AllUnmuted
 pub mod MutedRead

@@ -39,8 +39,8 @@ use Rattle.late_reads.proofs.Room.{free-distinct}
 use Rattle.late_reads.proofs.OneChanged.{roomAs, Keeps, Changed, call-words-kept}
 use Rattle.late_reads.proofs.AcceptedAfter.{variant-ok-same, accepted-changed}
 use Rattle.late_reads.proofs.DecodedAfter.{decoded-changed}
-use Rattle.muted.specs.Unmuted.{emptied, unmuted, recordsEmptied, fragmentUnmuted}
-use Rattle.muted.proofs.Emptied.{emptied-long, emptied-other, emptied-at}
+use Rattle.muted.specs.Unmuted.{zeroed, unmuted, recordsZeroed, fragmentUnmuted}
+use Rattle.muted.proofs.Zeroed.{zeroed-long, zeroed-other, zeroed-at}
 
 -- ---- lists
 -- each record of a chain is right
@@ -63,7 +63,7 @@ stops : (w : List ℤ) (b h : List ℕ) → 7 ≤ headFault w → firstFail (var
 unfolding checkCaseAndHaplotypesOutcome firstFail
 stops w b h head wrong = each-at 2 (variantOk w h) 0 (sizesOf w .n) _ (omega (arith, wrong)) ∙ unless-on (leb 7 (headFault w)) 1 (headFault w) _ (le-leb _ _ head) ∙ head-lines w _
 
-module _ {w : List ℤ} {s : Sizes} (k : CaseIn w s) (f : ℕ) (l : f < s .f) (muted : ltb (strandAt w s f) 2 ≡ false) where
+module _ {w : List ℤ} {s : Sizes} (k : CaseIn w s) (f : ℕ) (l : f < s .f) (muted : votes (strandAt w s f) ≡ false) where
   abbrev chain : List ℕ
   chain = chainOf w s f
 
@@ -73,21 +73,21 @@ module _ {w : List ℤ} {s : Sizes} (k : CaseIn w s) (f : ℕ) (l : f < s .f) (m
   -- ---- what stands at each place
   unmuted-long : length (fragmentUnmuted w s f) ≡ length w
   unfolding fragmentUnmuted
-  unmuted-long = rw muted (length-set (recordsEmptied w s chain) (fragmentAt s f + strandField) (pos (direction (strandAt w s f))) ∙ emptied-long s w chain)
+  unmuted-long = rw muted (length-set (recordsZeroed w s chain) (fragmentAt s f + strandField) (pos (direction (strandAt w s f))) ∙ zeroed-long s w chain)
 
   unmuted-other : (i : ℕ) → (i ≡ fragmentAt s f + strandField → ⊥) → ((r : ℕ) → memb r (chainOf w s f) ≡ true → (i ≡ callAt s r + qualField → ⊥) × (i ≡ callAt s r + oneMinusQualField → ⊥))
       → word (fragmentUnmuted w s f) i ≡ word w i
   unfolding fragmentUnmuted
-  unmuted-other i a n = rw muted (getD-set-other (recordsEmptied w s chain) (fragmentAt s f + strandField) i (pos (direction (strandAt w s f))) (pos 0) a ∙ emptied-other s w chain i n)
+  unmuted-other i a n = rw muted (getD-set-other (recordsZeroed w s chain) (fragmentAt s f + strandField) i (pos (direction (strandAt w s f))) (pos 0) a ∙ zeroed-other s w chain i n)
 
   unmuted-strand : fragmentWord (fragmentUnmuted w s f) s f strandField ≡ pos (direction (strandAt w s f))
   unfolding fragmentUnmuted
-  unmuted-strand = rw muted (getD-set-same (recordsEmptied w s chain) (fragmentAt s f + strandField) (pos (direction (strandAt w s f))) (pos 0) (omega (arith, k .sized .size, emptied-long s w chain)))
+  unmuted-strand = rw muted (getD-set-same (recordsZeroed w s chain) (fragmentAt s f + strandField) (pos (direction (strandAt w s f))) (pos 0) (omega (arith, k .sized .size, zeroed-long s w chain)))
 
   -- a quality of a record of the chain
-  unmuted-quality : (r field : ℕ) → callWord (recordsEmptied w s (chainOf w s f)) s r field ≡ pos 0 → callWord (fragmentUnmuted w s f) s r field ≡ pos 0
+  unmuted-quality : (r field : ℕ) → callWord (recordsZeroed w s (chainOf w s f)) s r field ≡ pos 0 → callWord (fragmentUnmuted w s f) s r field ≡ pos 0
   unfolding fragmentUnmuted
-  unmuted-quality r field z = rw muted (getD-set-other (recordsEmptied w s chain) (fragmentAt s f + strandField) (callAt s r + field) (pos (direction (strandAt w s f))) (pos 0) (λ e. omega arith) ∙ z)
+  unmuted-quality r field z = rw muted (getD-set-other (recordsZeroed w s chain) (fragmentAt s f + strandField) (callAt s r + field) (pos (direction (strandAt w s f))) (pos 0) (λ e. omega arith) ∙ z)
 
   -- before the calls
   unmuted-front : (i : ℕ) → i < callAt s 1 → (i ≡ fragmentAt s f + strandField → ⊥) → word (fragmentUnmuted w s f) i ≡ word w i
@@ -145,13 +145,13 @@ module _ {w : List ℤ} {s : Sizes} (k : CaseIn w s) (f : ℕ) (l : f < s .f) (m
   -- a call of the chain with both qualities 0
   module _ (r : ℕ) (m : memb r (chainOf w s f) ≡ true) where
     qual-zero : callWord (fragmentUnmuted w s f) s r qualField ≡ pos 0
-    qual-zero = unmuted-quality r qualField (emptied-at s w chain r m .0)
+    qual-zero = unmuted-quality r qualField (zeroed-at s w chain r m .0)
 
     other-zero : callWord (fragmentUnmuted w s f) s r oneMinusQualField ≡ pos 0
-    other-zero = unmuted-quality r oneMinusQualField (emptied-at s w chain r m .1)
+    other-zero = unmuted-quality r oneMinusQualField (zeroed-at s w chain r m .1)
 
-    unmuted-call : callFrom w' after r ≡ emptied (callFrom w s r)
-    unfolding callFrom emptied
+    unmuted-call : callFrom w' after r ≡ zeroed (callFrom w s r)
+    unfolding callFrom zeroed
     unmuted-call = rw (kept-variant r, kept-allele r, qual-zero, other-zero)
 
     call-right : callOk w' after r ≡ true
@@ -183,8 +183,8 @@ module _ {w : List ℤ} {s : Sizes} (k : CaseIn w s) (f : ℕ) (l : f < s .f) (m
   unmuted-fragment : fragmentFrom w' after f ≡ unmuted (fragmentFrom w s f)
   unfolding fragmentFrom unmuted
   unmuted-fragment =
-      let calls : map (callFrom w' after) (chainOf w' after f) ≡ map emptied (map (callFrom w s) (chainOf w s f)) =
-      rw unmuted-chain (map-twice (callFrom w' after) (callFrom w s) emptied chain unmuted-call) in
+      let calls : map (callFrom w' after) (chainOf w' after f) ≡ map zeroed (map (callFrom w s) (chainOf w s f)) =
+      rw unmuted-chain (map-twice (callFrom w' after) (callFrom w s) zeroed chain unmuted-call) in
       rw (muted, unmuted-first, unmuted-strand, calls)
 
   -- ---- the case

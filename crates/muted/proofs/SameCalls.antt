@@ -19,30 +19,30 @@ use Rattle.variants_and_fragments.proofs.Alls.{all-map}
 use Rattle.variants_and_fragments.proofs.Only.{only-map}
 use Rattle.haplotype_assembly.specs.Lines.{lineCalls, lineOf, hasLine, linesFrom, lineCount}
 use Rattle.late_reads.specs.Values.{readCount}
-use Rattle.muted.specs.Unmuted.{emptied, unmuted, unmutedCase}
+use Rattle.muted.specs.Unmuted.{zeroed, unmuted, unmutedCase}
 use Rattle.muted.proofs.AllUnmuted.{voting-same, unmuted-at}
 use Rattle.muted.proofs.MutedRead.{all-each, none-usable, all-ambiguous, counted-last, no-line, never-usable}
 
 -- ---- one fragment
 -- a muted one unmuted: its calls have both qualities 0
 abbrev quiet : Fragment → Fragment
-quiet x = record { present = x .present; strand = direction (x .strand); calls = map emptied (x .calls) }
+quiet x = record { present = x .present; strand = direction (x .strand); calls = map zeroed (x .calls) }
 
-muted-quiet : (x : Fragment) → votes x ≡ false → unmuted x ≡ quiet x
+muted-quiet : (x : Fragment) → votes (x .strand) ≡ false → unmuted x ≡ quiet x
 unfolding unmuted
 muted-quiet x m = rw m
 
 -- what is the same of a fragment that stays and of one that is unmuted is the same of each
-by-vote : {A : Type 0} (g : Fragment → A) (x : Fragment) → (votes x ≡ false → g (quiet x) ≡ g x) → g (unmuted x) ≡ g x
-by-vote g x h = by-test (votes x) (λ v. ap g (voting-same x v)) (λ m. ap g (muted-quiet x m) ∙ h m)
+by-vote : {A : Type 0} (g : Fragment → A) (x : Fragment) → (votes (x .strand) ≡ false → g (quiet x) ≡ g x) → g (unmuted x) ≡ g x
+by-vote g x h = by-test (votes (x .strand)) (λ v. ap g (voting-same x v)) (λ m. ap g (muted-quiet x m) ∙ h m)
 
 -- its calls are at the same variants
-calls-at : (v : ℕ) (calls : List Call) → length (only (λ (call : Call). eqb (call .variant) v) (map emptied calls)) ≡ length (only (λ (call : Call). eqb (call .variant) v) calls)
-unfolding emptied
-calls-at v calls = ap length (only-map emptied (λ (call : Call). eqb (call .variant) v) calls) ∙ length-map (only (λ (call : Call). eqb (call .variant) v) calls) emptied
+calls-at : (v : ℕ) (calls : List Call) → length (only (λ (call : Call). eqb (call .variant) v) (map zeroed calls)) ≡ length (only (λ (call : Call). eqb (call .variant) v) calls)
+unfolding zeroed
+calls-at v calls = ap length (only-map zeroed (λ (call : Call). eqb (call .variant) v) calls) ∙ length-map (only (λ (call : Call). eqb (call .variant) v) calls) zeroed
 
-pub votes-unmuted : (x : Fragment) → votes (unmuted x) ≡ true
-votes-unmuted x = by-test (votes x) (λ v. ap votes (voting-same x v) ∙ v) (λ m. ap votes (muted-quiet x m) ∙ lt-ltb (direction (x .strand)) 2 (omega arith))
+pub votes-unmuted : (x : Fragment) → votes (unmuted x .strand) ≡ true
+votes-unmuted x = by-test (votes (x .strand)) (λ v. ap (λ (y : Fragment). votes (y .strand)) (voting-same x v) ∙ v) (λ m. ap (λ (y : Fragment). votes (y .strand)) (muted-quiet x m) ∙ lt-ltb (direction (x .strand)) 2 (omega arith))
 
 pub present-same : (x : Fragment) → unmuted x .present ≡ x .present
 present-same x = by-vote (λ y. y .present) x (λ m. refl)
@@ -57,8 +57,8 @@ all-calls-same v x = by-vote (λ y. length (only (λ (call : Call). eqb (call .v
 module _ (cutoff : ℤ) (low : leZ cutoff (pos 0) ≡ true) where
   -- a call with both qualities 0 is not usable
   quiet-never : (x : Fragment) → All (λ call. usable cutoff (quiet x) call ≡ false) (quiet x .calls)
-  unfolding usable emptied
-  quiet-never x = let z : ltZ (pos 0) cutoff ≡ false = omega (zlin, low) in all-map emptied (x .calls) (all-each (λ call. rw z) (x .calls))
+  unfolding usable zeroed
+  quiet-never x = let z : ltZ (pos 0) cutoff ≡ false = omega (zlin, low) in all-map zeroed (x .calls) (all-each (λ call. rw z) (x .calls))
 
   pub usable-same : (x : Fragment) → usableCalls cutoff (unmuted x) ≡ usableCalls cutoff x
   usable-same x = by-vote (usableCalls cutoff) x (λ m. none-usable (quiet x) cutoff (quiet-never x) ∙ sym (none-usable x cutoff (never-usable x m cutoff)))
@@ -90,7 +90,7 @@ module _ (cutoff : ℤ) (low : leZ cutoff (pos 0) ≡ true) where
 
 -- ---- the lines of a case; they go by its variants and its cutoff, which the unmuted one has too
 module _ (case : Case) (low : leZ (case .cutoff) (pos 0) ≡ true) where
-  module _ (x : Fragment) (m : votes x ≡ false) where
+  module _ (x : Fragment) (m : votes (x .strand) ≡ false) where
     no-calls : lineCalls case x ≡ []
     no-calls = no-line x (case .cutoff) (never-usable x m (case .cutoff)) case refl
 
@@ -116,7 +116,7 @@ module _ (case : Case) (low : leZ (case .cutoff) (pos 0) ≡ true) where
   unfolding linesFrom
   lines-same single id [] = refl
   lines-same single id (x ∷ xs) =
-      by-test (votes x)
+      by-test (votes (x .strand))
       (λ v. rw (voting-same x v, calls-there x, line-there id x, lines-same single id xs, lines-same single (suc id) xs))
       (λ m. rw (no-calls-there x m, no-calls x m, none-shown single) (lines-same single id xs))
 
@@ -124,7 +124,7 @@ module _ (case : Case) (low : leZ (case .cutoff) (pos 0) ≡ true) where
   unfolding lineCount
   line-count-same single [] = refl
   line-count-same single (x ∷ xs) =
-      by-test (votes x)
+      by-test (votes (x .strand))
       (λ v. rw (voting-same x v, calls-there x, line-count-same single xs))
       (λ m. rw (no-calls-there x m, no-calls x m, line-count-same single xs))
 

@@ -69,6 +69,6 @@ pub record AsUnmuted (w : List ℤ) (b : List ℕ) (s : Sizes) : Type 0 where
   -- the words of the reference run are accepted, stand for its case, and no fragment of it is muted
   pub accepted : checkCaseOutcome (unmutedWords w) b ≡ done s
   pub stands : decode (unmutedWords w) b ≡ unmutedCase (decode w b)
-  pub voting : (f : ℕ) → votes (fragmentOf (unmutedCase (decode w b)) f) ≡ true
+  pub voting : (f : ℕ) → votes (fragmentOf (unmutedCase (decode w b)) f .strand) ≡ true
   -- each operation answers and writes the same
   pub same : SameAnswers b w (unmutedWords w)

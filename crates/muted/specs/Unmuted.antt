@@ -4,7 +4,6 @@
 use mathlib.Core.Bool.{cond}
 use mathlib.Core.List.{List, [], _∷_, map}
 use Prim.Native.Nat.{ℕ, zero, suc}
-use lib.Dec.{ltb}
 use lib.IntN.{ℤ, pos}
 use Rattle.variants_and_fragments.specs.declared.Sizes.{Sizes}
 use Rattle.variants_and_fragments.specs.Case.{Case, Fragment, Call, votes, direction}
@@ -13,26 +12,26 @@ use Rattle.variants_and_fragments.specs.Layout.{sizesOf, strandField, qualField
 
 -- ---- the case
 -- a call given quality 0, both qualities alike; no cutoff is above 0, so that it is ambiguous
-unfoldable pub emptied : Call → Call
-emptied call = record { variant = call .variant; allele = call .allele; qual = pos 0; one-minus-qual = pos 0 }
+unfoldable pub zeroed : Call → Call
+zeroed call = record { variant = call .variant; allele = call .allele; qual = pos 0; one-minus-qual = pos 0 }
 
 -- a muted fragment becomes a forward or reverse one of such calls; one that votes stays
 unfoldable pub unmuted : Fragment → Fragment
-unmuted x = cond (votes x) x (record { present = x .present; strand = direction (x .strand); calls = map emptied (x .calls) })
+unmuted x = cond (votes (x .strand)) x (record { present = x .present; strand = direction (x .strand); calls = map zeroed (x .calls) })
 
 unfoldable pub unmutedCase : Case → Case
 unmutedCase case = record { variants = case .variants; fragments = map unmuted (case .fragments); cutoff = case .cutoff }
 
 -- ---- its words, which decode to it (`decoded-unmuted` of proofs/AllUnmuted.antt)
 -- each of the records rs with both qualities 0
-unfoldable pub recordsEmptied : List ℤ → Sizes → List ℕ → List ℤ
-recordsEmptied w s [] = w
-recordsEmptied w s (r ∷ rs) = recordsEmptied (callSet (callSet w s r qualField (pos 0)) s r oneMinusQualField (pos 0)) s rs
+unfoldable pub recordsZeroed : List ℤ → Sizes → List ℕ → List ℤ
+recordsZeroed w s [] = w
+recordsZeroed w s (r ∷ rs) = recordsZeroed (callSet (callSet w s r qualField (pos 0)) s r oneMinusQualField (pos 0)) s rs
 
 -- fragment f unmuted
 unfoldable pub fragmentUnmuted : List ℤ → Sizes → ℕ → List ℤ
 fragmentUnmuted w s f = let strand = strandAt w s f in
-    cond (ltb strand 2) w (fragmentSet (recordsEmptied w s (chainOf w s f)) s f strandField (pos (direction strand)))
+    cond (votes strand) w (fragmentSet (recordsZeroed w s (chainOf w s f)) s f strandField (pos (direction strand)))
 
 -- the fragments below f, and all of them
 unfoldable pub unmutedTo : List ℤ → Sizes → ℕ → List ℤ

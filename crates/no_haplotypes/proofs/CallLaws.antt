@@ -28,14 +28,14 @@ use Rattle.variants_and_fragments.proofs.Tabulated.{table-length}
 use Rattle.genotype_probs.proofs.TableSums.{tabulate-cong}
 use Rattle.genotype_probs.proofs.SameTables.{genotype-same, qual-same, gq-same}
 use Rattle.no_haplotypes.specs.declared.tally.Pile.{Pile}
-use Rattle.no_haplotypes.specs.NoHaplotypes.{rowDirection, calledFrom, gqFrom, strandCalls, callsAt, depthAfter, answerFrom}
+use Rattle.no_haplotypes.specs.NoHaplotypes.{rowStrand, calledFrom, gqFrom, strandCalls, callsAt, depthAfter, answerFrom}
 use Rattle.no_haplotypes.specs.Inner.Tally.{pileRows, shownOn, scoredFrom, posteriorsFrom, PosteriorsMade}
 use Rattle.no_haplotypes.specs.Inner.Calling.{PileHeld, answerValues, larger, madeFrom, VariantCalled}
 use Rattle.no_haplotypes.proofs.CountLaws.{only-same, all-calls, forward-reverse}
 
 -- ---- a pile that is held: its counts, its calls, and the words that they make
 module _ {w : List ℤ} {s : Sizes} {piles : List ℕ} {v : ℕ} {pile : Pile} (held : PileHeld w s piles v pile) (b : List ℕ) where
-  shown-alike : (strand x : ℕ) → All (λ row. shownOn w s strand x row ≡ (eqb (rowDirection (decode w b) row) strand && eqb (row .call .allele) x)) (pileOf (decode w b) v)
+  shown-alike : (strand x : ℕ) → All (λ row. shownOn w s strand x row ≡ (eqb (rowStrand (decode w b) row) strand && eqb (row .call .allele) x)) (pileOf (decode w b) v)
   shown-alike strand x = all-imp (λ row i. rw (strand-is (held .case-in) b (row .fragment) (i .fragment-in))) (held .rows-in b)
 
   shown-same : (strand x : ℕ) → length (only (shownOn w s strand x) (pileRows piles pile)) ≡ strandCalls (decode w b) v strand x

@@ -17,7 +17,7 @@ use Rattle.variants_and_fragments.specs.Pileup.{Row, rowOf, only, usableCalls, 
 use Rattle.variants_and_fragments.specs.Sums.{countOver}
 use Rattle.variants_and_fragments.proofs.Alls.{all-imp, all-map, all-append}
 use Rattle.variants_and_fragments.proofs.Only.{only-in, only-out, only-none, only-append, only-all}
-use Rattle.no_haplotypes.specs.NoHaplotypes.{rowDirection, alleleCalls, strandCalls, callsAt}
+use Rattle.no_haplotypes.specs.NoHaplotypes.{rowStrand, alleleCalls, strandCalls, callsAt}
 
 -- ---- lists
 pub only-count : {X : Type 0} (p : X → Bool) (xs ys : List X) → length (only p (xs ++ ys)) ≡ length (only p xs) + length (only p ys)
@@ -72,15 +72,15 @@ module _ (case : Case) where
   shows x row = eqb (row .call .allele) x
 
   abbrev on : ℕ → ℕ → Row → Bool
-  on strand x row = eqb (rowDirection case row) strand && eqb (row .call .allele) x
+  on strand x row = eqb (rowStrand case row) strand && eqb (row .call .allele) x
 
   both-strands : (x : ℕ) (rows : List Row) → length (only (on 0 x) rows) + length (only (on 1 x) rows) ≡ length (only (shows x) rows)
   both-strands x [] = rw (only-none (on 0 x), only-none (on 1 x), only-none (shows x))
   both-strands x (row ∷ rows) =
       by-test (shows x row)
-      (λ t. elim (ℕ-discrete (rowDirection case row) 0) [
-        | yes f ↦ rw (only-in (on 0 x) row rows (rw (eq-eqb (rowDirection case row) 0 f, t)), only-out (on 1 x) row rows (rw (ne-eqb (rowDirection case row) 1 (λ g. omega arith))), only-in (shows x) row rows t) (omega (arith, both-strands x rows))
-        | no f ↦ rw (only-out (on 0 x) row rows (rw (ne-eqb (rowDirection case row) 0 f)), only-in (on 1 x) row rows (rw (eq-eqb (rowDirection case row) 1 (omega arith), t)), only-in (shows x) row rows t) (omega (arith, both-strands x rows))
+      (λ t. elim (ℕ-discrete (rowStrand case row) 0) [
+        | yes f ↦ rw (only-in (on 0 x) row rows (rw (eq-eqb (rowStrand case row) 0 f, t)), only-out (on 1 x) row rows (rw (ne-eqb (rowStrand case row) 1 (λ g. omega arith))), only-in (shows x) row rows t) (omega (arith, both-strands x rows))
+        | no f ↦ rw (only-out (on 0 x) row rows (rw (ne-eqb (rowStrand case row) 0 f)), only-in (on 1 x) row rows (rw (eq-eqb (rowStrand case row) 1 (omega arith), t)), only-in (shows x) row rows t) (omega (arith, both-strands x rows))
       ])
       (λ t. rw (only-out (on 0 x) row rows (rw (t, and-false)), only-out (on 1 x) row rows (rw (t, and-false)), only-out (shows x) row rows t) (both-strands x rows))
 

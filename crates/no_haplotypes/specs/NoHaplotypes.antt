@@ -54,18 +54,18 @@ gqFrom post k = gqOf post k (calledFrom post k)
 
 -- ---- counts
 
--- the direction of a row's fragment
-abbrev pub rowDirection : Case → Row → ℕ
-rowDirection case row = direction (fragmentOf case (row .fragment) .strand)
+-- the strand of a row's fragment, 0 forward or 1 reverse
+abbrev pub rowStrand : Case → Row → ℕ
+rowStrand case row = direction (fragmentOf case (row .fragment) .strand)
 
 module _ (case : Case) (v : ℕ) where
   -- the usable calls at v that show allele x; none where it is absent
   unfoldable pub alleleCalls : ℕ → ℕ
   alleleCalls x = length (only (λ (row : Row). eqb (row .call .allele) x) (pileOf case v))
 
-  -- those of them in a direction: 0 forward, 1 reverse
+  -- those of them on a strand: 0 forward, 1 reverse
   unfoldable pub strandCalls : ℕ → ℕ → ℕ
-  strandCalls strand x = length (only (λ (row : Row). eqb (rowDirection case row) strand && eqb (row .call .allele) x) (pileOf case v))
+  strandCalls strand x = length (only (λ (row : Row). eqb (rowStrand case row) strand && eqb (row .call .allele) x) (pileOf case v))
 
   -- all calls at v, usable and ambiguous
   unfoldable pub callsAt : ℕ

@@ -1,4 +1,4 @@
-// Calling genotypes without haplotypes: document 01, section 4, as amended by request 4.
+// Calling genotypes without haplotypes: document 01, section 4, as amended by requests 4 and 5.
 ghost use mathlib.Core.Path.{_≡_};
 ghost use Prim.Native.Nat.{_+_, _*_, _<_, _≤_};
 ghost use lib.ListN.{length};

@@ -66,10 +66,10 @@ fn add_call(
     let q = row.qual.0;
     let o = row.one_minus_qual.0;
     let m = mix(t, row.qual, row.one_minus_qual).0;
-    let strand = layout::strand_of(words, s, row.fragment);
+    let strand = layout::direction_of(layout::strand_of(words, s, row.fragment));
     add_gain(gains, x, o - q);
     add_gain(gains, 3 + x, m - q);
-    count_one(counts, 3 * (strand % 2) + x);
+    count_one(counts, 3 * strand + x);
     row.qual
 }
 

@@ -40,17 +40,17 @@ pub record Case : Type 0 where
 abbrev pub alleleCount : Variant → ℕ
 alleleCount variant = length (variant .alleles)
 
--- request 5: a muted fragment stays on file and does not vote
-abbrev pub votes : Fragment → Bool
-votes fragment = ltb (fragment .strand) 2
+-- request 5: a fragment of this strand votes; a muted one stays on file and does not
+abbrev pub votes : ℕ → Bool
+votes strand = ltb strand 2
 
--- forward (0) or reverse (1), muted or not: the strand's parity
+-- its direction, 0 forward or 1 reverse, muted or not: the strand's parity
 abbrev pub direction : ℕ → ℕ
 direction strand = strand % 2
 
 -- a call is usable when its quality is below the cutoff and its fragment votes; equality is ambiguous, and so is every call of a muted fragment
 unfoldable pub usable : ℤ → Fragment → Call → Bool
-usable cutoff fragment call = ltZ (call .qual) cutoff && votes fragment
+usable cutoff fragment call = ltZ (call .qual) cutoff && votes (fragment .strand)
 
 -- what stands past the end of a list of variants or fragments; nothing reads it
 abbrev pub noVariant : Variant

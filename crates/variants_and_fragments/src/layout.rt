@@ -10,6 +10,7 @@ ghost use Rattle.variants_and_fragments.specs.Layout.{sizesOf, lowestQua
 ghost use Rattle.variants_and_fragments.specs.Inner.Layout.{Sized, callWordsAt};
 ghost use Rattle.variants_and_fragments.specs.Inner.Chain.{recordOf, firstRecordAt};
 ghost use Rattle.variants_and_fragments.specs.Inner.Alleles.{VariantsIn};
+ghost use Rattle.variants_and_fragments.specs.Case.{direction};
 ghost use mathlib.Core.Bool.{true};
 use crate::CallWords;
 use crate::Sizes;
@@ -338,6 +339,13 @@ pub fn strand_of(words: &[i32], s: Sizes, f: usize) -> usize
     ensures { λ t. ⌜ t ≡ strandAt (now (words .entry)) s f ⌝ }
 {
     fragment_field(words, s, f, STRAND)
+}
+
+// The direction of a strand, muted or not: 0 forward, 1 reverse.
+pub fn direction_of(strand: usize) -> usize
+    ensures { λ d. ⌜ d ≡ direction strand ⌝ }
+{
+    strand % 2
 }
 
 // ---- a call

@@ -18,7 +18,7 @@ use Rattle.late_reads.specs.Values.{maxCount, readCount}
 abbrev pub addAt : ℤ → ℕ → List ℤ → List ℤ
 addAt d e counts = set counts e (getD counts e (pos 0) +ℤ d)
 
--- the elements at which a call counts: a usable one at its allele, and at its allele in the direction of its read
+-- the elements at which a call counts: a usable one at its allele, and at its allele on the strand of its read, 0 forward or 1 reverse
 abbrev pub allelePlace : CountedCall → ℕ
 allelePlace call = 10 * call .variant + call .allele
 

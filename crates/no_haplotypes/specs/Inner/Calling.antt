@@ -1,4 +1,4 @@
--- 01, section 4, as amended by request 4, as the code goes about it: the piles that the calls are read from, and the answers of one variant and of all.
+-- 01, section 4, as amended by requests 4 and 5, as the code goes about it: the piles that the calls are read from, and the answers of one variant and of all.
 -- Assumes nothing.
 use mathlib.Core.Path.{_≡_}
 use mathlib.Core.Bool.{cond}

@@ -45,7 +45,7 @@ oneGain call = mixOf (call .qual) (call .one-minus-qual) -ℤ call .qual
 unfoldable pub gainAt : (Call → ℤ) → ℕ → Row → ℤ
 gainAt gain x row = cond (eqb (row .call .allele) x) (gain (row .call)) (pos 0)
 
--- a row shows allele x in a direction, and where it is counted
+-- a row shows allele x on a strand, 0 forward or 1 reverse, and where it is counted
 abbrev pub shownOn : List ℤ → Sizes → ℕ → ℕ → Row → Bool
 shownOn w s strand x row = eqb (direction (strandAt w s (row .fragment))) strand && eqb (row .call .allele) x
 

@@ -11,7 +11,6 @@ use lib.Seq.{getD-set-other}
 use mir.Syntax.{w64}
 use mir.Val.{toZ, ofZ}
 use Rattle.steps.proofs.Signed.{minus-fits, minus-read}
-use Rattle.variants_and_fragments.specs.Case.{direction}
 use Rattle.variants_and_fragments.specs.Layout.{strandAt}
 use Rattle.variants_and_fragments.specs.Pileup.{Row}
 use Rattle.pileup.specs.declared.row.Row.{Row as RowHeld}
@@ -68,8 +67,8 @@ strand-of-requires c κs =
 abbrev unpacked : tie.After-mix → tie.After-unpack
 unpacked m = m .before .before .before
 
-abbrev mixing : tie.After-strand-of → tie.After-mix
-mixing d = d .before .before
+abbrev mixing : tie.After-direction-of → tie.After-mix
+mixing d = d .before .before .before
 
 -- a difference of what the code holds
 less-of : {a b x y : ℤ} → a ≡ x → b ≡ y → natAbs x + natAbs y < 2 ^ 63 → toZ w64 (ofZ w64 (toZ w64 (ofZ w64 a) -ℤ toZ w64 (ofZ w64 b))) ≡ x -ℤ y
@@ -129,15 +128,15 @@ add-gain-requires-2 c κs =
     rw (one-read m) (h, omega (arith, ap natAbs e, gain-small u (3 + allele u) h), omega (arith, one-small (row-in u)))
 
 -- ---- the count
-abbrev strand-before : tie.After-count-one-arg → tie.After-strand-of
+abbrev strand-before : tie.After-count-one-arg → tie.After-direction-of
 strand-before c = c .before .before .before .before .before
 
-place-is : (d : tie.After-strand-of) → 3 * direction (d .strand-of .result) + allele (unpacked (mixing d)) ≡ countPlace (now (st (unpacked (mixing d)) .args .words)) (st (unpacked (mixing d)) .args .s) (row (unpacked (mixing d)))
+place-is : (d : tie.After-direction-of) → 3 * d .direction-of .result + allele (unpacked (mixing d)) ≡ countPlace (now (st (unpacked (mixing d)) .args .words)) (st (unpacked (mixing d)) .args .s) (row (unpacked (mixing d)))
 place-is d =
     let u = unpacked (mixing d) in
-    omega (arith, d .strand-of .ensures, ap (λ (r : RowHeld). strandAt (now (st u .args .words)) (st u .args .s) (r .fragment)) (u .unpack .ensures), allele-is u)
+    omega (arith, d .direction-of .ensures, d .before .strand-of .ensures, ap (λ (r : RowHeld). strandAt (now (st u .args .words)) (st u .args .s) (r .fragment)) (u .unpack .ensures), allele-is u)
 
-place-in : (d : tie.After-strand-of) → 3 * direction (d .strand-of .result) + allele (unpacked (mixing d)) < 6
+place-in : (d : tie.After-direction-of) → 3 * d .direction-of .result + allele (unpacked (mixing d)) < 6
 place-in d =
     let u = unpacked (mixing d) in
     omega (arith, place-is d, row-in u .allele-in)
@@ -183,6 +182,7 @@ add-call-spec =
     unpack-requires
     mix-requires
     strand-of-requires
+    (λ c κs. search needs)
     sub-add-gain
     add-gain-requires
     add-add-gain

@@ -17,7 +17,7 @@ use Rattle.variants_and_fragments.specs.Chain.{memb}
 use Rattle.variants_and_fragments.specs.Layout.{qualField, oneMinusQualField, callAt, callSet, callWord}
 use Rattle.variants_and_fragments.specs.Words.{word}
 use Rattle.variants_and_fragments.proofs.Bools.{or-right}
-use Rattle.muted.specs.Unmuted.{recordsEmptied}
+use Rattle.muted.specs.Unmuted.{recordsZeroed}
 
 -- ---- one word set to 0
 set-zero : (w : List ℤ) (j : ℕ) → word (set w j (pos 0)) j ≡ pos 0
@@ -37,35 +37,35 @@ module _ (s : Sizes) where
   abbrev one : List ℤ → ℕ → List ℤ
   one w r = callSet (callSet w s r qualField (pos 0)) s r oneMinusQualField (pos 0)
 
-  pub emptied-long : (w : List ℤ) (rs : List ℕ) → length (recordsEmptied w s rs) ≡ length w
-  unfolding recordsEmptied
-  emptied-long w [] = refl
-  emptied-long w (r ∷ rs) = emptied-long (one w r) rs ∙ simp length-set
+  pub zeroed-long : (w : List ℤ) (rs : List ℕ) → length (recordsZeroed w s rs) ≡ length w
+  unfolding recordsZeroed
+  zeroed-long w [] = refl
+  zeroed-long w (r ∷ rs) = zeroed-long (one w r) rs ∙ simp length-set
 
   -- a word that is no quality of one of the records stays
-  pub emptied-other : (w : List ℤ) (rs : List ℕ) (i : ℕ) → ((r : ℕ) → memb r rs ≡ true → (i ≡ callAt s r + qualField → ⊥) × (i ≡ callAt s r + oneMinusQualField → ⊥))
-      → word (recordsEmptied w s rs) i ≡ word w i
-  unfolding recordsEmptied memb
-  emptied-other w [] i n = refl
-  emptied-other w (r ∷ rs) i n =
+  pub zeroed-other : (w : List ℤ) (rs : List ℕ) (i : ℕ) → ((r : ℕ) → memb r rs ≡ true → (i ≡ callAt s r + qualField → ⊥) × (i ≡ callAt s r + oneMinusQualField → ⊥))
+      → word (recordsZeroed w s rs) i ≡ word w i
+  unfolding recordsZeroed memb
+  zeroed-other w [] i n = refl
+  zeroed-other w (r ∷ rs) i n =
       let here = n r (rw (eq-eqb r r refl) refl) in
-      emptied-other (one w r) rs i (λ x m. n x (or-right (eqb x r) (memb x rs) m))
+      zeroed-other (one w r) rs i (λ x m. n x (or-right (eqb x r) (memb x rs) m))
       ∙ getD-set-other (callSet w s r qualField (pos 0)) (callAt s r + oneMinusQualField) i (pos 0) (pos 0) (here .1)
       ∙ getD-set-other w (callAt s r + qualField) i (pos 0) (pos 0) (here .0)
 
-  emptied-zero : (w : List ℤ) (rs : List ℕ) (i : ℕ) → word w i ≡ pos 0 → word (recordsEmptied w s rs) i ≡ pos 0
-  unfolding recordsEmptied
-  emptied-zero w [] i z = z
-  emptied-zero w (r ∷ rs) i z = emptied-zero (one w r) rs i (zero-stays (callSet w s r qualField (pos 0)) _ i (zero-stays w _ i z))
+  zeroed-zero : (w : List ℤ) (rs : List ℕ) (i : ℕ) → word w i ≡ pos 0 → word (recordsZeroed w s rs) i ≡ pos 0
+  unfolding recordsZeroed
+  zeroed-zero w [] i z = z
+  zeroed-zero w (r ∷ rs) i z = zeroed-zero (one w r) rs i (zero-stays (callSet w s r qualField (pos 0)) _ i (zero-stays w _ i z))
 
   -- the qualities of the records are 0
-  pub emptied-at : (w : List ℤ) (rs : List ℕ) (r : ℕ) → memb r rs ≡ true → (callWord (recordsEmptied w s rs) s r qualField ≡ pos 0) × (callWord (recordsEmptied w s rs) s r oneMinusQualField ≡ pos 0)
-  unfolding recordsEmptied memb
-  emptied-at w [] r m = true-false m refl
-  emptied-at w (x ∷ rs) r m = elim (ℕ-discrete r x) [
+  pub zeroed-at : (w : List ℤ) (rs : List ℕ) (r : ℕ) → memb r rs ≡ true → (callWord (recordsZeroed w s rs) s r qualField ≡ pos 0) × (callWord (recordsZeroed w s rs) s r oneMinusQualField ≡ pos 0)
+  unfolding recordsZeroed memb
+  zeroed-at w [] r m = true-false m refl
+  zeroed-at w (x ∷ rs) r m = elim (ℕ-discrete r x) [
     | yes e ↦ rw e (
-      emptied-zero (one w x) rs (callAt s x + qualField) (zero-stays (callSet w s x qualField (pos 0)) (callAt s x + oneMinusQualField) (callAt s x + qualField) (set-zero w (callAt s x + qualField))),
-      emptied-zero (one w x) rs (callAt s x + oneMinusQualField) (set-zero (callSet w s x qualField (pos 0)) (callAt s x + oneMinusQualField)),
+      zeroed-zero (one w x) rs (callAt s x + qualField) (zero-stays (callSet w s x qualField (pos 0)) (callAt s x + oneMinusQualField) (callAt s x + qualField) (set-zero w (callAt s x + qualField))),
+      zeroed-zero (one w x) rs (callAt s x + oneMinusQualField) (set-zero (callSet w s x qualField (pos 0)) (callAt s x + oneMinusQualField)),
     )
-    | no e ↦ emptied-at (one w x) rs r (rw (ne-eqb r x e) at m)
+    | no e ↦ zeroed-at (one w x) rs r (rw (ne-eqb r x e) at m)
   ]
