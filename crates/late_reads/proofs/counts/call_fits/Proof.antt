@@ -11,14 +11,15 @@ fits-at-requires : tie.Need-fits-at-requires
 fits-at-requires c κs = let st = c .before .before .before in rw (toZ-ofZ (st .fits .d)) (at-allele (st .pre))
 
 fits-at-requires-2 : tie.Need-fits-at-requires-2
-fits-at-requires-2 c κs = let st = c .before .before .before .before .before in rw (toZ-ofZ (st .fits .d)) (at-strand (st .pre) (st .args .strand))
+fits-at-requires-2 c κs = let st = c .before .before .before .before .before .before in rw (c .before .direction-of .ensures, toZ-ofZ (st .fits .d)) (at-strand (st .pre) (st .args .strand))
 
 returns : tie.Need-returns
 unfolding callFits
 returns c =
-    let one = c .before .before in
+    let side = c .before .before in
+    let one = side .before in
     let st = one .before .before .before .before in
-    rw (one .fits-at .ensures, c .fits-at2 .ensures, toZ-ofZ (st .fits .d), one .before .before .if1 .taken)
+    rw (one .fits-at .ensures, c .fits-at2 .ensures, side .direction-of .ensures, toZ-ofZ (st .fits .d), one .before .before .if1 .taken)
 
 fits-at-requires-3 : tie.Need-fits-at-requires-3
 fits-at-requires-3 c κs = let st = c .before .before in rw (toZ-ofZ (st .fits .d)) (at-ambiguous (st .pre))
@@ -34,6 +35,7 @@ call-fits-spec =
     (λ c. search needs)
     (λ c. search needs)
     fits-at-requires
+    (λ c κs. search needs)
     (λ c. search needs)
     (λ c. search needs)
     (λ c. search needs)

@@ -12,9 +12,9 @@ add-at-requires c κs = let st = c .before .before .before .before in rw (toZ-of
 
 add-at-requires-2 : tie.Need-add-at-requires-2
 add-at-requires-2 c κs =
-    let one = c .before .before .before in
+    let one = c .before .before .before .before in
     let st = one .before .before .before .before .before in
-    rw (one .add-at .ensures, toZ-ofZ (st .fits .d)) (at-strand-next (st .pre) (st .args .strand))
+    rw (c .before .direction-of .ensures, one .add-at .ensures, toZ-ofZ (st .fits .d)) (at-strand-next (st .pre) (st .args .strand))
 
 add-at-requires-3 : tie.Need-add-at-requires-3
 add-at-requires-3 c κs = let st = c .before .before .before in rw (toZ-ofZ (st .fits .d)) (at-ambiguous (st .pre))
@@ -23,9 +23,10 @@ returns : tie.Need-returns
 unfolding countCall
 returns c =
     let two = c .before in
-    let one = two .before .before .before .before in
+    let side = two .before .before in
+    let one = side .before .before .before in
     let st = one .before .before .before .before .before in
-    rw (two .add-at2 .ensures, one .add-at .ensures, toZ-ofZ (st .fits .d), one .before .before .before .if1 .taken)
+    rw (two .add-at2 .ensures, side .direction-of .ensures, one .add-at .ensures, toZ-ofZ (st .fits .d), one .before .before .before .if1 .taken)
 
 returns-2 : tie.Need-returns-2
 unfolding countCall
@@ -38,6 +39,7 @@ count-call-spec =
     (λ c. search needs)
     (λ c. search needs)
     add-at-requires
+    (λ c κs. search needs)
     (λ c. search needs)
     (λ c. search needs)
     (λ c. search needs)
