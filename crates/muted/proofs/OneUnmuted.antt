@@ -9,12 +9,12 @@ use Prim.Native.Nat.{ℕ, zero, suc, _+_, _≤_, _<_}
 use native.Mathlib.Omega.{arith}
 use native.Mathlib.Decide.{decLe}
 use borrow.Author.Tests.{le-leb, eq-eqb}
-use lib.Dec.{leb, ltb, eqb, lit<}
+use lib.Dec.{leb, eqb, lit<}
 use lib.IntN.{ℤ, pos}
 use lib.ListN.{length, length-set}
 use lib.Seq.{getD-set-same, getD-set-other}
 use Rattle.variants_and_fragments.specs.declared.Sizes.{Sizes}
-use Rattle.variants_and_fragments.specs.Case.{direction}
+use Rattle.variants_and_fragments.specs.Case.{votes, direction}
 use Rattle.variants_and_fragments.specs.Refusals.{Outcome, done, refused}
 use Rattle.variants_and_fragments.specs.Words.{word, within, below, natOf}
 use Rattle.variants_and_fragments.specs.Layout.{maxStrand, sizesOf, usedField, freeField, firstField, strandField, variantField, alleleField, qualField, oneMinusQualField, nextField, fragmentAt, fragmentWord, callAt, callWord, alleleCountAt, variantOk, callOk}
