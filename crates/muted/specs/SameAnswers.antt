@@ -25,44 +25,37 @@ use Rattle.late_reads.specs.Values.{Values}
 use Rattle.late_reads.specs.LateReads.{LateSlices, lateInput, arriveOutcome, arriveWritten, departOutcome, departWritten}
 use Rattle.muted.specs.Unmuted.{unmutedCase, unmutedWords}
 
--- two answers with what is left in the slices (`Promise` of variants_and_fragments/specs/Refusals.antt has both) are the same
-abbrev pub Same : {X S : Type 0} → Outcome X → S → Outcome X → S → Type 0
-Same outcome written other other-written = (outcome ≡ other) × (written ≡ other-written)
+-- what an operation answers on words, and what it leaves in the slices where it is done (`Promise` of variants_and_fragments/specs/Refusals.antt has
+-- both), are the same on w and on w'
+abbrev pub Same : {X S : Type 0} → List ℤ → List ℤ → (List ℤ → Outcome X) → (List ℤ → S) → Type 0
+Same w w' outcome written = (outcome w ≡ outcome w') × (written w ≡ written w')
 
--- what an arrival or a departure leaves beside the words, in which the strand and the qualities of muted reads stand on
+-- what an arrival or a departure leaves beside the words, in which the strands and qualities of muted reads stand on
 abbrev pub besideWords : LateSlices → List ℤ × List ℤ
 besideWords slices = (slices .likelihoods, slices .counts)
 
--- w and w' stand for cases on which each operation answers and writes the same, whatever else it is given.
+-- on w and w' with the bases b each operation answers and writes the same, whatever else it is given
 pub record SameAnswers (b : List ℕ) (w w' : List ℤ) : Type 0 where
   pub check : checkCaseOutcome w b ≡ checkCaseOutcome w' b
   pub filter : (quals : List Float) (limits : Limits) (before : List ℕ)
-      → Same (varFilterOutcome w b quals limits before) (varFilterWritten (decode w b) quals limits before)
-      (varFilterOutcome w' b quals limits before) (varFilterWritten (decode w' b) quals limits before)
+      → Same w w' (λ v. varFilterOutcome v b quals limits before) (λ v. varFilterWritten (decode v b) quals limits before)
   pub priors : (rates : Rates) (before : List ℤ)
-      → Same (genotypePriorsOutcome w b rates before) (genotypePriorsWritten rates (decode w b) before)
-      (genotypePriorsOutcome w' b rates before) (genotypePriorsWritten rates (decode w' b) before)
+      → Same w w' (λ v. genotypePriorsOutcome v b rates before) (λ v. genotypePriorsWritten rates (decode v b) before)
   pub nohap : (rates : Rates) (before : CallSlices)
-      → Same (callGenotypesNoHaplotypesOutcome w b rates before) (callGenotypesNoHaplotypesWritten rates (decode w b) before)
-      (callGenotypesNoHaplotypesOutcome w' b rates before) (callGenotypesNoHaplotypesWritten rates (decode w' b) before)
+      → Same w w' (λ v. callGenotypesNoHaplotypesOutcome v b rates before) (λ v. callGenotypesNoHaplotypesWritten rates (decode v b) before)
   pub phase : (bytes : List ℕ) (sets : List ℤ) (before : PhaseSlices)
-      → Same (givenPhaseOutcome w b bytes sets before) (givenPhaseWritten (decode w b) bytes sets before)
-      (givenPhaseOutcome w' b bytes sets before) (givenPhaseWritten (decode w' b) bytes sets before)
+      → Same w w' (λ v. givenPhaseOutcome v b bytes sets before) (λ v. givenPhaseWritten (decode v b) bytes sets before)
   pub flist : (single : Bool) (before : List ℕ)
-      → Same (generateFlistBufferOutcome w b single before) (generateFlistBufferWritten (decode w b) single before)
-      (generateFlistBufferOutcome w' b single before) (generateFlistBufferWritten (decode w' b) single before)
+      → Same w w' (λ v. generateFlistBufferOutcome v b single before) (λ v. generateFlistBufferWritten (decode v b) single before)
   pub orders : (seed : ℕ) (before : List ℕ)
-      → Same (sweepOrdersOutcome w b before) (sweepOrdersWritten (decode w b) seed before)
-      (sweepOrdersOutcome w' b before) (sweepOrdersWritten (decode w' b) seed before)
+      → Same w w' (λ v. sweepOrdersOutcome v b before) (λ v. sweepOrdersWritten (decode v b) seed before)
   pub run : (rates : Rates) (phase : List ℕ) (sets : List ℤ) (orders : List ℕ) (limit : ℕ) (before : RoundSlices)
-      → Same (callGenotypesWithHaplotypesOutcome (roundInput w b rates phase orders limit) sets before) (callGenotypesWithHaplotypesWritten (roundInput w b rates phase orders limit) before)
-      (callGenotypesWithHaplotypesOutcome (roundInput w' b rates phase orders limit) sets before) (callGenotypesWithHaplotypesWritten (roundInput w' b rates phase orders limit) before)
+      → Same w w' (λ v. callGenotypesWithHaplotypesOutcome (roundInput v b rates phase orders limit) sets before)
+      (λ v. callGenotypesWithHaplotypesWritten (roundInput v b rates phase orders limit) before)
   pub arrive : (phase haps : List ℕ) (kept : Values) (f : ℕ) (strand : ℤ) (calls : List ℤ)
-      → let here = lateInput w b phase haps kept in let there = lateInput w' b phase haps kept in
-      Same (arriveOutcome here f strand calls) (besideWords (arriveWritten here f strand calls)) (arriveOutcome there f strand calls) (besideWords (arriveWritten there f strand calls))
+      → Same w w' (λ v. arriveOutcome (lateInput v b phase haps kept) f strand calls) (λ v. besideWords (arriveWritten (lateInput v b phase haps kept) f strand calls))
   pub depart : (phase haps : List ℕ) (kept : Values) (f : ℕ)
-      → let here = lateInput w b phase haps kept in let there = lateInput w' b phase haps kept in
-      Same (departOutcome here f) (besideWords (departWritten here f)) (departOutcome there f) (besideWords (departWritten there f))
+      → Same w w' (λ v. departOutcome (lateInput v b phase haps kept) f) (λ v. besideWords (departWritten (lateInput v b phase haps kept) f))
 
 -- of an accepted case, with these words, bases and sizes: `as-unmuted` of proofs/SameAnswers.antt
 pub record AsUnmuted (w : List ℤ) (b : List ℕ) (s : Sizes) : Type 0 where
