@@ -1,4 +1,4 @@
--- Requests 1 and 3: what `arrive` and `depart` answer and write. The order of the tests is document 01's, then the ranges before, the arriving calls, 13,
+-- Requests 1, 3 and 5: what `arrive` and `depart` answer and write. The order of the tests is document 01's, then the ranges before, the arriving calls, 13,
 -- 14, and the ranges after.
 -- Assumes nothing.
 use mathlib.Core.Bool.{Bool, false, not, _&&_}

@@ -1,4 +1,4 @@
--- Request 1: the values kept beside a case while reads come and go, and what one read adds to them. Each is section 4's or section 6's, of one
+-- Request 1, with the usable calls of request 5: the values kept beside a case while reads come and go, and what one read adds to them. Each is section 4's or section 6's, of one
 -- fragment; `afresh` shows that together they are those sections' values of the case.
 -- Assumes nothing.
 use mathlib.Core.Bool.{Bool, not, cond, _&&_, _||_}
