@@ -1,4 +1,5 @@
 // The program: reads requests on standard input and writes an answer to each on standard output.
+#![tactic(auto)]
 mod answers;
 mod arrays;
 mod check;

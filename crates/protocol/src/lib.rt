@@ -1,4 +1,5 @@
 // The text of the request stream: tokens read from standard input, numbers and lines written to standard output.
+#![tactic(auto)]
 mod float;
 pub mod input;
 pub mod number;

@@ -1,1 +1,2 @@
 // Samples (a) to (k) of document 01 as one theorem: statements (specs/) and proofs (proofs/), and no code.
+#![tactic(auto)]

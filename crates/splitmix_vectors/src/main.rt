@@ -1,4 +1,5 @@
 // Runs SplitMix64's published vectors: five outputs from the state 1234567, then four from the state 0. `stdout` holds the published values.
+#![tactic(auto)]
 use libc::STDOUT_FILENO;
 use shuffle::splitmix::{mix, next_state};
 

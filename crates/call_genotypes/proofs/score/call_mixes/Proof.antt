@@ -23,10 +23,10 @@ row s = row_from s.args.row
 
 -- the gap of its qualities
 gap_is : (c : tie.After-gap) → to_z w64 (of_z w64 c.gap.result) ≡ row_gap (row (at c))
-gap_is c = read_back w64 _ c.gap.type-inv ∙ c.gap.ensures.0
+gap_is c = read_back w64 _ c.gap.type_inv ∙ c.gap.ensures.0
 
 gap_small : (c : tie.After-gap) → nat_abs (to_z w64 (of_z w64 c.gap.result)) ≤ 262144
-gap_small c = rw (read_back w64 _ c.gap.type-inv) c.gap.ensures.1
+gap_small c = rw (read_back w64 _ c.gap.type_inv) c.gap.ensures.1
 
 -- the read's likelihoods
 second_is : (c : tie.After-likelihood-at) → let s = at c.before in c.likelihood-at.result.0 ≡ get_or s.args.lik.now (2 * (row s).fragment + 1) (pos 0)
@@ -42,12 +42,12 @@ first_small : (c : tie.After-likelihood-at2) → nat_abs c.likelihood-at2.result
 first_small c = rw (first_is c) ((at c.before.before).requires.1.1.0 _)
 
 turned_small : (c : tie.After-turned) → nat_abs (to_z w64 (of_z w64 c.turned.result)) ≤ 2 ^ 19
-turned_small c = rw (read_back w64 _ c.turned.type-inv) c.turned.ensures.1
+turned_small c = rw (read_back w64 _ c.turned.type_inv) c.turned.ensures.1
 
 -- their distance
 distance_is : (c : tie.After-distance) → let l = c.before.before in
     to_z w64 (of_z w64 c.distance.result) ≡ (l.likelihood-at2.result.0 -ℤ l.before.likelihood-at.result.0) +ℤ to_z w64 (of_z w64 c.before.turned.result)
-distance_is c = read_back w64 _ c.distance.type-inv ∙ c.distance.ensures
+distance_is c = read_back w64 _ c.distance.type_inv ∙ c.distance.ensures
 
 gap_requires : tie.Need-gap-requires
 gap_requires c κs = let s = c.before in (s.requires.1.0.qual_in, s.requires.1.0.one_minus_qual_in)
@@ -72,7 +72,7 @@ unfolding row_mixes
 returns c w =
     let t = c.before.before in
     let b = t.before.before in
-    c.mixes-of.ensures w ∙ rw (distance_is c.before, second_is b, first_is t.before, read_back w64 _ t.turned.type-inv, t.turned.ensures.0, gap_is b.before)
+    c.mixes-of.ensures w ∙ rw (distance_is c.before, second_is b, first_is t.before, read_back w64 _ t.turned.type_inv, t.turned.ensures.0, gap_is b.before)
 
 pub call_mixes_spec : {M : Type 1} → statement M
 call_mixes_spec =

@@ -51,7 +51,7 @@ returns_2 : tie.Need-returns-2
 returns_2 c =
     let b = c.before.before in
     let s = b.before.before.before in
-    mix_values _ _ _ (cc (read_back w64 _ b.ln-one-plus-exp.type-inv, above s)) (cc (read_back w64 _ c.before.ln-one-plus-exp2.type-inv, below s)) (rise s) (cc (read_back w64 _ c.ln-one-plus-exp3.type-inv, here s))
+    mix_values _ _ _ (cc (read_back w64 _ b.ln-one-plus-exp.type_inv, above s)) (cc (read_back w64 _ c.before.ln-one-plus-exp2.type_inv, below s)) (rise s) (cc (read_back w64 _ c.ln-one-plus-exp3.type_inv, here s))
 
 pub mixes_of_spec : {M : Type 1} → statement M
 mixes_of_spec =

@@ -47,7 +47,7 @@ write_scores_requires c κs =
     let k = n.before.before in
     let s = st (start (pair k)) in
     let S = s.pre.1.holds in
-    ((scores_room S.standing.held s.args.v S.v_in _ S.standing.room, rw (read_back w64 _ n.below-first.type-inv) n.below-first.ensures.1), k.score-calls.ensures.small)
+    ((scores_room S.standing.held s.args.v S.v_in _ S.standing.room, rw (read_back w64 _ n.below-first.type_inv) n.below-first.ensures.1), k.score-calls.ensures.small)
 
 returns : tie.Need-returns
 returns c C S =
@@ -56,7 +56,7 @@ returns c C S =
     let p = pair k in
     let t = k.before.before.before in
     scored S (start p).group-start.result p.pair-at.result t.make-turns.new.0 k.score-calls.new.1.1.1.1.0 _ (to_z w64 (of_z w64 n.below-first.result)) (start p).group-start.ensures
-    p.pair-at.ensures t.make-turns.ensures k.score-calls.ensures (read_back w64 _ n.below-first.type-inv ∙ n.below-first.ensures.0) c.before.write-scores.ensures
+    p.pair-at.ensures t.make-turns.ensures k.score-calls.ensures (read_back w64 _ n.below-first.type_inv ∙ n.below-first.ensures.0) c.before.write-scores.ensures
 
 pub scores_spec : {M : Type 1} → statement M
 scores_spec =

@@ -51,7 +51,7 @@ place_low c = let i = turn c in omega (arith, place c, (row_in i).fragment_in, (
 added : (c : tie.After-change invariant_loop decreases_loop) → let i = turn c.before.before in
     to_z w64 (of_z w64 c.change.result) ≡ call_term (row i).call (st i).args.new -ℤ call_term (row i).call (st i).args.old
 added c = let s = st (turn c.before.before) in
-    read_back w64 _ c.change.type-inv ∙ c.change.ensures ∙ ap (λ (x : Row). call_term x.call s.args.new -ℤ call_term x.call s.args.old) (row_is c.before.before.before)
+    read_back w64 _ c.change.type_inv ∙ c.change.ensures ∙ ap (λ (x : Row). call_term x.call s.args.new -ℤ call_term x.call s.args.old) (row_is c.before.before.before)
 
 added_small : (c : tie.After-change invariant_loop decreases_loop) → nat_abs (to_z w64 (of_z w64 c.change.result)) ≤ 2 ^ 19
 added_small c = let i = turn c.before.before in rw (added c) (row_change_size (row_in i) (st i).args.old (st i).args.new)

@@ -29,7 +29,7 @@ returns c =
     let a : SFits w32 got.allele = search (rules, allele.before.struct-told3.given) in
     let q : SFits w32 got.qual = search (rules, c.before.struct-told4.given) in
     counted_is _ (arriving_read st.args.arrival.strand calls) (arriving_call calls st.args.i) c.usable.ensures
-    (to_z-of_z (sfits_of {w = w32} cutoff.cutoff-of.type-inv) ∙ cutoff.cutoff-of.ensures)
+    (to_z-of_z (sfits_of {w = w32} cutoff.cutoff-of.type_inv) ∙ cutoff.cutoff-of.ensures)
     (strand.nat-of.ensures ∙ ap nat_of (to_z-of_z f))
     (to_z-of_z q ∙ ap (λ (x : CallWords). x.qual) is)
     (variant.nat-of2.ensures ∙ ap nat_of (to_z-of_z v ∙ ap (λ (x : CallWords). x.variant) is))

@@ -85,7 +85,7 @@ tested u =
     let fits : SFits w32 (words_read u).arriving-at.result.qual = search u.before.struct-told3.given in
     u.usable.ensures.is (read (start u)) (call (start u)) (sym (rw (to_z-of_z side) at strand.nat-of2.ensures))
     (sym (to_z-of_z fits ∙ ap (λ (x : CallWords). x.qual) (words_are u)))
-    ∙ ap (λ (x : ℤ). usable x (read (start u)) (call (start u))) (to_z-of_z (sfits_of {w = w32} cutoff.cutoff-of.type-inv) ∙ cutoff.cutoff-of.ensures)
+    ∙ ap (λ (x : ℤ). usable x (read (start u)) (call (start u))) (to_z-of_z (sfits_of {w = w32} cutoff.cutoff-of.type_inv) ∙ cutoff.cutoff-of.ensures)
 
 returns : tie.Need-returns
 returns c =

@@ -25,7 +25,7 @@ second s = rw (read_small w64 s.args.b.0 (omega (arith, s.requires.2))) (read_sm
 -- what the first adds to it
 rise : (c : tie.After-ln-one-plus-exp) → let s = st c.before in to_z w64 (of_z w64 c.ln-one-plus-exp.result) ≡ add_exp (s.args.a.0 -ℤ s.args.b.0) (pos 0)
 rise c = let s = st c.before in
-    read_back w64 _ c.ln-one-plus-exp.type-inv ∙ rw (minus_read w64 s.args.a.0 s.args.b.0 (small s)) at c.ln-one-plus-exp.ensures
+    read_back w64 _ c.ln-one-plus-exp.type_inv ∙ rw (minus_read w64 s.args.a.0 s.args.b.0 (small s)) at c.ln-one-plus-exp.ensures
 
 mix_fits : (s : tie.Start) → nat_abs ((s.args.b.0 -ℤ pos 4096) +ℤ add_exp (s.args.a.0 -ℤ s.args.b.0) (pos 0)) ≤ 2 ^ 34 + 8192
 mix_fits s = rw (← mixed_over s.args.a.0 s.args.b.0) (mix_small s.args.a.0 s.args.b.0 (2 ^ 34) s.requires.1 s.requires.2)

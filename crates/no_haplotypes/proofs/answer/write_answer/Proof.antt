@@ -59,7 +59,7 @@ loop_again : tie.Need-loop-preserved invariant_loop decreases_loop
 loop_again c =
     let l = c.before.before.before in
     let s = st l in
-    (omega (arith, c.before.before.loop-test.true), from_on (λ p. pos (get_or (answer_values s.args.g s.args.counts.now s.args.ambiguous s.args.depth) p 0)) (13 * s.args.v) l.loop.p s.args.variants.now l.loop.variants _ l.loop.invariant.1 (read_back w32 c.word_of.result c.word_of.type-inv ∙ c.word_of.ensures ∙ ap pos c.before.answer-value.ensures.0))
+    (omega (arith, c.before.before.loop-test.true), from_on (λ p. pos (get_or (answer_values s.args.g s.args.counts.now s.args.ambiguous s.args.depth) p 0)) (13 * s.args.v) l.loop.p s.args.variants.now l.loop.variants _ l.loop.invariant.1 (read_back w32 c.word_of.result c.word_of.type_inv ∙ c.word_of.ensures ∙ ap pos c.before.answer-value.ensures.0))
 
 same_length : tie.Need-same-length invariant_loop decreases_loop
 same_length c = as_long c.before

@@ -14,7 +14,7 @@ returns_2 : tie.Need-returns-2
 returns_2 c =
     let q = c.before.before.qual-of in
     let o = c.before.one-minus-qual-of in
-    rw (to_z-of_z (sfits_of {w = w32} q.type-inv), to_z-of_z (sfits_of {w = w32} o.type-inv))
+    rw (to_z-of_z (sfits_of {w = w32} q.type_inv), to_z-of_z (sfits_of {w = w32} o.type_inv))
     (rw (c.before.before.before.before.call-variant.ensures, c.before.before.before.called-allele.ensures, q.ensures, o.ensures, c.next-call.ensures)
     (read_some _ _ _ c.before.before.before.before.before.if1.false))
 

@@ -7,13 +7,13 @@ use Rattle.steps.proofs.addend.line.Tie as tie
 fall : (c : tie.Start) → (c.args.x - c.args.y) * c.args.r ≤ (c.args.x - c.args.y) * 32
 fall c = mul-le-mul_left (c.args.x - c.args.y) (omega arith)
 
-sub_result : tie.Need-overflow-sub-result
+sub_result : tie.Need-overflow_sub-result
 sub_result c = search rules
 
-mul_result : tie.Need-overflow-mul-result
+mul_result : tie.Need-overflow_mul-result
 mul_result c = omega (arith, fall c)
 
-sub_result_2 : tie.Need-overflow-sub-result-2
+sub_result_2 : tie.Need-overflow_sub-result-2
 sub_result_2 c = omega (arith, fall c)
 
 returns : tie.Need-returns

@@ -34,10 +34,10 @@ small c =
     let b = (start c).args.b in
     omega (arith, ap nat_abs (larger_is c), addend_is c, larger_size a b (2 ^ 61) (start c).requires.1 (start c).requires.2, at_most (difference a b))
 
-cast_result : tie.Need-overflow-cast-result
+cast_result : tie.Need-overflow_cast-result
 cast_result c = let h = small c in record { sfits = omega arith }
 
-add_result : tie.Need-overflow-add-result
+add_result : tie.Need-overflow_add-result
 add_result c = plus_fits w64 c.before.before.larger.result (pos c.addend.result) (small c)
 
 returns : tie.Need-returns

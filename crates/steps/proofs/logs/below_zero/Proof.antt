@@ -6,10 +6,10 @@ use Rattle.steps.proofs.Signed.{minus_fits, minus_read}
 use Rattle.steps.proofs.logs.below_zero.Statement.{statement}
 use Rattle.steps.proofs.logs.below_zero.Tie as tie
 
-cast_result : tie.Need-overflow-cast-result
+cast_result : tie.Need-overflow_cast-result
 cast_result c = search rules
 
-sub_result : tie.Need-overflow-sub-result
+sub_result : tie.Need-overflow_sub-result
 sub_result c = minus_fits w64 (pos 0) (pos c.args.b) (omega arith)
 
 returns : tie.Need-returns

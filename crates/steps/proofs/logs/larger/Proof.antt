@@ -15,15 +15,15 @@ out_of_order : (a b : ℤ) → le_z b a ≡ false → b ≡ spec.larger a b
 unfolding spec.larger
 out_of_order a b t = rw t
 
-returns : tie.Need-returns
+returns : tie.Need-returns-then-b-a
 returns c =
     let s = c.before in
-    to_z-of_z s.ranges.a ∙ in_order s.args.a s.args.b (sym (read_le w64 s.ranges.b s.ranges.a) ∙ c.if1.true)
+    to_z-of_z s.ranges.a ∙ in_order s.args.a s.args.b (sym (read_le w64 s.ranges.b s.ranges.a) ∙ c.if-b-a.true)
 
-returns_2 : tie.Need-returns-2
+returns_2 : tie.Need-returns-else-b-a
 returns_2 c =
     let s = c.before in
-    to_z-of_z s.ranges.b ∙ out_of_order s.args.a s.args.b (sym (read_le w64 s.ranges.b s.ranges.a) ∙ c.if1.false)
+    to_z-of_z s.ranges.b ∙ out_of_order s.args.a s.args.b (sym (read_le w64 s.ranges.b s.ranges.a) ∙ c.if-b-a.false)
 
 pub larger_spec : {M : Type 1} → statement M
 larger_spec = tie.close (tie.spec returns returns_2)

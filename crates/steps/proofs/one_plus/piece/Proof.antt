@@ -14,35 +14,35 @@ not_below s =
     let d = s.args.d in
     omega (zlin, parts_add d (pos 1099511627776), nat_abs_parts d, up_pos 0, dn_pos 0, up_pos 1099511627776, dn_pos 1099511627776)
 
-add_u : tie.Need-overflow-add-u
+add_u : tie.Need-overflow_add-u
 add_u c = plus_fits w64 c.args.d (pos 1099511627776) (small c)
 
-cast_u : tie.Need-overflow-cast-u
+cast_u : tie.Need-overflow_cast-u
 cast_u c =
     rw (plus_read w64 c.args.d (pos 1099511627776) (small c))
     (non_neg_lem (c.args.d +ℤ pos 1099511627776) (not_below c), record { fits = omega (arith, add_abs c.args.d (pos 1099511627776)) })
 
-wrapping_sub_usize_requires : tie.Need-wrapping-sub-usize-requires
+wrapping_sub_usize_requires : tie.Need-wrapping_sub_usize-e-requires
 wrapping_sub_usize_requires c κs = search rules
 
-add_far : tie.Need-overflow-add-far
+add_far : tie.Need-overflow_add-far
 add_far c = search rules
 
 -- what the difference is
-is_moved : (c : tie.After-wrapping-sub-usize) → (c.wrapping-sub-usize.result + 1099511576448) % 2 ^ 64 ≡ nat_abs (c.before.args.d +ℤ pos 1099511627776)
+is_moved : (c : tie.After-wrapping_sub_usize-e) → (c.wrapping_sub_usize-e.result + 1099511576448) % 2 ^ 64 ≡ nat_abs (c.before.args.d +ℤ pos 1099511627776)
 is_moved c =
-    c.wrapping-sub-usize.ensures
+    c.wrapping_sub_usize-e.ensures
     ∙ ap nat_abs (plus_read w64 c.before.args.d (pos 1099511627776) (small c.before))
 
-returns : tie.Need-returns
+returns : tie.Need-returns-then-k-lt3208
 returns c =
     let w = c.before in
-    piece_near w.wrapping-sub-usize.result (omega arith) w.before.args.d w.before.requires (is_moved w) (omega (arith, c.if1.true))
+    piece_near w.wrapping_sub_usize-e.result (omega arith) w.before.args.d w.before.requires (is_moved w) (omega (arith, c.if-k-lt3208.true))
 
-returns_2 : tie.Need-returns-2
+returns_2 : tie.Need-returns-else-k-lt3208
 returns_2 c =
     let w = c.before in
-    piece_far w.wrapping-sub-usize.result (omega arith) w.before.args.d w.before.requires (is_moved w) (omega (arith, c.if1.false))
+    piece_far w.wrapping_sub_usize-e.result (omega arith) w.before.args.d w.before.requires (is_moved w) (omega (arith, c.if-k-lt3208.false))
 
 pub piece_spec : {M : Type 1} → statement M
 piece_spec =

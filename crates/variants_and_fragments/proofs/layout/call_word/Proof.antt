@@ -16,7 +16,7 @@ word_at_requires : tie.Need-word-at-requires
 word_at_requires c κs = search rules
 
 returns : tie.Need-returns
-returns c = rw (to_z-of_z (sfits_of {w = w32} c.word_at.type-inv)) (rw c.before.call_at.ensures at c.word_at.ensures)
+returns c = rw (to_z-of_z (sfits_of {w = w32} c.word_at.type_inv)) (rw c.before.call_at.ensures at c.word_at.ensures)
 
 pub call_word_spec : {M : Type 1} → statement M
 call_word_spec = tie.close (tie.spec call_at_requires add_word_at word_at_requires returns)

@@ -24,7 +24,7 @@ returns c =
     let b = c.before.before.call-word2 in
     let q = c.before.call-word3 in
     let o = c.call-word4 in
-    rw (to_z-of_z (sfits_of {w = w32} a.type-inv), to_z-of_z (sfits_of {w = w32} b.type-inv), to_z-of_z (sfits_of {w = w32} q.type-inv), to_z-of_z (sfits_of {w = w32} o.type-inv), a.ensures, b.ensures, q.ensures, o.ensures)
+    rw (to_z-of_z (sfits_of {w = w32} a.type_inv), to_z-of_z (sfits_of {w = w32} b.type_inv), to_z-of_z (sfits_of {w = w32} q.type_inv), to_z-of_z (sfits_of {w = w32} o.type_inv), a.ensures, b.ensures, q.ensures, o.ensures)
 
 pub call_words_spec : {M : Type 1} → statement M
 call_words_spec =

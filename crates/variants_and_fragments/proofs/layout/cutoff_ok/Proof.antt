@@ -13,7 +13,7 @@ is_quality_requires : tie.Need-is-quality-requires
 is_quality_requires c κs = search rules
 
 returns : tie.Need-returns
-returns c = rw (to_z-of_z (sfits_of {w = w32} c.before.word_at.type-inv), c.before.word_at.ensures) at c.is-quality.ensures
+returns c = rw (to_z-of_z (sfits_of {w = w32} c.before.word_at.type_inv), c.before.word_at.ensures) at c.is-quality.ensures
 
 pub cutoff_ok_spec : {M : Type 1} → statement M
 cutoff_ok_spec = tie.close (tie.spec word_at_requires is_quality_requires returns)

@@ -16,7 +16,7 @@ cast_result c = search rules
 
 returns : tie.Need-returns
 unfolding within
-returns c = rw (to_z-of_z (sfits_of {w = w32} c.before.first_value.type-inv), c.before.first_value.ensures, to_z_pos w32 {n = c.before.before.args.s.used} (omega (arith, c.before.before.requires.0.used_top, c.before.before.requires.0.c_top)))
+returns c = rw (to_z-of_z (sfits_of {w = w32} c.before.first_value.type_inv), c.before.first_value.ensures, to_z_pos w32 {n = c.before.before.args.s.used} (omega (arith, c.before.before.requires.0.used_top, c.before.before.requires.0.c_top)))
 
 pub first_ok_spec : {M : Type 1} → statement M
 first_ok_spec = tie.close (tie.spec first_value_requires cast_result returns)

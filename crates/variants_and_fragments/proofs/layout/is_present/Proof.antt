@@ -10,7 +10,7 @@ first_value_requires : tie.Need-first-value-requires
 first_value_requires c κs = search rules
 
 returns : tie.Need-returns
-returns c = rw (to_z-of_z (sfits_of {w = w32} c.first_value.type-inv), c.first_value.ensures)
+returns c = rw (to_z-of_z (sfits_of {w = w32} c.first_value.type_inv), c.first_value.ensures)
 
 pub is_present_spec : {M : Type 1} → statement M
 is_present_spec = tie.close (tie.spec first_value_requires returns)

@@ -34,7 +34,7 @@ returns_3 : tie.Need-returns-3
 unfolding i32_in signed_sizes
 returns_3 c =
     let e = c.before.before.before in
-    ap Value (to_z-of_z {w = w32} (record { sfits = c.negated.type-inv }) ∙ c.negated.ensures)
+    ap Value (to_z-of_z {w = w32} (record { sfits = c.negated.type_inv }) ∙ c.negated.ensures)
     ∙ integral_value _ _ _ (st e.before).args.self true c.before.before.if2.true (whole e) (omega arith)
 
 returns_4 : tie.Need-returns-4
