@@ -8,14 +8,14 @@ ghost use Rattle.call_genotypes.specs.Inner.Runs.{RunStart, RanFrom};
 use crate::visit::sweep;
 
 // How many sweeps were made, the last included, and whether the last one changed nothing.
-#[derive(Drop)]
+#[derive(Clone, Copy)]
 pub struct RunAnswer {
     pub sweeps: usize,
     pub settled: bool,
 }
 
 // How many variants an order has, how many orders are lent, and the most sweeps.
-#[derive(Drop)]
+#[derive(Clone, Copy)]
 pub struct Plan {
     pub n: usize,
     pub m: usize,

@@ -14,7 +14,7 @@ use steps::LogProb;
 use steps::one_plus::ln_one_plus_exp;
 
 // A variant's alleles on the two haplotypes.
-#[derive(Drop)]
+#[derive(Clone, Copy)]
 pub struct Pair {
     pub first: usize,
     pub second: usize,
@@ -22,7 +22,7 @@ pub struct Pair {
 
 // Of a call: its gap, and ln(1 + exp(d)) for how far its read's first likelihood is above the second, if the first haplotype alone has the
 // call's allele, if the second alone has it, and if neither or both have it.
-#[derive(Drop)]
+#[derive(Clone, Copy)]
 pub struct Mixes {
     pub first: i64,
     pub second: i64,

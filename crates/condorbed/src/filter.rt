@@ -43,7 +43,7 @@ pub fn answer(
 }
 
 // density_qual density_dist density_count max_depth `[filters u8]`, and the reader after them.
-#[derive(Drop)]
+#[derive(Clone, Copy)]
 pub struct Limits {
     pub density: DensityParameters,
     pub max_depth: u32,

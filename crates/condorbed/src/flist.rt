@@ -27,7 +27,7 @@ pub fn answer(
 }
 
 // A flag that was read, and the reader after it.
-#[derive(Drop)]
+#[derive(Clone, Copy)]
 pub struct FlagPart {
     pub set: bool,
     pub reader: Reader,

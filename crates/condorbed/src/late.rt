@@ -82,7 +82,7 @@ fn answer_pairs(
 }
 
 // The total and the fragment that were read, and the reader after them.
-#[derive(Drop)]
+#[derive(Clone, Copy)]
 pub struct Numbers {
     pub total: LogProb,
     pub fragment: u32,

@@ -9,7 +9,7 @@ use protocol::{Buffer, input};
 use steps::LogProb;
 
 // A case that was read: the lengths of its two slices, and the reader after them.
-#[derive(Drop)]
+#[derive(Clone, Copy)]
 pub struct CasePart {
     pub words: usize,
     pub bases: usize,
@@ -37,7 +37,7 @@ pub fn read_case(
 }
 
 // The rates that were read, and the reader after them.
-#[derive(Drop)]
+#[derive(Clone, Copy)]
 pub struct RatesPart {
     pub rates: Rates,
     pub reader: Reader,
@@ -72,7 +72,7 @@ pub fn read_rates(input: &mut Buffer, reader: Reader) -> RatesPart {
 }
 
 // A rate that was read, in steps, and the reader after it.
-#[derive(Drop)]
+#[derive(Clone, Copy)]
 pub struct RatePart {
     pub steps: i64,
     pub reader: Reader,
@@ -89,7 +89,7 @@ fn read_rate(input: &mut Buffer, reader: Reader) -> RatePart {
 }
 
 // A given phase that was read: the lengths of its two slices, and the reader after them.
-#[derive(Drop)]
+#[derive(Clone, Copy)]
 pub struct PhasePart {
     pub phase: usize,
     pub sets: usize,
@@ -117,7 +117,7 @@ pub fn read_phase(
 }
 
 // The lengths of the slices of qualities, and the reader after them.
-#[derive(Drop)]
+#[derive(Clone, Copy)]
 pub struct QualitiesPart {
     pub quals: usize,
     pub gqs: usize,

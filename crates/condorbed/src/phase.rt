@@ -60,7 +60,7 @@ fn answer_given(
 }
 
 // The lengths of the output slices, and the reader after them.
-#[derive(Drop)]
+#[derive(Clone, Copy)]
 pub struct Fronts {
     pub haplotypes: usize,
     pub phased: usize,

@@ -16,7 +16,7 @@ use protocol::input::{Reader, Reason};
 use protocol::{Buffer, input};
 
 // The operations that a request can ask for.
-#[derive(Drop)]
+#[derive(Clone, Copy)]
 pub enum Operation {
     Check,
     Filter,
@@ -31,7 +31,7 @@ pub enum Operation {
 }
 
 // What the next word of the input asks for: nothing at the end of the input.
-#[derive(Drop)]
+#[derive(Clone, Copy)]
 pub enum Asked {
     End,
     For(Operation),

@@ -74,7 +74,7 @@ fn answer_phase(
 }
 
 // The numbers that the operation reads.
-#[derive(Drop)]
+#[derive(Clone, Copy)]
 pub struct Given {
     pub rates: Rates,
     pub limit: u32,
@@ -117,7 +117,7 @@ fn answer_given(
 }
 
 // The lengths of the first three output slices, and the reader after them.
-#[derive(Drop)]
+#[derive(Clone, Copy)]
 pub struct Fronts {
     pub haplotypes: usize,
     pub likelihoods: usize,

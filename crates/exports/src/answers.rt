@@ -7,7 +7,7 @@ use variants_and_fragments::{Refusal, number, place};
 
 // The answer of an operation that returns no values.
 #[repr(C)]
-#[derive(Drop)]
+#[derive(Clone, Copy)]
 pub struct Answer {
     pub number: usize,
     pub place: usize,
@@ -15,7 +15,7 @@ pub struct Answer {
 
 // The answer of the check of a case: where done, the sizes that the head gives; else these are 0.
 #[repr(C)]
-#[derive(Drop)]
+#[derive(Clone, Copy)]
 pub struct CheckAnswer {
     pub number: usize,
     pub place: usize,
@@ -29,7 +29,7 @@ pub struct CheckAnswer {
 
 // The answer of the fragment lines: where done, how many bytes and lines were written; else these are 0.
 #[repr(C)]
-#[derive(Drop)]
+#[derive(Clone, Copy)]
 pub struct FlistAnswer {
     pub number: usize,
     pub place: usize,
@@ -40,7 +40,7 @@ pub struct FlistAnswer {
 // The answer of a round: where done, how many sweeps were made, whether the last one changed nothing, the phased totals at
 // the start and at the end, and the source's total at the end; else these are 0.
 #[repr(C)]
-#[derive(Drop)]
+#[derive(Clone, Copy)]
 pub struct RoundAnswer {
     pub number: usize,
     pub place: usize,
@@ -53,7 +53,7 @@ pub struct RoundAnswer {
 
 // The answer of an arrival or a departure: where done, that the sample is not settled, and the new phased total; else these are 0.
 #[repr(C)]
-#[derive(Drop)]
+#[derive(Clone, Copy)]
 pub struct LateAnswer {
     pub number: usize,
     pub place: usize,

@@ -6,7 +6,7 @@ use steps::{LogProb, PHREDProb};
 
 // The rates from which the priors are made, in steps.
 #[repr(C)]
-#[derive(Drop)]
+#[derive(Clone, Copy)]
 pub struct Rates {
     pub hom_snv: i64,
     pub het_snv: i64,
@@ -18,7 +18,7 @@ pub struct Rates {
 
 // When variants stand too close: more than n others of quality gq or more within len bases.
 #[repr(C)]
-#[derive(Drop)]
+#[derive(Clone, Copy)]
 pub struct DensityParameters {
     pub n: u32,
     pub len: u32,

@@ -9,7 +9,7 @@ pub const DELETION: usize = 4;
 pub const INSERTION: usize = 5;
 
 // What a comparison leaves: the reference base, and the allele's letter.
-#[derive(Drop)]
+#[derive(Clone, Copy)]
 pub struct Compared {
     pub base: usize,
     pub letter: usize,

@@ -17,7 +17,7 @@ mod priors;
 pub mod table;
 
 // The rates from which the priors are made.
-#[derive(Drop)]
+#[derive(Clone, Copy)]
 pub struct Rates {
     pub hom_snv: LogProb,
     pub het_snv: LogProb,

@@ -11,7 +11,7 @@ use steps::phred::capped_phred;
 use steps::{LogProb, PHREDProb};
 
 // A pair of allele numbers.
-#[derive(Drop)]
+#[derive(Clone, Copy)]
 pub struct Genotype(pub u8, pub u8);
 
 // Entry (i, j).

@@ -64,7 +64,7 @@ pub fn given_phase(
 }
 
 // What `generate_flist_buffer` answers: how many bytes and lines it wrote.
-#[derive(Drop)]
+#[derive(Clone, Copy)]
 pub enum Buffered {
     Done { bytes: usize, lines: usize },
     Refused(Refusal),

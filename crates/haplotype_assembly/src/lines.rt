@@ -116,7 +116,7 @@ pub fn write_qualities(
 // ---- a line
 
 // What a line starts with: the number of its blocks, its id and its fragment's strand.
-#[derive(Drop)]
+#[derive(Clone, Copy)]
 pub struct Head {
     pub blocks: usize,
     pub id: usize,

@@ -12,7 +12,7 @@ use pileup::row::unpack;
 use variants_and_fragments::Sizes;
 
 // What rows add to a line, so far: shown calls, blocks, allele bytes, and the variant that goes on with the block.
-#[derive(Drop)]
+#[derive(Clone, Copy)]
 pub struct Tally {
     pub calls: usize,
     pub blocks: usize,
@@ -85,7 +85,7 @@ pub fn line_bytes(t: Tally, id: usize) -> usize
 }
 
 // Bytes and lines, so far.
-#[derive(Drop)]
+#[derive(Clone, Copy)]
 pub struct Counted {
     pub bytes: usize,
     pub lines: usize,

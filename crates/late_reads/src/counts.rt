@@ -16,7 +16,7 @@ use variants_and_fragments::Sizes;
 use variants_and_fragments::layout::{cutoff_of, direction_of, first_call, nat_of, strand_of};
 
 // A call as the counts see it.
-#[derive(Drop)]
+#[derive(Clone, Copy)]
 pub struct CountedCall {
     pub variant: usize,
     pub allele: usize,

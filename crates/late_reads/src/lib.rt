@@ -25,14 +25,14 @@ mod reads;
 mod words;
 
 // What an arrival or a departure answers: unsettled, with the new phased total.
-#[derive(Drop)]
+#[derive(Clone, Copy)]
 pub enum Updated {
     Unsettled(LogProb),
     Refused(Refusal),
 }
 
 // A read that arrives: the number of its fragment, and its strand.
-#[derive(Drop)]
+#[derive(Clone, Copy)]
 pub struct Arrival {
     pub fragment: usize,
     pub strand: i32,

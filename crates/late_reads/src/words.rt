@@ -17,7 +17,7 @@ use variants_and_fragments::layout::{
 };
 
 // The records that are left to take: the first free one or 0, and how many are used.
-#[derive(Drop)]
+#[derive(Clone, Copy)]
 pub struct RoomLeft {
     pub free: usize,
     pub used: usize,

@@ -8,7 +8,7 @@ use pileup::row::unpack;
 use steps::LogProb;
 
 // A read's likelihoods on the two haplotypes.
-#[derive(Drop)]
+#[derive(Clone, Copy)]
 pub struct ReadLikelihoods {
     pub first: LogProb,
     pub second: LogProb,

@@ -12,7 +12,7 @@ use steps::LogProb;
 use variants_and_fragments::{Sizes, layout};
 
 // A variant's pile: where its rows start and end among the words, and how many calls at the variant are ambiguous.
-#[derive(Drop)]
+#[derive(Clone, Copy)]
 pub struct Pile {
     pub start: usize,
     pub end: usize,

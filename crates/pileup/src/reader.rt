@@ -10,7 +10,7 @@ use variants_and_fragments::layout::{
 };
 
 // A call of a fragment.
-#[derive(Drop)]
+#[derive(Clone, Copy)]
 pub struct Call {
     pub variant: usize,
     pub allele: usize,
@@ -19,14 +19,14 @@ pub struct Call {
 }
 
 // What a reader gives: the chain's end, or a call.
-#[derive(Drop)]
+#[derive(Clone, Copy)]
 pub enum CallRead {
     End,
     Call(Call),
 }
 
 // A step along a chain: what is read, and the number of the record after it.
-#[derive(Drop)]
+#[derive(Clone, Copy)]
 pub struct CallStep {
     pub read: CallRead,
     pub next: usize,

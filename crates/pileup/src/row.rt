@@ -8,7 +8,7 @@ use steps::LogProb;
 use variants_and_fragments::layout::MUTED;
 
 // A call that is usable, with the number of its fragment.
-#[derive(Drop)]
+#[derive(Clone, Copy)]
 pub struct Row {
     pub fragment: usize,
     pub variant: usize,

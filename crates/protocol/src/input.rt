@@ -12,7 +12,7 @@ use libc::STDIN_FILENO;
 
 // Why the program cannot read a token: an unknown request, no number of its type, the length of a slice that its array
 // does not hold, the end of the input in its place.
-#[derive(Drop)]
+#[derive(Clone, Copy)]
 pub enum Reason {
     Request,
     Number,
@@ -22,7 +22,7 @@ pub enum Reason {
 
 // Where the reading stands in the input: the next byte and the end of the bytes in the buffer, and how
 // many bytes may still be read.
-#[derive(Drop)]
+#[derive(Clone, Copy)]
 pub struct Cursor {
     pub at: usize,
     pub fill: usize,
@@ -30,7 +30,7 @@ pub struct Cursor {
 }
 
 // A byte of the input, or its end (`more` is false), and where the reading stands after it.
-#[derive(Drop)]
+#[derive(Clone, Copy)]
 pub struct Step {
     pub byte: u8,
     pub more: bool,
@@ -173,7 +173,7 @@ fn refill(input: &mut [u8]) -> usize {
 }
 
 // The step to the first byte of a token, or to the end of the input, and its line.
-#[derive(Drop)]
+#[derive(Clone, Copy)]
 pub struct Start {
     pub step: Step,
     pub line: u64,
@@ -199,7 +199,7 @@ fn token_start(input: &mut Buffer, cursor: Cursor, from: u64) -> Start {
 }
 
 // A token that is to be a number, and the reader after it.
-#[derive(Drop)]
+#[derive(Clone, Copy)]
 pub struct Token {
     pub number: Number,
     pub reader: Reader,
@@ -240,7 +240,7 @@ pub fn read_token(input: &mut Buffer, reader: Reader) -> Token
 }
 
 // A u8 that was read, and the reader after it.
-#[derive(Drop)]
+#[derive(Clone, Copy)]
 pub struct U8Part {
     pub value: u8,
     pub reader: Reader,
@@ -264,7 +264,7 @@ pub fn read_u8(input: &mut Buffer, reader: Reader) -> U8Part {
 }
 
 // A u32 that was read, and the reader after it.
-#[derive(Drop)]
+#[derive(Clone, Copy)]
 pub struct U32Part {
     pub value: u32,
     pub reader: Reader,
@@ -288,7 +288,7 @@ pub fn read_u32(input: &mut Buffer, reader: Reader) -> U32Part {
 }
 
 // A u64 that was read, and the reader after it.
-#[derive(Drop)]
+#[derive(Clone, Copy)]
 pub struct U64Part {
     pub value: u64,
     pub reader: Reader,
@@ -312,7 +312,7 @@ pub fn read_u64(input: &mut Buffer, reader: Reader) -> U64Part {
 }
 
 // An i32 that was read, and the reader after it.
-#[derive(Drop)]
+#[derive(Clone, Copy)]
 pub struct I32Part {
     pub value: i32,
     pub reader: Reader,
@@ -336,7 +336,7 @@ pub fn read_i32(input: &mut Buffer, reader: Reader) -> I32Part {
 }
 
 // An i64 that was read, and the reader after it.
-#[derive(Drop)]
+#[derive(Clone, Copy)]
 pub struct I64Part {
     pub value: i64,
     pub reader: Reader,
@@ -360,7 +360,7 @@ pub fn read_i64(input: &mut Buffer, reader: Reader) -> I64Part {
 }
 
 // An f64 that was read, and the reader after it.
-#[derive(Drop)]
+#[derive(Clone, Copy)]
 pub struct F64Part {
     pub value: f64,
     pub reader: Reader,
@@ -384,7 +384,7 @@ pub fn read_f64(input: &mut Buffer, reader: Reader) -> F64Part {
 }
 
 // A slice that was read into an array: its length, and the reader after it.
-#[derive(Drop)]
+#[derive(Clone, Copy)]
 pub struct SlicePart {
     pub length: usize,
     pub reader: Reader,
@@ -559,7 +559,7 @@ pub fn read_front_f64(input: &mut Buffer, reader: Reader, out: &[f64]) -> SliceP
 }
 
 // A request's word: its bytes as the digits of a number in base 256 after a 1, and the reader after it.
-#[derive(Drop)]
+#[derive(Clone, Copy)]
 pub struct WordPart {
     pub word: u64,
     pub reader: Reader,

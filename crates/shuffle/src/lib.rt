@@ -13,7 +13,7 @@ mod orders;
 pub mod splitmix;
 
 // What the check of a run's orders finds: all good, with their number m, or the place of refusal 8.
-#[derive(Drop)]
+#[derive(Clone, Copy)]
 pub enum OrdersChecked {
     Good(usize),
     Bad(usize),

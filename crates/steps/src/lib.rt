@@ -15,15 +15,15 @@ pub mod one_plus;
 pub mod phred;
 
 // A log probability, in steps.
-#[derive(Drop)]
+#[derive(Clone, Copy)]
 pub struct LogProb(pub i64);
 
 // A probability.
-#[derive(Drop)]
+#[derive(Clone, Copy)]
 pub struct Prob(pub f64);
 
 // A Phred-scaled probability.
-#[derive(Drop)]
+#[derive(Clone, Copy)]
 pub struct PHREDProb(pub f64);
 
 // The knots. An operation copies them once, at its top, and lends the copy: a const that is indexed is copied at each use.

@@ -16,7 +16,7 @@ use variants_and_fragments::{
 };
 
 // When variants stand too close: more than n others of quality gq or more within len bases.
-#[derive(Drop)]
+#[derive(Clone, Copy)]
 pub struct DensityParameters {
     pub n: u32,
     pub len: u32,
@@ -65,7 +65,7 @@ pub fn is_finite(x: PHREDProb) -> bool
 
 // A window that slides along the variants: end is the first variant past it, ahead says how many of it are strong and still to be
 // visited, last is one past the last strong one below end (0: none), and until one past the last variant that is marked so far (0: none).
-#[derive(Drop)]
+#[derive(Clone, Copy)]
 pub struct Window {
     pub end: usize,
     pub ahead: usize,

@@ -19,7 +19,7 @@ mod refusals;
 mod variants;
 
 // What the head says: N, F, C, how many records are used, the first free one or 0, and the cutoff.
-#[derive(Drop)]
+#[derive(Clone, Copy)]
 pub struct Sizes {
     pub n: usize,
     pub f: usize,
@@ -30,7 +30,7 @@ pub struct Sizes {
 }
 
 // The first four words of a call's record.
-#[derive(Drop)]
+#[derive(Clone, Copy)]
 pub struct CallWords {
     pub variant: i32,
     pub allele: i32,
@@ -39,7 +39,7 @@ pub struct CallWords {
 }
 
 // Why an operation turned its input down, with the place of the fault: document 01's table and the requests', number by number.
-#[derive(Drop)]
+#[derive(Clone, Copy)]
 pub enum Refusal {
     Head(usize),
     Variant(usize),
@@ -58,21 +58,21 @@ pub enum Refusal {
 }
 
 // The answer of an operation that returns nothing but done: what it makes stands in the lent slices.
-#[derive(Drop)]
+#[derive(Clone, Copy)]
 pub enum Answered {
     Done,
     Refused(Refusal),
 }
 
 // The answer of the check.
-#[derive(Drop)]
+#[derive(Clone, Copy)]
 pub enum Checked {
     Accepted(Sizes),
     Refused(Refusal),
 }
 
 // The filters that a variant fails.
-#[derive(Drop)]
+#[derive(Clone, Copy)]
 pub enum VarFilter {
     Pass,
     Density,

@@ -10,7 +10,7 @@ use shuffle::{OrdersChecked, check_orders};
 use variants_and_fragments::{Refusal, earlier, short_of};
 
 // What the checks find: nothing, with the number m of orders, or a refusal.
-#[derive(Drop)]
+#[derive(Clone, Copy)]
 pub enum RoundChecked {
     Good(usize),
     Refused(Refusal),

@@ -11,7 +11,7 @@ use steps::PHREDProb;
 use variants_and_fragments::{Sizes, VarFilter, layout};
 
 // The called pair, the quality of the variant, that of the pair, and the filter.
-#[derive(Drop)]
+#[derive(Clone, Copy)]
 pub struct FinalAnswer {
     pub genotype: Genotype,
     pub qual: PHREDProb,

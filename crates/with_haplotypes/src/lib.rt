@@ -19,7 +19,7 @@ mod scratch;
 
 // How many sweeps were made, whether the last one changed nothing, the phased totals at the start and at the end, and the source's total
 // at the end, over all variants and usable calls.
-#[derive(Drop)]
+#[derive(Clone, Copy)]
 pub struct RoundAnswer {
     pub sweeps: usize,
     pub settled: bool,
@@ -29,7 +29,7 @@ pub struct RoundAnswer {
 }
 
 // What a round goes by: the sizes of its case, how many orders are lent, and the most sweeps.
-#[derive(Drop)]
+#[derive(Clone, Copy)]
 pub struct RoundSizes {
     pub s: Sizes,
     pub m: usize,
@@ -37,7 +37,7 @@ pub struct RoundSizes {
 }
 
 // What `call_genotypes_with_haplotypes` answers.
-#[derive(Drop)]
+#[derive(Clone, Copy)]
 pub enum Round {
     Done(RoundAnswer),
     Refused(Refusal),

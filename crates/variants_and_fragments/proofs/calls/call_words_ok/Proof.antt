@@ -8,39 +8,39 @@ use borrow.Author.Rules.{rules}
 use Rattle.variants_and_fragments.proofs.calls.call_words_ok.Statement.{statement}
 use Rattle.variants_and_fragments.proofs.calls.call_words_ok.Tie as tie
 
-nat_of_requires : tie.Need-nat-of-requires
+nat_of_requires : tie.Need-nat_of-v-requires
 nat_of_requires c κs = search rules
 
-returns : tie.Need-returns
+returns : tie.Need-returns-then-n-v
 returns c =
     let st = c.before.before.before in
     let f : SFits w32 st.args.call.variant = search rules in
-    call_off _ _ _ _ _ _ st.requires.0 (rw (c.before.nat-of.ensures, to_z-of_z f) at c.if1.true)
+    call_off _ _ _ _ _ _ st.requires.0 (rw (c.before.nat_of-v.ensures, to_z-of_z f) at c.if-n-v.true)
 
-allele_count_requires : tie.Need-allele-count-requires
+allele_count_requires : tie.Need-allele_count-k-requires
 allele_count_requires c κs = search rules
 
-nat_of_requires_2 : tie.Need-nat-of-requires-2
+nat_of_requires_2 : tie.Need-nat_of-a-requires
 nat_of_requires_2 c κs = search rules
 
-is_quality_requires : tie.Need-is-quality-requires
+is_quality_requires : tie.Need-is_quality-qual-requires
 is_quality_requires c κs = search rules
 
-is_quality_requires_2 : tie.Need-is-quality-requires-2
+is_quality_requires_2 : tie.Need-is_quality-one_minus_qual-requires
 is_quality_requires_2 c κs = search rules
 
-returns_2 : tie.Need-returns-2
+returns_2 : tie.Need-returns
 returns_2 c =
     let a = c.before.before.before.before in
     let count = a.before.before in
     let kept = count.before in
-    let v = kept.before.nat-of.ensures in
+    let v = kept.before.nat_of-v.ensures in
     let st = kept.before.before.before in
     let f : SFits w32 st.args.call.variant = search rules in
     let g : SFits w32 st.args.call.allele = search rules in
-    let q : SFits w32 st.args.call.qual = search c.before.before.before.struct-told3.given in
-    let o : SFits w32 st.args.call.one_minus_qual = search c.before.struct-told4.given in
-    rw (call_tests _ _ _ _ _ _ st.requires.0 st.requires.1 (rw (v, to_z-of_z f) at kept.if1.false), a.nat-of2.ensures, count.allele-count.ensures, c.before.before.is-quality.ensures, c.is-quality2.ensures, v, to_z-of_z f, to_z-of_z g, to_z-of_z q, to_z-of_z o)
+    let q : SFits w32 st.args.call.qual = search c.before.before.before.struct_told-3-1.given in
+    let o : SFits w32 st.args.call.one_minus_qual = search c.before.struct_told-4-1.given in
+    rw (call_tests _ _ _ _ _ _ st.requires.0 st.requires.1 (rw (v, to_z-of_z f) at kept.if-n-v.false), a.nat_of-a.ensures, count.allele_count-k.ensures, c.before.before.is_quality-qual.ensures, c.is_quality-one_minus_qual.ensures, v, to_z-of_z f, to_z-of_z g, to_z-of_z q, to_z-of_z o)
 
 pub call_words_ok_spec : {M : Type 1} → statement M
 call_words_ok_spec =

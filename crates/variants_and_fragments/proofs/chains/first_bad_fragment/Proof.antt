@@ -16,53 +16,53 @@ use borrow.Author.Rules.{rules}
 use Rattle.variants_and_fragments.proofs.chains.first_bad_fragment.Statement.{statement}
 use Rattle.variants_and_fragments.proofs.chains.first_bad_fragment.Tie as tie
 
-abbrev invariant_loop : tie.invariant_loop
+abbrev invariant_loop : tie.invariant-loop-f
 invariant_loop words s seen₀ n f₀ seen f = (f ≤ n) × (((j : ℕ) → j < f → fragment_ok words s j ≡ true) × (Marked seen (reached words s f) × (length seen ≡ length seen₀)))
 
-abbrev decreases_loop : tie.decreases_loop
+abbrev decreases_loop : tie.decreases-loop-f
 decreases_loop words s seen₀ n f₀ seen f = n - f
 
 -- the places of a turn: the fragment's test, and the loop's head
-abbrev ok : tie.After-slice-known2 invariant_loop decreases_loop → tie.After-fragment-ok invariant_loop decreases_loop
+abbrev ok : tie.After-slice_known-in-loop-f-1 invariant_loop decreases_loop → tie.After-fragment_ok invariant_loop decreases_loop
 ok c = c.before.before
 
-abbrev lp : tie.After-fragment-ok invariant_loop decreases_loop → tie.At-loop invariant_loop decreases_loop
+abbrev lp : tie.After-fragment_ok invariant_loop decreases_loop → tie.At-loop-f invariant_loop decreases_loop
 lp c = c.before.before.before
 
-loop_holds : tie.Need-loop-init invariant_loop decreases_loop
+loop_holds : tie.Need-loop-f-init invariant_loop decreases_loop
 unfolding reached
 loop_holds c = (omega arith, (below_none _, (c.before.requires.1, refl)))
 
-fragment_ok_requires : tie.Need-fragment-ok-requires invariant_loop decreases_loop
+fragment_ok_requires : tie.Need-fragment_ok-requires invariant_loop decreases_loop
 fragment_ok_requires c κs = search rules
 
-same_length : tie.Need-same-length invariant_loop decreases_loop
+same_length : tie.Need-shape_of-seen-then-not-fragment_ok invariant_loop decreases_loop
 same_length c = search rules
 
-returns : tie.Need-returns invariant_loop decreases_loop
+returns : tie.Need-returns-then-not-fragment_ok invariant_loop decreases_loop
 returns c =
     let k = ok c.before in
-    let more = k.before.before.loop-test.taken in
-    record { at = first_at _ _ _ (lp k).loop.inv.1.0 more (sym k.fragment-ok.ensures.ok ∙ not-true _ c.if1.true); marked = λ e. absurd (omega (arith, more)) }
+    let more = k.before.before.loop-f-test.true in
+    record { at = first_at _ _ _ (lp k).loop-f.inv.1.0 more (sym k.fragment_ok.ensures.ok ∙ not-true _ c.if-not-fragment_ok.true); marked = λ e. absurd (omega (arith, more)) }
 
-add_f : tie.Need-overflow-add-f invariant_loop decreases_loop
+add_f : tie.Need-overflow_add-f invariant_loop decreases_loop
 add_f c = search rules
 
-loop_less : tie.Need-loop-smaller invariant_loop decreases_loop
+loop_less : tie.Need-loop-f-smaller invariant_loop decreases_loop
 loop_less c = search rules
 
-loop_again : tie.Need-loop-preserved invariant_loop decreases_loop
+loop_again : tie.Need-loop-f-preserved invariant_loop decreases_loop
 loop_again c =
     let k = ok c.before in
-    let on : k.fragment-ok.result ≡ true = not-false _ c.if1.false in
-    let inv = (lp k).loop.inv.1 in
-    (omega arith, (below_more _ _ inv.0 (sym k.fragment-ok.ensures.ok ∙ on), (rw add-one (k.fragment-ok.ensures.marked on), k.fragment-ok.kept.1.1.1.0 ∙ inv.1.1)))
+    let on : k.fragment_ok.result ≡ true = not-false _ c.if-not-fragment_ok.false in
+    let inv = (lp k).loop-f.inv.1 in
+    (omega arith, (below_more _ _ inv.0 (sym k.fragment_ok.ensures.ok ∙ on), (rw add-one (k.fragment_ok.ensures.marked on), k.fragment_ok.kept.1.1.1.0 ∙ inv.1.1)))
 
-same_length_2 : tie.Need-same-length-2 invariant_loop decreases_loop
+same_length_2 : tie.Need-shape_of-seen invariant_loop decreases_loop
 same_length_2 c = search rules
 
-returns_2 : tie.Need-returns-2 invariant_loop decreases_loop
-returns_2 c = record { at = first_end _ _ _ c.before.loop.invariant.1.0 (omega arith); marked = λ e. reached_at _ _ _ _ _ e c.before.loop.invariant.1.1.0 }
+returns_2 : tie.Need-returns invariant_loop decreases_loop
+returns_2 c = record { at = first_end _ _ _ c.before.loop-f.invariant.1.0 (omega arith); marked = λ e. reached_at _ _ _ _ _ e c.before.loop-f.invariant.1.1.0 }
 
 pub first_bad_fragment_spec : {M : Type 1} → statement M
 first_bad_fragment_spec =

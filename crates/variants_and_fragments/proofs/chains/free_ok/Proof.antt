@@ -9,31 +9,31 @@ use Rattle.variants_and_fragments.proofs.Free.{marked_chains}
 use Rattle.variants_and_fragments.proofs.chains.free_ok.Statement.{statement}
 use Rattle.variants_and_fragments.proofs.chains.free_ok.Tie as tie
 
-walk_free_requires : tie.Need-walk-free-requires
+walk_free_requires : tie.Need-walk_free-requires
 walk_free_requires c κs = search rules
 
-same_length : tie.Need-same-length
+same_length : tie.Need-shape_of-seen-then-not-walk_free
 same_length c = search rules
 
-returns : tie.Need-returns
+returns : tie.Need-returns-then-not-walk_free
 unfolding free_ok
-returns c = let e = sym c.before.before.before.walk-free.ensures.ok ∙ not-true _ c.if1.true in simp e
+returns c = let e = sym c.before.before.before.walk_free.ensures.ok ∙ not-true _ c.if-not-walk_free.true in simp e
 
-all_marked_requires : tie.Need-all-marked-requires
+all_marked_requires : tie.Need-all_marked-requires
 all_marked_requires c κs = search rules
 
-same_length_2 : tie.Need-same-length-2
+same_length_2 : tie.Need-shape_of-seen
 same_length_2 c = search rules
 
-returns_2 : tie.Need-returns-2
+returns_2 : tie.Need-returns
 unfolding free_ok
 returns_2 c =
     let walk = c.before.before.before.before.before in
     let st = walk.before.before.before in
-    let on = not-false _ c.before.before.if1.false in
-    c.all-marked.ensures
-    ∙ marked_chains st.args.words.now st.args.s _ (omega (arith, st.requires.0.used_top, st.requires.0.c_top)) (walk.walk-free.ensures.marked on)
-    ∙ rw (sym walk.walk-free.ensures.ok ∙ on) refl
+    let on = not-false _ c.before.before.if-not-walk_free.false in
+    c.all_marked.ensures
+    ∙ marked_chains st.args.words.now st.args.s _ (omega (arith, st.requires.0.used_top, st.requires.0.c_top)) (walk.walk_free.ensures.marked on)
+    ∙ rw (sym walk.walk_free.ensures.ok ∙ on) refl
 
 pub free_ok_spec : {M : Type 1} → statement M
 free_ok_spec = tie.close (tie.spec walk_free_requires same_length returns all_marked_requires same_length_2 returns_2)

@@ -5,25 +5,25 @@ use borrow.Author.Rules.{rules}
 use Rattle.variants_and_fragments.proofs.chains.link_ok.Statement.{statement}
 use Rattle.variants_and_fragments.proofs.chains.link_ok.Tie as tie
 
-next_call_requires : tie.Need-next-call-requires
+next_call_requires : tie.Need-next_call-t-requires
 next_call_requires c κs = search rules
 
-returns : tie.Need-returns
-returns c = link_end _ _ _ c.before.before.requires.0 (rw c.before.next-call.ensures at c.if1.true)
+returns : tie.Need-returns-then-t-eq0
+returns c = link_end _ _ _ c.before.before.requires.0 (rw c.before.next_call-t.ensures at c.if-t-eq0.true)
 
-returns_2 : tie.Need-returns-2
-returns_2 c = link_over _ _ _ c.before.before.before.requires.0 (rw c.before.before.next-call.ensures at c.if2.true)
+returns_2 : tie.Need-returns-then-used-t
+returns_2 c = link_over _ _ _ c.before.before.before.requires.0 (rw c.before.before.next_call-t.ensures at c.if-used-t.true)
 
-call_variant_requires : tie.Need-call-variant-requires
+call_variant_requires : tie.Need-call_variant-v-requires
 call_variant_requires c κs = search rules
 
-call_variant_requires_2 : tie.Need-call-variant-requires-2
+call_variant_requires_2 : tie.Need-call_variant-u-requires
 call_variant_requires_2 c κs = search rules
 
-returns_3 : tie.Need-returns-3
+returns_3 : tie.Need-returns
 returns_3 c = let e = c.before.before in
-    let t = e.before.before.next-call.ensures in
-    rw (c.before.call-variant.ensures, c.call-variant2.ensures, t) (link_in _ _ _ e.before.before.before.requires.0 (rw t at e.before.if1.false) (rw t at e.if2.false))
+    let t = e.before.before.next_call-t.ensures in
+    rw (c.before.call_variant-v.ensures, c.call_variant-u.ensures, t) (link_in _ _ _ e.before.before.before.requires.0 (rw t at e.before.if-t-eq0.false) (rw t at e.if-used-t.false))
 
 pub link_ok_spec : {M : Type 1} → statement M
 link_ok_spec =

@@ -9,60 +9,60 @@ use borrow.Author.Rules.{rules}
 use Rattle.variants_and_fragments.proofs.chains.mark_chain.Statement.{statement}
 use Rattle.variants_and_fragments.proofs.chains.mark_chain.Tie as tie
 
-abbrev invariant_loop : tie.invariant_loop
+abbrev invariant_loop : tie.invariant-loop-k
 invariant_loop words s f seen₀ c r₀ k₀ seen r k = Reaching words s f seen r k × (length seen ≡ length seen₀)
 
-abbrev decreases_loop : tie.decreases_loop
+abbrev decreases_loop : tie.decreases-loop-k
 decreases_loop words s f seen₀ c r₀ k₀ seen r k = c - k
 
 -- the entry, from the loop's head
-abbrev st : tie.At-loop invariant_loop decreases_loop → tie.Start invariant_loop decreases_loop
+abbrev st : tie.At-loop-k invariant_loop decreases_loop → tie.Start invariant_loop decreases_loop
 st c = c.before.before.before
 
-first_call_requires : tie.Need-first-call-requires invariant_loop decreases_loop
+first_call_requires : tie.Need-first_call-r-requires invariant_loop decreases_loop
 first_call_requires c κs = search rules
 
-loop_holds : tie.Need-loop-init invariant_loop decreases_loop
-loop_holds c = (reach_start _ _ _ _ _ c.first-call.ensures c.before.before.requires.1.1, refl)
+loop_holds : tie.Need-loop-k-init invariant_loop decreases_loop
+loop_holds c = (reach_start _ _ _ _ _ c.first_call-r.ensures c.before.before.requires.1.1, refl)
 
-add_k : tie.Need-overflow-add-k invariant_loop decreases_loop
+add_k : tie.Need-overflow_add-k invariant_loop decreases_loop
 add_k c = search rules
 
-same_length : tie.Need-same-length invariant_loop decreases_loop
+same_length : tie.Need-shape_of-seen-then-r-eq0 invariant_loop decreases_loop
 same_length c = search rules
 
-returns : tie.Need-returns invariant_loop decreases_loop
-returns c = let l = c.before.before in reach_end (st l).requires.0 l.loop.invariant.0 c.if1.true
+returns : tie.Need-returns-then-r-eq0 invariant_loop decreases_loop
+returns c = let l = c.before.before in reach_end (st l).requires.0 l.loop-k.invariant.0 c.if-r-eq0.true
 
-slice_read_if2 : tie.Need-slice-read-if2 invariant_loop decreases_loop
+slice_read_if2 : tie.Need-bounds-seen-r invariant_loop decreases_loop
 slice_read_if2 c = search rules
 
-same_length_2 : tie.Need-same-length-2 invariant_loop decreases_loop
+same_length_2 : tie.Need-shape_of-seen-then-seen-r-gt0 invariant_loop decreases_loop
 same_length_2 c = search rules
 
-returns_2 : tie.Need-returns-2 invariant_loop decreases_loop
-returns_2 c = let l = c.before.before.before.before in reach_hit (st l).requires.0 l.loop.invariant.0 (λ e. omega (arith, e, c.if2.true))
+returns_2 : tie.Need-returns-then-seen-r-gt0 invariant_loop decreases_loop
+returns_2 c = let l = c.before.before.before.before in reach_hit (st l).requires.0 l.loop-k.invariant.0 (λ e. omega (arith, e, c.if-seen-r-gt0.true))
 
-slice_write_seen : tie.Need-slice-write-seen invariant_loop decreases_loop
+slice_write_seen : tie.Need-bounds-seen-r-in-loop-k invariant_loop decreases_loop
 slice_write_seen c = search rules
 
-next_record_requires : tie.Need-next-record-requires invariant_loop decreases_loop
+next_record_requires : tie.Need-next_record-r-requires invariant_loop decreases_loop
 next_record_requires c κs = search rules
 
-loop_less : tie.Need-loop-smaller invariant_loop decreases_loop
+loop_less : tie.Need-loop-k-smaller invariant_loop decreases_loop
 loop_less c = search rules
 
-loop_again : tie.Need-loop-preserved invariant_loop decreases_loop
+loop_again : tie.Need-loop-k-preserved invariant_loop decreases_loop
 loop_again c =
     let kept = c.before in
     let l = kept.before.before.before.before in
-    (reach_on (st l).requires.0 l.loop.invariant.0 kept.before.before.before.loop-test.true kept.before.before.if1.false (omega (arith, kept.if2.false)) _ c.next-record.ensures, simp length-set l.loop.invariant.1)
+    (reach_on (st l).requires.0 l.loop-k.invariant.0 kept.before.before.before.loop-k-test.true kept.before.before.if-r-eq0.false (omega (arith, kept.if-seen-r-gt0.false)) _ c.next_record-r.ensures, simp length-set l.loop-k.invariant.1)
 
-same_length_3 : tie.Need-same-length-3 invariant_loop decreases_loop
+same_length_3 : tie.Need-shape_of-seen invariant_loop decreases_loop
 same_length_3 c = search rules
 
-returns_3 : tie.Need-returns-3 invariant_loop decreases_loop
-returns_3 c = let l = c.before in reach_out (st l).requires.0 l.loop.invariant.0 c.loop-test.false
+returns_3 : tie.Need-returns invariant_loop decreases_loop
+returns_3 c = let l = c.before in reach_out (st l).requires.0 l.loop-k.invariant.0 c.loop-k-test.false
 
 pub mark_chain_spec : {M : Type 1} → statement M
 mark_chain_spec =

@@ -12,35 +12,35 @@ use borrow.Author.Rules.{rules}
 use Rattle.variants_and_fragments.proofs.chains.mark_reached.Statement.{statement}
 use Rattle.variants_and_fragments.proofs.chains.mark_reached.Tie as tie
 
-abbrev invariant_loop : tie.invariant_loop
+abbrev invariant_loop : tie.invariant-loop-f
 invariant_loop words s seen₀ n f₀ seen f = (f ≤ n) × (ReachMarked words s f seen × (length seen ≡ length seen₀))
 
-abbrev decreases_loop : tie.decreases_loop
+abbrev decreases_loop : tie.decreases-loop-f
 decreases_loop words s seen₀ n f₀ seen f = n - f
 
-loop_holds : tie.Need-loop-init invariant_loop decreases_loop
+loop_holds : tie.Need-loop-f-init invariant_loop decreases_loop
 loop_holds c = (omega arith, (reach_none _ _ _ c.before.requires.1, refl))
 
-mark_chain_requires : tie.Need-mark-chain-requires invariant_loop decreases_loop
+mark_chain_requires : tie.Need-mark_chain-requires invariant_loop decreases_loop
 mark_chain_requires c κs = search rules
 
-add_f : tie.Need-overflow-add-f invariant_loop decreases_loop
+add_f : tie.Need-overflow_add-f invariant_loop decreases_loop
 add_f c = search rules
 
-loop_less : tie.Need-loop-smaller invariant_loop decreases_loop
+loop_less : tie.Need-loop-f-smaller invariant_loop decreases_loop
 loop_less c = search rules
 
-loop_again : tie.Need-loop-preserved invariant_loop decreases_loop
+loop_again : tie.Need-loop-f-preserved invariant_loop decreases_loop
 loop_again c =
     let m = c.before.before in
     let l = m.before.before.before in
-    (omega arith, (rw add-one m.mark-chain.ensures, m.mark-chain.auto.1.1.1.0 ∙ l.loop.invariant.1.1))
+    (omega arith, (rw add-one m.mark_chain.ensures, m.mark_chain.auto.1.1.1.0 ∙ l.loop-f.invariant.1.1))
 
-same_length : tie.Need-same-length invariant_loop decreases_loop
+same_length : tie.Need-shape_of-seen invariant_loop decreases_loop
 same_length c = search rules
 
 returns : tie.Need-returns invariant_loop decreases_loop
-returns c = let l = c.before in reached_at _ _ _ _ _ (omega arith) l.loop.invariant.1.0.marked
+returns c = let l = c.before in reached_at _ _ _ _ _ (omega arith) l.loop-f.invariant.1.0.marked
 
 pub mark_reached_spec : {M : Type 1} → statement M
 mark_reached_spec =

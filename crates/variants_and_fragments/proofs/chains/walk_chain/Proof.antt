@@ -14,106 +14,106 @@ use borrow.Author.Rules.{rules}
 use Rattle.variants_and_fragments.proofs.chains.walk_chain.Statement.{statement}
 use Rattle.variants_and_fragments.proofs.chains.walk_chain.Tie as tie
 
-abbrev invariant_loop : tie.invariant_loop
+abbrev invariant_loop : tie.invariant-loop-k
 invariant_loop words s f seen₀ c r₀ k₀ seen r k = Walking words s (link_ok words s) s.c (reached words s f) (chain_of words s f) seen r k × (length seen ≡ length seen₀)
 
-abbrev decreases_loop : tie.decreases_loop
+abbrev decreases_loop : tie.decreases-loop-k
 decreases_loop words s f seen₀ c r₀ k₀ seen r k = c - k
 
 -- where record r is not passed yet: the loop's head, and the entry
-abbrev lp : tie.Else2 invariant_loop decreases_loop → tie.At-loop invariant_loop decreases_loop
+abbrev lp : tie.Else-seen-r-ne0 invariant_loop decreases_loop → tie.At-loop-k invariant_loop decreases_loop
 lp c = c.before.before.before.before
 
-abbrev st : tie.At-loop invariant_loop decreases_loop → tie.Start invariant_loop decreases_loop
+abbrev st : tie.At-loop-k invariant_loop decreases_loop → tie.Start invariant_loop decreases_loop
 st c = c.before.before.before
 
 -- its link fails
-fails : (c : tie.Else2 invariant_loop decreases_loop) → link_ok (st (lp c)).args.words.now (st (lp c)).args.s (lp c).loop.r ≡ false
-    → Walked (link_ok (st (lp c)).args.words.now (st (lp c)).args.s) (reached (st (lp c)).args.words.now (st (lp c)).args.s (st (lp c)).args.f) (chain_of (st (lp c)).args.words.now (st (lp c)).args.s (st (lp c)).args.f) (lp c).loop.seen false
-fails c h = walk_link (st (lp c)).pre.0 (lp c).loop.invariant.0 c.before.before.before.loop-test.true c.before.before.if1.false c.if2.false h
+fails : (c : tie.Else-seen-r-ne0 invariant_loop decreases_loop) → link_ok (st (lp c)).args.words.now (st (lp c)).args.s (lp c).loop-k.r ≡ false
+    → Walked (link_ok (st (lp c)).args.words.now (st (lp c)).args.s) (reached (st (lp c)).args.words.now (st (lp c)).args.s (st (lp c)).args.f) (chain_of (st (lp c)).args.words.now (st (lp c)).args.s (st (lp c)).args.f) (lp c).loop-k.seen false
+fails c h = walk_link (st (lp c)).requires.0 (lp c).loop-k.invariant.0 c.before.before.before.loop-k-test.true c.before.before.if-r-eq0.false c.if-seen-r-ne0.false h
 
 -- its link holds, and the walk goes on at its next
-goes : (c : tie.Else2 invariant_loop decreases_loop) → link_ok (st (lp c)).args.words.now (st (lp c)).args.s (lp c).loop.r ≡ true → (t : ℕ) → t ≡ next_call_at (st (lp c)).args.words.now (st (lp c)).args.s (lp c).loop.r
-    → Walking (st (lp c)).args.words.now (st (lp c)).args.s (link_ok (st (lp c)).args.words.now (st (lp c)).args.s) (st (lp c)).args.s.c (reached (st (lp c)).args.words.now (st (lp c)).args.s (st (lp c)).args.f) (chain_of (st (lp c)).args.words.now (st (lp c)).args.s (st (lp c)).args.f) (set (lp c).loop.seen (lp c).loop.r 1) t ((lp c).loop.k + 1)
-goes c h t e = walk_on (st (lp c)).pre.0 (lp c).loop.invariant.0 c.before.before.before.loop-test.true c.before.before.if1.false c.if2.false h (link_top _ _ _ h) t e
+goes : (c : tie.Else-seen-r-ne0 invariant_loop decreases_loop) → link_ok (st (lp c)).args.words.now (st (lp c)).args.s (lp c).loop-k.r ≡ true → (t : ℕ) → t ≡ next_call_at (st (lp c)).args.words.now (st (lp c)).args.s (lp c).loop-k.r
+    → Walking (st (lp c)).args.words.now (st (lp c)).args.s (link_ok (st (lp c)).args.words.now (st (lp c)).args.s) (st (lp c)).args.s.c (reached (st (lp c)).args.words.now (st (lp c)).args.s (st (lp c)).args.f) (chain_of (st (lp c)).args.words.now (st (lp c)).args.s (st (lp c)).args.f) (set (lp c).loop-k.seen (lp c).loop-k.r 1) t ((lp c).loop-k.k + 1)
+goes c h t e = walk_on (st (lp c)).requires.0 (lp c).loop-k.invariant.0 c.before.before.before.loop-k-test.true c.before.before.if-r-eq0.false c.if-seen-r-ne0.false h (link_top _ _ _ h) t e
 
-first_call_requires : tie.Need-first-call-requires invariant_loop decreases_loop
+first_call_requires : tie.Need-first_call-r-requires invariant_loop decreases_loop
 first_call_requires c κs = search rules
 
-loop_holds : tie.Need-loop-init invariant_loop decreases_loop
-loop_holds c = (walk_fragment _ _ _ _ _ _ c.first-call.ensures c.before.before.requires.1.1, refl)
+loop_holds : tie.Need-loop-k-init invariant_loop decreases_loop
+loop_holds c = (walk_fragment _ _ _ _ _ _ c.first_call-r.ensures c.before.before.requires.1.1, refl)
 
-add_k : tie.Need-overflow-add-k invariant_loop decreases_loop
+add_k : tie.Need-overflow_add-k invariant_loop decreases_loop
 add_k c = search rules
 
-same_length : tie.Need-same-length invariant_loop decreases_loop
+same_length : tie.Need-shape_of-seen-then-r-eq0 invariant_loop decreases_loop
 same_length c = search rules
 
-returns : tie.Need-returns invariant_loop decreases_loop
-returns c = let l = c.before.before in walk_end (st l).requires.0 l.loop.invariant.0 c.if1.true
+returns : tie.Need-returns-then-r-eq0 invariant_loop decreases_loop
+returns c = let l = c.before.before in walk_end (st l).requires.0 l.loop-k.invariant.0 c.if-r-eq0.true
 
-slice_read_if2 : tie.Need-slice-read-if2 invariant_loop decreases_loop
+slice_read_if2 : tie.Need-bounds-seen-r invariant_loop decreases_loop
 slice_read_if2 c = search rules
 
-same_length_2 : tie.Need-same-length-2 invariant_loop decreases_loop
+same_length_2 : tie.Need-shape_of-seen-then-seen-r-ne0 invariant_loop decreases_loop
 same_length_2 c = search rules
 
-returns_2 : tie.Need-returns-2 invariant_loop decreases_loop
+returns_2 : tie.Need-returns-then-seen-r-ne0 invariant_loop decreases_loop
 returns_2 c =
     let l = c.before.before.before.before in
-    walk_hit (st l).requires.0 l.loop.invariant.0 c.before.before.before.loop-test.true c.before.before.if1.false c.if2.true
+    walk_hit (st l).requires.0 l.loop-k.invariant.0 c.before.before.before.loop-k-test.true c.before.before.if-r-eq0.false c.if-seen-r-ne0.true
 
-add_after : tie.Need-overflow-add-after invariant_loop decreases_loop
+add_after : tie.Need-overflow_add-after invariant_loop decreases_loop
 add_after c = search rules
 
-next_call_requires : tie.Need-next-call-requires invariant_loop decreases_loop
+next_call_requires : tie.Need-next_call-next-requires invariant_loop decreases_loop
 next_call_requires c κs = search rules
 
-after_ok_requires : tie.Need-after-ok-requires invariant_loop decreases_loop
+after_ok_requires : tie.Need-after_ok-requires invariant_loop decreases_loop
 after_ok_requires c κs = search rules
 
-same_length_3 : tie.Need-same-length-3 invariant_loop decreases_loop
+same_length_3 : tie.Need-shape_of-seen-then-not-after_ok invariant_loop decreases_loop
 same_length_3 c = search rules
 
-returns_3 : tie.Need-returns-3 invariant_loop decreases_loop
-returns_3 c = fails c.before.before.before.before (sym c.before.after-ok.ensures ∙ not-true _ c.if4.true)
+returns_3 : tie.Need-returns-then-not-after_ok invariant_loop decreases_loop
+returns_3 c = fails c.before.before.before.before (sym c.before.after_ok.ensures ∙ not-true _ c.if-not-after_ok.true)
 
-slice_write_seen : tie.Need-slice-write-seen invariant_loop decreases_loop
+slice_write_seen : tie.Need-bounds-seen-r-then-next-after invariant_loop decreases_loop
 slice_write_seen c = search rules
 
-loop_less : tie.Need-loop-smaller invariant_loop decreases_loop
+loop_less : tie.Need-loop-k-smaller-then-next-after invariant_loop decreases_loop
 loop_less c = search rules
 
-loop_again : tie.Need-loop-preserved invariant_loop decreases_loop
+loop_again : tie.Need-loop-k-preserved-then-next-after invariant_loop decreases_loop
 loop_again c =
     let e = c.before.before.before.before in
-    (goes e (sym c.before.after-ok.ensures ∙ not-false _ c.if4.false) _ (sym c.before.before.if3.true ∙ c.before.before.before.next-call.ensures), simp length-set (lp e).loop.invariant.1)
+    (goes e (sym c.before.after_ok.ensures ∙ not-false _ c.if-not-after_ok.false) _ (sym c.before.before.if-next-after.true ∙ c.before.before.before.next_call-next.ensures), simp length-set (lp e).loop-k.invariant.1)
 
-link_ok_requires : tie.Need-link-ok-requires invariant_loop decreases_loop
+link_ok_requires : tie.Need-link_ok-requires invariant_loop decreases_loop
 link_ok_requires c κs = search rules
 
-same_length_4 : tie.Need-same-length-4 invariant_loop decreases_loop
+same_length_4 : tie.Need-shape_of-seen-then-not-link_ok invariant_loop decreases_loop
 same_length_4 c = search rules
 
-returns_4 : tie.Need-returns-4 invariant_loop decreases_loop
-returns_4 c = fails c.before.before.before.before (sym c.before.link-ok.ensures ∙ not-true _ c.if5.true)
+returns_4 : tie.Need-returns-then-not-link_ok invariant_loop decreases_loop
+returns_4 c = fails c.before.before.before.before (sym c.before.link_ok.ensures ∙ not-true _ c.if-not-link_ok.true)
 
-slice_write_seen_2 : tie.Need-slice-write-seen-2 invariant_loop decreases_loop
+slice_write_seen_2 : tie.Need-bounds-seen-r-else-next-after invariant_loop decreases_loop
 slice_write_seen_2 c = search rules
 
-loop_less_2 : tie.Need-loop-smaller-2 invariant_loop decreases_loop
+loop_less_2 : tie.Need-loop-k-smaller invariant_loop decreases_loop
 loop_less_2 c = search rules
 
-loop_again_2 : tie.Need-loop-preserved-2 invariant_loop decreases_loop
+loop_again_2 : tie.Need-loop-k-preserved invariant_loop decreases_loop
 loop_again_2 c =
     let e = c.before.before.before.before in
-    (goes e (sym c.before.link-ok.ensures ∙ not-false _ c.if5.false) _ c.before.before.before.next-call.ensures, simp length-set (lp e).loop.invariant.1)
+    (goes e (sym c.before.link_ok.ensures ∙ not-false _ c.if-not-link_ok.false) _ c.before.before.before.next_call-next.ensures, simp length-set (lp e).loop-k.invariant.1)
 
-same_length_5 : tie.Need-same-length-5 invariant_loop decreases_loop
+same_length_5 : tie.Need-shape_of-seen invariant_loop decreases_loop
 same_length_5 c = search rules
 
-returns_5 : tie.Need-returns-5 invariant_loop decreases_loop
-returns_5 c = walk_out (st c.before).pre.0 c.before.loop.invariant.0 c.loop-test.false
+returns_5 : tie.Need-returns invariant_loop decreases_loop
+returns_5 c = walk_out (st c.before).requires.0 c.before.loop-k.invariant.0 c.loop-k-test.false
 
 pub walk_chain_spec : {M : Type 1} → statement M
 walk_chain_spec =

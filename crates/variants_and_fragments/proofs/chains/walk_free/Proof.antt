@@ -12,75 +12,75 @@ use borrow.Author.Rules.{rules}
 use Rattle.variants_and_fragments.proofs.chains.walk_free.Statement.{statement}
 use Rattle.variants_and_fragments.proofs.chains.walk_free.Tie as tie
 
-abbrev invariant_loop : tie.invariant_loop
+abbrev invariant_loop : tie.invariant-loop-k
 invariant_loop words s seen₀ c used t₀ k₀ seen t k = Walking words s (next_ok words s) (suc s.c) (reached words s s.f) (free_chain words s) seen t k × (length seen ≡ length seen₀)
 
-abbrev decreases_loop : tie.decreases_loop
+abbrev decreases_loop : tie.decreases-loop-k
 decreases_loop words s seen₀ c used t₀ k₀ seen t k = suc c - k
 
 -- where record t is not passed yet: the loop's head, and the entry
-abbrev lp : tie.Else2 invariant_loop decreases_loop → tie.At-loop invariant_loop decreases_loop
+abbrev lp : tie.Else-seen-t-gt0 invariant_loop decreases_loop → tie.At-loop-k invariant_loop decreases_loop
 lp c = c.before.before.before.before
 
-abbrev st : tie.At-loop invariant_loop decreases_loop → tie.Start invariant_loop decreases_loop
+abbrev st : tie.At-loop-k invariant_loop decreases_loop → tie.Start invariant_loop decreases_loop
 st c = c.before.before
 
-loop_holds : tie.Need-loop-init invariant_loop decreases_loop
+loop_holds : tie.Need-loop-k-init invariant_loop decreases_loop
 unfolding free_chain
 loop_holds c = (walk_start _ _ _ _ _ _ _ _ c.before.requires.0.free_top refl c.before.requires.1, refl)
 
-add_k : tie.Need-overflow-add-k invariant_loop decreases_loop
+add_k : tie.Need-overflow_add-k invariant_loop decreases_loop
 add_k c = search rules
 
-same_length : tie.Need-same-length invariant_loop decreases_loop
+same_length : tie.Need-shape_of-seen-then-t-eq0 invariant_loop decreases_loop
 same_length c = search rules
 
-returns : tie.Need-returns invariant_loop decreases_loop
-returns c = let l = c.before.before in walk_end (st l).requires.0 l.loop.invariant.0 c.if1.true
+returns : tie.Need-returns-then-t-eq0 invariant_loop decreases_loop
+returns c = let l = c.before.before in walk_end (st l).requires.0 l.loop-k.invariant.0 c.if-t-eq0.true
 
-slice_read_if2 : tie.Need-slice-read-if2 invariant_loop decreases_loop
+slice_read_if2 : tie.Need-bounds-seen-t invariant_loop decreases_loop
 slice_read_if2 c = search rules
 
-same_length_2 : tie.Need-same-length-2 invariant_loop decreases_loop
+same_length_2 : tie.Need-shape_of-seen-then-seen-t-gt0 invariant_loop decreases_loop
 same_length_2 c = search rules
 
-returns_2 : tie.Need-returns-2 invariant_loop decreases_loop
+returns_2 : tie.Need-returns-then-seen-t-gt0 invariant_loop decreases_loop
 returns_2 c =
     let l = c.before.before.before.before in
-    walk_hit (st l).requires.0 l.loop.invariant.0 (omega (arith, c.before.before.before.loop-test.true)) c.before.before.if1.false (λ q. omega (arith, q, c.if2.true))
+    walk_hit (st l).requires.0 l.loop-k.invariant.0 (omega (arith, c.before.before.before.loop-k-test.true)) c.before.before.if-t-eq0.false (λ q. omega (arith, q, c.if-seen-t-gt0.true))
 
-next_call_requires : tie.Need-next-call-requires invariant_loop decreases_loop
+next_call_requires : tie.Need-next_call-next-requires invariant_loop decreases_loop
 next_call_requires c κs = search rules
 
-same_length_3 : tie.Need-same-length-3 invariant_loop decreases_loop
+same_length_3 : tie.Need-shape_of-seen-then-used-next invariant_loop decreases_loop
 same_length_3 c = search rules
 
-returns_3 : tie.Need-returns-3 invariant_loop decreases_loop
+returns_3 : tie.Need-returns-then-used-next invariant_loop decreases_loop
 returns_3 c =
     let e = c.before.before in
     let l = lp e in
-    walk_link (st l).pre.0 l.loop.inv.0 (omega (arith, e.before.before.before.loop-test.true)) e.before.before.if1.false (omega (arith, e.if2.false))
-    (next_in _ _ _ (st l).pre.0 ∙ lt-leb _ _ (rw c.before.next-call.ensures at c.if3.true))
+    walk_link (st l).requires.0 l.loop-k.inv.0 (omega (arith, e.before.before.before.loop-k-test.true)) e.before.before.if-t-eq0.false (omega (arith, e.if-seen-t-gt0.false))
+    (next_in _ _ _ (st l).requires.0 ∙ lt-leb _ _ (rw c.before.next_call-next.ensures at c.if-used-next.true))
 
-slice_write_seen : tie.Need-slice-write-seen invariant_loop decreases_loop
+slice_write_seen : tie.Need-bounds-seen-t-in-loop-k invariant_loop decreases_loop
 slice_write_seen c = search rules
 
-loop_less : tie.Need-loop-smaller invariant_loop decreases_loop
+loop_less : tie.Need-loop-k-smaller invariant_loop decreases_loop
 loop_less c = search rules
 
-loop_again : tie.Need-loop-preserved invariant_loop decreases_loop
+loop_again : tie.Need-loop-k-preserved invariant_loop decreases_loop
 loop_again c =
     let e = c.before.before in
     let l = lp e in
-    let n = c.before.next-call.ensures in
-    let top = rw n at c.if3.false in
-    (walk_on (st l).pre.0 l.loop.inv.0 (omega (arith, e.before.before.before.loop-test.true)) e.before.before.if1.false (omega (arith, e.if2.false)) (next_in _ _ _ (st l).pre.0 ∙ le-leb _ _ top) top _ n, simp length-set l.loop.inv.1)
+    let n = c.before.next_call-next.ensures in
+    let top = rw n at c.if-used-next.false in
+    (walk_on (st l).requires.0 l.loop-k.inv.0 (omega (arith, e.before.before.before.loop-k-test.true)) e.before.before.if-t-eq0.false (omega (arith, e.if-seen-t-gt0.false)) (next_in _ _ _ (st l).requires.0 ∙ le-leb _ _ top) top _ n, simp length-set l.loop-k.inv.1)
 
-same_length_4 : tie.Need-same-length-4 invariant_loop decreases_loop
+same_length_4 : tie.Need-shape_of-seen invariant_loop decreases_loop
 same_length_4 c = search rules
 
-returns_4 : tie.Need-returns-4 invariant_loop decreases_loop
-returns_4 c = walk_out (st c.before).pre.0 c.before.loop.invariant.0 (omega (arith, c.loop-test.false))
+returns_4 : tie.Need-returns invariant_loop decreases_loop
+returns_4 c = walk_out (st c.before).requires.0 c.before.loop-k.invariant.0 (omega (arith, c.loop-k-test.false))
 
 pub walk_free_spec : {M : Type 1} → statement M
 walk_free_spec =

@@ -8,70 +8,70 @@ use Rattle.variants_and_fragments.proofs.head.head_fault.Statement.{statement}
 use Rattle.variants_and_fragments.proofs.head.head_fault.Tie as tie
 
 -- the places passed
-abbrev e2 : tie.Else3 → tie.Else2
+abbrev e2 : tie.Else-s-gt-MAX_FRAGMENTS → tie.Else-s-gt-MAX_VARIANTS
 e2 c = c.before.before
 
-abbrev e3 : tie.Else4 → tie.Else3
+abbrev e3 : tie.Else-s-gt-MAX_CALLS → tie.Else-s-gt-MAX_FRAGMENTS
 e3 c = c.before.before
 
-abbrev read : tie.Else2 → tie.After-read-sizes
+abbrev read : tie.Else-s-gt-MAX_VARIANTS → tie.After-read_sizes-s
 read c = c.before.before
 
-returns : tie.Need-returns
-returns c = head_short _ c.if1.true
+returns : tie.Need-returns-then-words-lt-HEAD_WORDS
+returns c = head_short _ c.if-words-lt-HEAD_WORDS.true
 
-read_sizes_requires : tie.Need-read-sizes-requires
+read_sizes_requires : tie.Need-read_sizes-s-requires
 read_sizes_requires c κs = search rules
 
-returns_2 : tie.Need-returns-2
-returns_2 c = let s = c.before.before in head_variants _ _ s.read-sizes.ensures s.before.if1.false c.if2.true
+returns_2 : tie.Need-returns-then-s-gt-MAX_VARIANTS
+returns_2 c = let s = c.before.before in head_variants _ _ s.read_sizes-s.ensures s.before.if-words-lt-HEAD_WORDS.false c.if-s-gt-MAX_VARIANTS.true
 
-returns_3 : tie.Need-returns-3
+returns_3 : tie.Need-returns-then-s-gt-MAX_FRAGMENTS
 returns_3 c =
     let b = c.before.before in
-    head_fragments _ _ (read b).read-sizes.ensures (read b).before.if1.false b.if2.false c.if3.true
+    head_fragments _ _ (read b).read_sizes-s.ensures (read b).before.if-words-lt-HEAD_WORDS.false b.if-s-gt-MAX_VARIANTS.false c.if-s-gt-MAX_FRAGMENTS.true
 
-returns_4 : tie.Need-returns-4
+returns_4 : tie.Need-returns-then-s-gt-MAX_CALLS
 returns_4 c =
     let d = c.before.before in
     let b = e2 d in
-    head_calls _ _ (read b).read-sizes.ensures (read b).before.if1.left b.if2.left d.if3.false c.if4.true
+    head_calls _ _ (read b).read_sizes-s.ensures (read b).before.if-words-lt-HEAD_WORDS.left b.if-s-gt-MAX_VARIANTS.left d.if-s-gt-MAX_FRAGMENTS.false c.if-s-gt-MAX_CALLS.true
 
-cutoff_ok_requires : tie.Need-cutoff-ok-requires
+cutoff_ok_requires : tie.Need-cutoff_ok-requires
 cutoff_ok_requires c κs = search rules
 
-returns_5 : tie.Need-returns-5
+returns_5 : tie.Need-returns-then-not-cutoff_ok
 returns_5 c =
     let e = c.before.before in
     let d = e3 e in
     let b = e2 d in
-    head_cutoff _ _ (read b).read-sizes.ensures (read b).before.if1.left b.if2.left d.if3.left e.if4.false (sym c.before.cutoff-ok.ensures ∙ not-true _ c.if5.true)
+    head_cutoff _ _ (read b).read_sizes-s.ensures (read b).before.if-words-lt-HEAD_WORDS.left b.if-s-gt-MAX_VARIANTS.left d.if-s-gt-MAX_FRAGMENTS.left e.if-s-gt-MAX_CALLS.false (sym c.before.cutoff_ok.ensures ∙ not-true _ c.if-not-cutoff_ok.true)
 
-returns_6 : tie.Need-returns-6
+returns_6 : tie.Need-returns-then-s
 returns_6 c =
     let g = c.before.before in
     let e = g.before.before in
     let d = e3 e in
     let b = e2 d in
-    head_used _ _ (read b).read-sizes.ensures (read b).before.if1.left b.if2.left d.if3.left e.if4.false (sym g.before.cutoff-ok.ensures ∙ not-false _ g.if5.false) c.if6.true
+    head_used _ _ (read b).read_sizes-s.ensures (read b).before.if-words-lt-HEAD_WORDS.left b.if-s-gt-MAX_VARIANTS.left d.if-s-gt-MAX_FRAGMENTS.left e.if-s-gt-MAX_CALLS.false (sym g.before.cutoff_ok.ensures ∙ not-false _ g.if-not-cutoff_ok.false) c.if-s.true
 
 -- past the records used
-abbrev u2 : tie.Else7 → tie.Else6
+abbrev u2 : tie.Else-s-2 → tie.Else-s
 u2 c = c.before.before
 
-returns_7 : tie.Need-returns-7
+returns_7 : tie.Need-returns-then-s-2
 returns_7 c =
     let u = c.before.before in
     let g = u.before.before in
     let e = g.before.before in
     let d = e3 e in
     let b = e2 d in
-    head_free _ _ (read b).read-sizes.ensures (read b).before.if1.left b.if2.left d.if3.left e.if4.false (sym g.before.cutoff-ok.ensures ∙ not-false _ g.if5.false) u.if6.false c.if7.true
+    head_free _ _ (read b).read_sizes-s.ensures (read b).before.if-words-lt-HEAD_WORDS.left b.if-s-gt-MAX_VARIANTS.left d.if-s-gt-MAX_FRAGMENTS.left e.if-s-gt-MAX_CALLS.false (sym g.before.cutoff_ok.ensures ∙ not-false _ g.if-not-cutoff_ok.false) u.if-s.false c.if-s-2.true
 
-total_words_requires : tie.Need-total-words-requires
+total_words_requires : tie.Need-total_words-all-requires
 total_words_requires c κs = search rules
 
-returns_8 : tie.Need-returns-8
+returns_8 : tie.Need-returns-then-words-all
 returns_8 c =
     let v = c.before.before in
     let u = u2 v in
@@ -79,9 +79,9 @@ returns_8 c =
     let e = g.before.before in
     let d = e3 e in
     let b = e2 d in
-    head_right _ _ (read b).read-sizes.ensures (read b).before.if1.left b.if2.left d.if3.left e.if4.left (sym g.before.cutoff-ok.ensures ∙ not-false _ g.if5.left) u.if6.left v.if7.false (c.if8.true ∙ c.before.total-words.ensures)
+    head_right _ _ (read b).read_sizes-s.ensures (read b).before.if-words-lt-HEAD_WORDS.left b.if-s-gt-MAX_VARIANTS.left d.if-s-gt-MAX_FRAGMENTS.left e.if-s-gt-MAX_CALLS.left (sym g.before.cutoff_ok.ensures ∙ not-false _ g.if-not-cutoff_ok.left) u.if-s.left v.if-s-2.false (c.if-words-all.true ∙ c.before.total_words-all.ensures)
 
-returns_9 : tie.Need-returns-9
+returns_9 : tie.Need-returns
 returns_9 c =
     let v = c.before.before in
     let u = u2 v in
@@ -89,7 +89,7 @@ returns_9 c =
     let e = g.before.before in
     let d = e3 e in
     let b = e2 d in
-    head_length _ _ (read b).read-sizes.ensures (read b).before.if1.left b.if2.left d.if3.left e.if4.left (sym g.before.cutoff-ok.ensures ∙ not-false _ g.if5.left) u.if6.left v.if7.false (λ q. c.if8.false (q ∙ sym c.before.total-words.ensures))
+    head_length _ _ (read b).read_sizes-s.ensures (read b).before.if-words-lt-HEAD_WORDS.left b.if-s-gt-MAX_VARIANTS.left d.if-s-gt-MAX_FRAGMENTS.left e.if-s-gt-MAX_CALLS.left (sym g.before.cutoff_ok.ensures ∙ not-false _ g.if-not-cutoff_ok.left) u.if-s.left v.if-s-2.false (λ q. c.if-words-all.false (q ∙ sym c.before.total_words-all.ensures))
 
 pub head_fault_spec : {M : Type 1} → statement M
 head_fault_spec =

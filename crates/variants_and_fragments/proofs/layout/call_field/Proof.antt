@@ -4,17 +4,17 @@ use borrow.Author.Rules.{rules}
 use Rattle.variants_and_fragments.proofs.layout.call_field.Statement.{statement}
 use Rattle.variants_and_fragments.proofs.layout.call_field.Tie as tie
 
-call_at_requires : tie.Need-call-at-requires
+call_at_requires : tie.Need-call_at-requires
 call_at_requires c κs = search rules
 
-add_nat_at : tie.Need-overflow-add-nat-at
+add_nat_at : tie.Need-overflow_add-call_at
 add_nat_at c = search rules
 
-nat_at_requires : tie.Need-nat-at-requires
+nat_at_requires : tie.Need-nat_at-requires
 nat_at_requires c κs = search rules
 
 returns : tie.Need-returns
-returns c = rw c.before.call_at.ensures at c.nat-at.ensures
+returns c = rw c.before.call_at.ensures at c.nat_at.ensures
 
 pub call_field_spec : {M : Type 1} → statement M
 call_field_spec = tie.close (tie.spec call_at_requires add_nat_at nat_at_requires returns)

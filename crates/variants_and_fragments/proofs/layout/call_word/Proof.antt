@@ -6,13 +6,13 @@ use mir.Facts.{to_z-of_z}
 use Rattle.variants_and_fragments.proofs.layout.call_word.Statement.{statement}
 use Rattle.variants_and_fragments.proofs.layout.call_word.Tie as tie
 
-call_at_requires : tie.Need-call-at-requires
+call_at_requires : tie.Need-call_at-requires
 call_at_requires c κs = search rules
 
-add_word_at : tie.Need-overflow-add-word-at
+add_word_at : tie.Need-overflow_add-call_at
 add_word_at c = search rules
 
-word_at_requires : tie.Need-word-at-requires
+word_at_requires : tie.Need-word_at-requires
 word_at_requires c κs = search rules
 
 returns : tie.Need-returns

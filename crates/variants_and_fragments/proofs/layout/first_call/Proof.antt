@@ -4,10 +4,10 @@ use borrow.Author.Rules.{rules}
 use Rattle.variants_and_fragments.proofs.layout.first_call.Statement.{statement}
 use Rattle.variants_and_fragments.proofs.layout.first_call.Tie as tie
 
-first_word_requires : tie.Need-first-word-requires
+first_word_requires : tie.Need-first_word-requires
 first_word_requires c κs = search rules
 
-record_of_requires : tie.Need-record-of-requires
+record_of_requires : tie.Need-record_of-requires
 record_of_requires c κs = search rules
 
 returns : tie.Need-returns

@@ -6,7 +6,7 @@ use borrow.Author.Rules.{rules, sfits_of}
 use Rattle.variants_and_fragments.proofs.layout.is_present.Statement.{statement}
 use Rattle.variants_and_fragments.proofs.layout.is_present.Tie as tie
 
-first_value_requires : tie.Need-first-value-requires
+first_value_requires : tie.Need-first_value-requires
 first_value_requires c κs = search rules
 
 returns : tie.Need-returns

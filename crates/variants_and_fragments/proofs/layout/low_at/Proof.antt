@@ -13,20 +13,20 @@ use Rattle.variants_and_fragments.proofs.Readings.{nat_top}
 use Rattle.variants_and_fragments.proofs.layout.low_at.Statement.{statement}
 use Rattle.variants_and_fragments.proofs.layout.low_at.Tie as tie
 
-mul_nat_of : tie.Need-overflow-mul-nat-of
+mul_nat_of : tie.Need-offset_bounds-words-i
 mul_nat_of c = search rules
 
-shared_slice_copy_out_nat_of : tie.Need-shared-slice-copy-out-nat-of
+shared_slice_copy_out_nat_of : tie.Need-bounds-words-i
 shared_slice_copy_out_nat_of c = search rules
 
-nat_of_requires : tie.Need-nat-of-requires
+nat_of_requires : tie.Need-nat_of-requires
 nat_of_requires c κs = search rules
 
 returns : tie.Need-returns
 returns c =
     let st = c.before.before in
     let f : SFits w32 (get_or st.args.words.now st.args.i (pos 0)) = search rules in
-    let e : c.nat-of.result ≡ nat_at st.args.words.now st.args.i = rw (to_z-of_z f) at c.nat-of.ensures in
+    let e : c.nat_of.result ≡ nat_at st.args.words.now st.args.i = rw (to_z-of_z f) at c.nat_of.ensures in
     (e, omega (arith, e, nat_top (get_or st.args.words.now st.args.i (pos 0)) f st.requires.1))
 
 pub low_at_spec : {M : Type 1} → statement M

@@ -9,19 +9,19 @@ use lib.IntN.{pos}
 use Rattle.variants_and_fragments.proofs.layout.nat_at.Statement.{statement}
 use Rattle.variants_and_fragments.proofs.layout.nat_at.Tie as tie
 
-mul_nat_of : tie.Need-overflow-mul-nat-of
+mul_nat_of : tie.Need-offset_bounds-words-i
 mul_nat_of c = search rules
 
-shared_slice_copy_out_nat_of : tie.Need-shared-slice-copy-out-nat-of
+shared_slice_copy_out_nat_of : tie.Need-bounds-words-i
 shared_slice_copy_out_nat_of c = search rules
 
-nat_of_requires : tie.Need-nat-of-requires
+nat_of_requires : tie.Need-nat_of-requires
 nat_of_requires c κs = search rules
 
 returns : tie.Need-returns
 returns c =
     let f : SFits w32 (get_or c.before.before.args.words.now c.before.before.args.i (pos 0)) = search rules in
-    rw (to_z-of_z f) at c.nat-of.ensures
+    rw (to_z-of_z f) at c.nat_of.ensures
 
 pub nat_at_spec : {M : Type 1} → statement M
 nat_at_spec = tie.close (tie.spec mul_nat_of shared_slice_copy_out_nat_of nat_of_requires returns)

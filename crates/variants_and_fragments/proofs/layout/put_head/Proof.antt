@@ -7,13 +7,13 @@ use borrow.Author.Rules.{rules}
 use Rattle.variants_and_fragments.proofs.layout.put_head.Statement.{statement}
 use Rattle.variants_and_fragments.proofs.layout.put_head.Tie as tie
 
-cast_put_word : tie.Need-overflow-cast-put-word
+cast_put_word : tie.Need-overflow_cast-x
 cast_put_word c = search rules
 
-put_word_requires : tie.Need-put-word-requires
+put_word_requires : tie.Need-put_word-requires
 put_word_requires c κs = search rules
 
-same_length : tie.Need-same-length
+same_length : tie.Need-shape_of-words
 same_length c = search rules
 
 returns : tie.Need-returns

@@ -7,19 +7,19 @@ use borrow.Author.Rules.{rules}
 use Rattle.variants_and_fragments.proofs.layout.put_next.Statement.{statement}
 use Rattle.variants_and_fragments.proofs.layout.put_next.Tie as tie
 
-call_at_requires : tie.Need-call-at-requires
+call_at_requires : tie.Need-call_at-requires
 call_at_requires c κs = search rules
 
-add_put_word : tie.Need-overflow-add-put-word
+add_put_word : tie.Need-overflow_add-call_at
 add_put_word c = search rules
 
-cast_put_word : tie.Need-overflow-cast-put-word
+cast_put_word : tie.Need-overflow_cast-next
 cast_put_word c = search rules
 
-put_word_requires : tie.Need-put-word-requires
+put_word_requires : tie.Need-put_word-requires
 put_word_requires c κs = search rules
 
-same_length : tie.Need-same-length
+same_length : tie.Need-shape_of-words
 same_length c = search rules
 
 returns : tie.Need-returns

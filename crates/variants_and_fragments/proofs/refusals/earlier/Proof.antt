@@ -4,17 +4,17 @@ use Rattle.variants_and_fragments.proofs.Short.{earlier_right, earlier_left, ear
 use Rattle.variants_and_fragments.proofs.refusals.earlier.Statement.{statement}
 use Rattle.variants_and_fragments.proofs.refusals.earlier.Tie as tie
 
-returns : tie.Need-returns
-returns c = earlier_right _ _ c.if1.true
+returns : tie.Need-returns-then-a-eq0
+returns c = earlier_right _ _ c.if-a-eq0.true
 
-returns_2 : tie.Need-returns-2
-returns_2 c = earlier_left _ _ c.before.if1.false c.if2.true
+returns_2 : tie.Need-returns-then-b-eq0
+returns_2 c = earlier_left _ _ c.before.if-a-eq0.false c.if-b-eq0.true
 
-returns_3 : tie.Need-returns-3
-returns_3 c = earlier_first _ _ c.before.before.if1.false c.before.if2.false c.if3.true
+returns_3 : tie.Need-returns-then-a-b
+returns_3 c = earlier_first _ _ c.before.before.if-a-eq0.false c.before.if-b-eq0.false c.if-a-b.true
 
-returns_4 : tie.Need-returns-4
-returns_4 c = earlier_second _ _ c.before.before.if1.false c.before.if2.false c.if3.false
+returns_4 : tie.Need-returns
+returns_4 c = earlier_second _ _ c.before.before.if-a-eq0.false c.before.if-b-eq0.false c.if-a-b.false
 
 pub earlier_spec : {M : Type 1} → statement M
 earlier_spec = tie.close (tie.spec returns returns_2 returns_3 returns_4)
