@@ -23,7 +23,7 @@ unfolding sum_over
 sum_map h [] g = refl
 sum_map h (x ∷ xs) g = ap (λ z. g (h x) +ℤ z) (sum_map h xs g)
 
-pub sum_same : {X : Type 0} {xs : List X} {g h : X → ℤ} → All (λ x. g x ≡ h x) xs → sum_over xs g ≡ sum_over xs h
+pub sum_same : {X : Type 0} {g h : X → ℤ} {xs : List X} → All (λ x. g x ≡ h x) xs → sum_over xs g ≡ sum_over xs h
 unfolding sum_over
 sum_same end = refl
 sum_same (also e es) = rw (e, sum_same es)
@@ -34,7 +34,7 @@ sum_over_cong [] f g e = refl
 sum_over_cong (x ∷ xs) f g e = rw (e x, sum_over_cong xs f g e)
 
 -- terms that lie n x below 0
-pub sum_debts : {X : Type 0} {xs : List X} {g : X → ℤ} (n : X → ℕ) → All (λ x. g x ≡ neg_ℤ (pos (n x))) xs → sum_over xs g ≡ neg_ℤ (pos (count_over xs n))
+pub sum_debts : {X : Type 0} {g : X → ℤ} (n : X → ℕ) {xs : List X} → All (λ x. g x ≡ neg_ℤ (pos (n x))) xs → sum_over xs g ≡ neg_ℤ (pos (count_over xs n))
 unfolding sum_over count_over
 sum_debts n end = refl
 sum_debts n (also {x} {xs} e es) = rw (e, sum_debts n es) (sym (neg_ℤ-+ℤ (pos (n x)) (pos (count_over xs n))))

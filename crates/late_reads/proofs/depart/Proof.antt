@@ -45,7 +45,7 @@ abbrev below2 : tie.After-is-present → tie.Else1
 below2 c = c.before.before
 
 present : (c : tie.Else2) → let k = from1 (below2 c.before) in present_at (lent (st k)).words (sizes k) (st k).args.fragment ≡ true
-present c = sym c.before.is-present.ensures ∙ not-false _ c.if2.false
+present c = sym c.before.is-present.ensures ∙ c.if2.false
 
 -- ---- the obligations
 check_kept_requires : tie.Need-check-kept-requires
@@ -84,13 +84,13 @@ same_length_6 c = search rules
 returns_2 : tie.Need-returns-2
 returns_2 c =
     let e = below2 c.before in
-    late_refuses (Fragment _) (depart_not_there _ _ _ (accepted (from1 e)) e.if1.left (sym c.before.is-present.ensures ∙ not-true _ c.if2.true))
+    late_refuses (Fragment _) (depart_not_there _ _ _ (accepted (from1 e)) e.if1.false (sym c.before.is-present.ensures ∙ c.if2.true))
 
 depart_kept_requires : tie.Need-depart-kept-requires
 depart_kept_requires c κs =
     let e = c.before.before.before in
     let b = below2 e.before in
-    (kept (from1 b), (b.if1.left, present e))
+    (kept (from1 b), (b.if1.false, present e))
 
 same_length_7 : tie.Need-same-length-7
 same_length_7 c = search rules
@@ -118,7 +118,7 @@ returns_4 c =
     let d = c.before.before.before in
     let e = d.before.before.before.before in
     let b = below2 e.before in
-    departs (lent (st (from1 b))) _ _ (accepted (from1 b)) b.if1.left (present e) d.depart-kept.ensures
+    departs (lent (st (from1 b))) _ _ (accepted (from1 b)) b.if1.false (present e) d.depart-kept.ensures
 
 pub depart_spec : {M : Type 1} → statement M
 depart_spec =

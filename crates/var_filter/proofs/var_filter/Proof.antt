@@ -90,7 +90,7 @@ unfolding var_filter_outcome
 past_short c = enough_on _ _ (fits c) ∙ case_past _ _ _ _ (accepted (case_of c.before))
 
 returns_2 : tie.Need-returns-2
-returns_2 c = refuses _ (unless_at _ 11 0 _ (sym c.before.is-finite.ensures ∙ not-true _ c.if2.true) ∙ past_short c.before.before)
+returns_2 c = refuses _ (unless_at _ 11 0 _ (sym c.before.is-finite.ensures ∙ c.if2.true) ∙ past_short c.before.before)
 
 write_filters_requires : tie.Need-write-filters-requires
 write_filters_requires c κs =
@@ -112,7 +112,7 @@ returns_4 c =
     let finite = written.before.before in
     let e = room finite in
     let k = case_of e.before in
-    does (unless_on _ 11 0 _ (sym finite.before.is-finite.ensures ∙ not-false _ finite.if2.false) ∙ past_short e)
+    does (unless_on _ 11 0 _ (sym finite.before.is-finite.ensures ∙ finite.if2.false) ∙ past_short e)
     (rw (variants_are (case k) (st k).args.bases.now) (written.write-filters.ensures (st k).args.bases.now))
 
 pub var_filter_spec : {M : Type 1} → statement M

@@ -70,15 +70,15 @@ returns : tie.Need-returns invariant_loop decreases_loop
 returns c C R =
     let w = swept c.before in
     let l = turn w in
-    let i = l.before.loop.inv.1 C R in
-    run_settles R i l.loop-test.taken (w.sweep.ensures C (running_sweep R i _)) (not-true _ c.if1.true)
+    let i = l.before.loop.invariant.1 C R in
+    run_settles R i l.loop-test.taken (w.sweep.ensures C (running_sweep R i _)) (c.if1.true)
 
 loop_again : tie.Need-loop-preserved invariant_loop decreases_loop
 loop_again c =
     let w = swept c.before in
     let l = turn w in (
       search rules,
-      λ C R. let i = l.before.loop.inv.1 C R in running_step R i l.loop-test.taken (w.sweep.ensures C (running_sweep R i _)) (not-false _ c.if1.false),
+      λ C R. let i = l.before.loop.invariant.1 C R in running_step R i l.loop-test.taken (w.sweep.ensures C (running_sweep R i _)) (c.if1.false),
     )
 
 returns_2 : tie.Need-returns-2 invariant_loop decreases_loop

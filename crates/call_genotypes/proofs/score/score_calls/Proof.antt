@@ -56,7 +56,7 @@ loop_again : tie.Need-loop-preserved invariant_loop decreases_loop
 loop_again c =
     let g = c.before.before in
     let i = turn g in
-    summing_step _ _ _ _ _ _ _ (value_of g.call-mixes.result) g.before.unpack.result.allele i.before.loop.inv i.loop-test.taken (omega (arith, (st i).pre.1.0.few))
+    summing_step _ _ _ _ _ _ _ (value_of g.call-mixes.result) g.before.unpack.result.allele i.before.loop.invariant i.loop-test.taken (omega (arith, (st i).pre.1.0.few))
     (allele_is g.before) (allele_low g.before) (λ w. g.call-mixes.ensures w ∙ ap (λ (row : Row). row_mixes (st i).args.turns.now (st i).args.lik.now row w) (row_is g.before)) (value_small g) c.add-four.ensures
 
 returns : tie.Need-returns invariant_loop decreases_loop

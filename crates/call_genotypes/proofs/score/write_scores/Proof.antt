@@ -78,7 +78,7 @@ add_p : tie.Need-overflow-add-p invariant_loop decreases_loop
 add_p c = omega (arith, few (turn c))
 
 add_i : tie.Need-overflow-add-i invariant_loop decreases_loop
-add_i c = omega (arith, few (turn c.before), (turn c.before).before.loop.inv.next.few)
+add_i c = omega (arith, few (turn c.before), (turn c.before).before.loop.invariant.next.few)
 
 loop_again : tie.Need-loop-preserved invariant_loop decreases_loop
 loop_again c = let l = (turn c.before).before.loop in writing_row _ _ _ _ _ _ _ _ _ l.inv (turn c.before).loop-test.taken (ap (set l.post _) (written c.before)) c.if1.true

@@ -45,7 +45,7 @@ place : (c : tie.After-struct-known invariant_loop decreases_loop) → 2 * c.bef
 place c = ap (λ (x : Row). 2 * x.fragment + (st (turn c)).args.side) (row_is c.before)
 
 place_low : (c : tie.After-struct-known invariant_loop decreases_loop) → 2 * c.before.unpack.result.fragment + (st (turn c)).args.side < length (turn c).before.loop.lik
-place_low c = let i = turn c in omega (arith, place c, (row_in i).fragment_in, (st i).pre.2, i.before.loop.inv.long)
+place_low c = let i = turn c in omega (arith, place c, (row_in i).fragment_in, (st i).pre.2, i.before.loop.invariant.long)
 
 -- what its call adds
 added : (c : tie.After-change invariant_loop decreases_loop) → let i = turn c.before.before in
@@ -80,7 +80,7 @@ loop_again c =
     let k = d.before.before in
     let i = turn k in
     moving_step _ _ _ _ _ _ _ i.before.loop.p i.before.loop.lik _ (2 * k.before.unpack.result.fragment + (st i).args.side) (to_z w64 (of_z w64 d.change.result))
-    i.before.loop.inv i.loop-test.taken (omega (arith, (st i).pre.0.few)) (place k) (added d) (place_low k) (added_small d) c.before.shift.ensures
+    i.before.loop.invariant i.loop-test.taken (omega (arith, (st i).pre.0.few)) (place k) (added d) (place_low k) (added_small d) c.before.shift.ensures
 
 returns : tie.Need-returns invariant_loop decreases_loop
 returns c = moving_end _ _ _ _ _ _ _ _ _ c.before.loop.invariant c.loop-test.false

@@ -49,7 +49,7 @@ loop_again c =
     let w = visited c.before in
     let l = turn w in (
       search rules,
-      λ C S. let i = l.before.loop.inv.1 C S in sweeping_changed S i l.loop-test.taken (w.visit.ensures C (sweeping_visit S i l.loop-test.taken)) c.if1.true,
+      λ C S. let i = l.before.loop.invariant.1 C S in sweeping_changed S i l.loop-test.taken (w.visit.ensures C (sweeping_visit S i l.loop-test.taken)) c.if1.true,
     )
 
 loop_again_2 : tie.Need-loop-preserved-2 invariant_loop decreases_loop
@@ -57,7 +57,7 @@ loop_again_2 c =
     let w = visited c.before in
     let l = turn w in (
       search rules,
-      λ C S. let i = l.before.loop.inv.1 C S in sweeping_same S i l.loop-test.taken (w.visit.ensures C (sweeping_visit S i l.loop-test.taken)) c.if1.false,
+      λ C S. let i = l.before.loop.invariant.1 C S in sweeping_same S i l.loop-test.taken (w.visit.ensures C (sweeping_visit S i l.loop-test.taken)) c.if1.false,
     )
 
 returns : tie.Need-returns invariant_loop decreases_loop

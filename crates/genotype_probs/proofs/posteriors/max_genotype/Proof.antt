@@ -54,7 +54,7 @@ seen c = c.before.before.before.before.before
 add_p : tie.Need-overflow-add-p invariant_loop decreases_loop
 add_p c =
     let l = (seen c).before.before in
-    let s = l.before.before in omega (arith, l.loop.inv.0, nine s.args.k s.pre.1.k_high)
+    let s = l.before.before in omega (arith, l.loop.invariant.0, nine s.args.k s.pre.1.k_high)
 
 loop_less : tie.Need-loop-smaller invariant_loop decreases_loop
 loop_less c = omega (arith, (seen c).before.loop-test.true)
@@ -73,11 +73,11 @@ loop_again c =
     let b : to_z w64 (of_z w64 d.post-of2.result.0) ≡ d.post-of2.result.0 = search (rules, c.before.struct-told2.given) in
     ⊎_elim
     (λ w.
-    let t : lt_z (value s l.loop.best) (value s l.loop.p) ≡ true = same_test _ _ _ _ true (a ∙ l.loop.inv.2) (b ∙ x) w.0.taken in
-    (omega arith, w.1 ∙ maximum_more (value s) l.loop.best l.loop.p l.loop.inv.1 t, ap (λ (z : LogProb). z.0) w.2 ∙ x ∙ sym (ap (value s) w.1)))
+    let t : lt_z (value s l.loop.best) (value s l.loop.p) ≡ true = same_test _ _ _ _ true (a ∙ l.loop.invariant.2) (b ∙ x) w.0.taken in
+    (omega arith, w.1 ∙ maximum_more (value s) l.loop.best l.loop.p l.loop.invariant.1 t, ap (λ (z : LogProb). z.0) w.2 ∙ x ∙ sym (ap (value s) w.1)))
     (λ w.
-    let t : lt_z (value s l.loop.best) (value s l.loop.p) ≡ false = same_test _ _ _ _ false (a ∙ l.loop.inv.2) (b ∙ x) w.0.left in
-    (omega arith, w.1 ∙ maximum_kept (value s) l.loop.best l.loop.p l.loop.inv.1 t, ap (λ (z : LogProb). z.0) w.2 ∙ l.loop.inv.2 ∙ sym (ap (value s) w.1)))
+    let t : lt_z (value s l.loop.best) (value s l.loop.p) ≡ false = same_test _ _ _ _ false (a ∙ l.loop.invariant.2) (b ∙ x) w.0.left in
+    (omega arith, w.1 ∙ maximum_kept (value s) l.loop.best l.loop.p l.loop.invariant.1 t, ap (λ (z : LogProb). z.0) w.2 ∙ l.loop.invariant.2 ∙ sym (ap (value s) w.1)))
     c.if1.branch
 
 returns : tie.Need-returns invariant_loop decreases_loop

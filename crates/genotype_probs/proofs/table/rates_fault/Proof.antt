@@ -21,7 +21,7 @@ abbrev rates1 : tie.Else1 → Rates
 rates1 c = c.before.before.args.rates
 
 ok1 : (c : tie.Else1) → rate_ok (hom_snv_rate (rates1 c)) ≡ true
-ok1 c = sym c.before.rate-ok.ensures ∙ not-false _ c.if1.false
+ok1 c = sym c.before.rate-ok.ensures ∙ c.if1.false
 
 left1 : (c : tie.Else1) → rates_fault (rates1 c) ≡ fault_from (rates1 c) 1
 unfolding rate_tests
@@ -34,7 +34,7 @@ abbrev rates2 : tie.Else2 → Rates
 rates2 c = rates1 (past1 c)
 
 ok2 : (c : tie.Else2) → rate_ok (het_snv_rate (rates2 c)) ≡ true
-ok2 c = sym c.before.rate-ok2.ensures ∙ not-false _ c.if2.false
+ok2 c = sym c.before.rate-ok2.ensures ∙ c.if2.false
 
 left2 : (c : tie.Else2) → rates_fault (rates2 c) ≡ fault_from (rates2 c) 2
 unfolding rate_tests
@@ -47,7 +47,7 @@ abbrev rates3 : tie.Else3 → Rates
 rates3 c = rates2 (past2 c)
 
 ok3 : (c : tie.Else3) → rate_ok (hom_indel_rate (rates3 c)) ≡ true
-ok3 c = sym c.before.rate-ok3.ensures ∙ not-false _ c.if3.false
+ok3 c = sym c.before.rate-ok3.ensures ∙ c.if3.false
 
 left3 : (c : tie.Else3) → rates_fault (rates3 c) ≡ fault_from (rates3 c) 3
 unfolding rate_tests
@@ -60,7 +60,7 @@ abbrev rates4 : tie.Else4 → Rates
 rates4 c = rates3 (past3 c)
 
 ok4 : (c : tie.Else4) → rate_ok (het_indel_rate (rates4 c)) ≡ true
-ok4 c = sym c.before.rate-ok4.ensures ∙ not-false _ c.if4.false
+ok4 c = sym c.before.rate-ok4.ensures ∙ c.if4.false
 
 left4 : (c : tie.Else4) → rates_fault (rates4 c) ≡ fault_from (rates4 c) 4
 unfolding rate_tests
@@ -73,7 +73,7 @@ abbrev rates5 : tie.Else5 → Rates
 rates5 c = rates4 (past4 c)
 
 ok5 : (c : tie.Else5) → rate_ok (ts_rate (rates5 c)) ≡ true
-ok5 c = sym c.before.rate-ok5.ensures ∙ not-false _ c.if5.false
+ok5 c = sym c.before.rate-ok5.ensures ∙ c.if5.false
 
 left5 : (c : tie.Else5) → rates_fault (rates5 c) ≡ fault_from (rates5 c) 5
 unfolding rate_tests
@@ -86,7 +86,7 @@ abbrev rates6 : tie.Else6 → Rates
 rates6 c = rates5 (past5 c)
 
 ok6 : (c : tie.Else6) → rate_ok (tv_rate (rates6 c)) ≡ true
-ok6 c = sym c.before.rate-ok6.ensures ∙ not-false _ c.if6.false
+ok6 c = sym c.before.rate-ok6.ensures ∙ c.if6.false
 
 left6 : (c : tie.Else6) → rates_fault (rates6 c) ≡ fault_from (rates6 c) 6
 unfolding rate_tests
@@ -98,42 +98,42 @@ rate_ok_requires c κs = search rules
 
 returns : tie.Need-returns
 unfolding rate_tests
-returns c = sym (fault_from_lem c.before.before.args.rates ∙ fault_here c.before.before.args.rates 0 (omega arith) (sym c.before.rate-ok.ensures ∙ not-true _ c.if1.true))
+returns c = sym (fault_from_lem c.before.before.args.rates ∙ fault_here c.before.before.args.rates 0 (omega arith) (sym c.before.rate-ok.ensures ∙ c.if1.true))
 
 rate_ok_requires_2 : tie.Need-rate-ok-requires-2
 rate_ok_requires_2 c κs = search rules
 
 returns_2 : tie.Need-returns-2
 unfolding rate_tests
-returns_2 c = sym (left1 c.before.before ∙ fault_here (rates1 c.before.before) 1 (omega arith) (sym c.before.rate-ok2.ensures ∙ not-true _ c.if2.true))
+returns_2 c = sym (left1 c.before.before ∙ fault_here (rates1 c.before.before) 1 (omega arith) (sym c.before.rate-ok2.ensures ∙ c.if2.true))
 
 rate_ok_requires_3 : tie.Need-rate-ok-requires-3
 rate_ok_requires_3 c κs = search rules
 
 returns_3 : tie.Need-returns-3
 unfolding rate_tests
-returns_3 c = sym (left2 c.before.before ∙ fault_here (rates2 c.before.before) 2 (omega arith) (sym c.before.rate-ok3.ensures ∙ not-true _ c.if3.true))
+returns_3 c = sym (left2 c.before.before ∙ fault_here (rates2 c.before.before) 2 (omega arith) (sym c.before.rate-ok3.ensures ∙ c.if3.true))
 
 rate_ok_requires_4 : tie.Need-rate-ok-requires-4
 rate_ok_requires_4 c κs = search rules
 
 returns_4 : tie.Need-returns-4
 unfolding rate_tests
-returns_4 c = sym (left3 c.before.before ∙ fault_here (rates3 c.before.before) 3 (omega arith) (sym c.before.rate-ok4.ensures ∙ not-true _ c.if4.true))
+returns_4 c = sym (left3 c.before.before ∙ fault_here (rates3 c.before.before) 3 (omega arith) (sym c.before.rate-ok4.ensures ∙ c.if4.true))
 
 rate_ok_requires_5 : tie.Need-rate-ok-requires-5
 rate_ok_requires_5 c κs = search rules
 
 returns_5 : tie.Need-returns-5
 unfolding rate_tests
-returns_5 c = sym (left4 c.before.before ∙ fault_here (rates4 c.before.before) 4 (omega arith) (sym c.before.rate-ok5.ensures ∙ not-true _ c.if5.true))
+returns_5 c = sym (left4 c.before.before ∙ fault_here (rates4 c.before.before) 4 (omega arith) (sym c.before.rate-ok5.ensures ∙ c.if5.true))
 
 rate_ok_requires_6 : tie.Need-rate-ok-requires-6
 rate_ok_requires_6 c κs = search rules
 
 returns_6 : tie.Need-returns-6
 unfolding rate_tests
-returns_6 c = sym (left5 c.before.before ∙ fault_here (rates5 c.before.before) 5 (omega arith) (sym c.before.rate-ok6.ensures ∙ not-true _ c.if6.true))
+returns_6 c = sym (left5 c.before.before ∙ fault_here (rates5 c.before.before) 5 (omega arith) (sym c.before.rate-ok6.ensures ∙ c.if6.true))
 
 rate_sum_requires : tie.Need-rate-sum-requires
 rate_sum_requires c κs =

@@ -34,7 +34,7 @@ abbrev turn : tie.After-unpack invariant_loop decreases_loop → tie.In-loop inv
 turn c = c.before.before
 
 row_in : (c : tie.After-unpack invariant_loop decreases_loop) → RowIn (st (turn c)).args.s.n (st (turn c)).args.s.f (row_from c.unpack.result)
-row_in c = read_in _ _ _ c.unpack.ensures (st (turn c)).pre.1.0 (head (turn c)).loop.inv.0 (turn c).loop-test.true
+row_in c = read_in _ _ _ c.unpack.ensures (st (turn c)).pre.1.0 (head (turn c)).loop.invariant.0 (turn c).loop-test.true
 
 low : (c : tie.After-unpack invariant_loop decreases_loop) → c.unpack.result.variant < 1024
 low c = omega (arith, (row_in c).variant_in, (st (turn c)).pre.0.sized.n_top)
@@ -72,7 +72,7 @@ phased_rule_requires c κs = ((st (turn c)).pre.0, (row_in c).variant_in)
 write_call_requires : tie.Need-write-call-requires invariant_loop decreases_loop
 write_call_requires c κs = let r = c.before.before in
     let u = r.before in
-    let i = (head (turn u)).loop.inv.1 in
+    let i = (head (turn u)).loop.invariant.1 in
     ((low u, (row_in u).allele_in), gather_room i (piece u) _ (left_is r c.before.if1.true) (st (turn u)).pre.1.1)
 
 add_next : tie.Need-overflow-add-next invariant_loop decreases_loop
@@ -88,7 +88,7 @@ loop_again : tie.Need-loop-preserved invariant_loop decreases_loop
 loop_again c =
     let r = c.before in
     let u = r.before in
-    let i = (head (turn u)).loop.inv in
+    let i = (head (turn u)).loop.invariant in
     let more = (turn u).loop-test.true in (
       omega (arith, i.0),
       ⊎_elim

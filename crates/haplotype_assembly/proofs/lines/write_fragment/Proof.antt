@@ -39,7 +39,7 @@ abbrev from : tie.After-strand-of → tie.Start
 from c = st (grouped (tally c))
 
 some : (c : tie.After-strand-of) → has_line (from c).args.single (tally c).tally-rows.result.calls ≡ true
-some c = sym c.before.before.has-line.ensures ∙ not-false _ c.before.if1.false
+some c = sym c.before.before.has-line.ensures ∙ c.before.if1.false
 
 abbrev head : tie.After-strand-of → Head
 head c = record { blocks = (tally c).tally-rows.result.blocks; id = (from c).args.c.lines; strand = c.strand-of.result }
@@ -69,7 +69,7 @@ returns : tie.Need-returns
 returns c =
     let t = c.before.before in
     let i = st (grouped t) in
-    let none = sym c.before.has-line.ensures ∙ not-true _ c.if1.true in
+    let none = sym c.before.has-line.ensures ∙ c.if1.true in
     (put_as (sym (line_none _ _ i.args.c.lines (fragment i) _ (tallied t) none)) (put_none _ _), omega (arith, one_none _ _ 0 (fragment i) _ (tallied t) none))
 
 strand_of_requires : tie.Need-strand-of-requires

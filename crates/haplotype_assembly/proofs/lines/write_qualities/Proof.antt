@@ -35,7 +35,7 @@ abbrev turn : tie.After-unpack invariant_loop decreases_loop → tie.In-loop inv
 turn c = c.before.before
 
 row_in : (c : tie.After-unpack invariant_loop decreases_loop) → RowIn (st (turn c)).args.s.n (st (turn c)).args.s.f (row_from c.unpack.result)
-row_in c = read_in _ _ _ c.unpack.ensures (st (turn c)).pre.1.0 (head (turn c)).loop.inv.0 (turn c).loop-test.true
+row_in c = read_in _ _ _ c.unpack.ensures (st (turn c)).pre.1.0 (head (turn c)).loop.invariant.0 (turn c).loop-test.true
 
 -- where the row is shown, its byte and those of the rows after it are left
 abbrev piece : tie.After-unpack invariant_loop decreases_loop → List ℕ
@@ -52,7 +52,7 @@ left_is c t = let u = c.before in
 -- there is room for its byte
 room : (c : tie.Then1 invariant_loop decreases_loop) → (head (turn c.before.before)).loop.end + 1 ≤ length (head (turn c.before.before)).loop.buffer
 room c = let u = c.before.before in
-    gather_room (head (turn u)).loop.inv.1 (piece u) _ (left_is c.before c.if1.true) (st (turn u)).pre.1.1
+    gather_room (head (turn u)).loop.invariant.1 (piece u) _ (left_is c.before c.if1.true) (st (turn u)).pre.1.1
 
 loop_holds : tie.Need-loop-init invariant_loop decreases_loop
 loop_holds c = (omega arith, gather_start _ _ _)
@@ -76,7 +76,7 @@ slice_write_buffer : tie.Need-slice-write-buffer invariant_loop decreases_loop
 slice_write_buffer c = omega (arith, room c.before)
 
 add_end : tie.Need-overflow-add-end invariant_loop decreases_loop
-add_end c = omega (arith, room c.before, gather_length (head (turn c.before.before.before)).loop.inv.1)
+add_end c = omega (arith, room c.before, gather_length (head (turn c.before.before.before)).loop.invariant.1)
 
 add_p : tie.Need-overflow-add-p invariant_loop decreases_loop
 add_p c = omega (arith, (st (turn c.before.before)).pre.1.0.few)
@@ -88,7 +88,7 @@ loop_again : tie.Need-loop-preserved invariant_loop decreases_loop
 loop_again c =
     let r = c.before in
     let u = r.before in
-    let i = (head (turn u)).loop.inv in
+    let i = (head (turn u)).loop.invariant in
     let more = (turn u).loop-test.true in (
       omega (arith, i.0),
       ⊎_elim

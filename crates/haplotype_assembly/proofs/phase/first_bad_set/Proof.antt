@@ -25,7 +25,7 @@ set_ok_requires : tie.Need-set-ok-requires invariant_loop decreases_loop
 set_ok_requires c κs = search rules
 
 returns : tie.Need-returns invariant_loop decreases_loop
-returns c = first_at _ _ _ c.before.before.before.loop.invariant.1 c.before.before.loop-test.true (sym c.before.set-ok.ensures ∙ not-true _ c.if1.true)
+returns c = first_at _ _ _ c.before.before.before.loop.invariant.1 c.before.before.loop-test.true (sym c.before.set-ok.ensures ∙ c.if1.true)
 
 add_v : tie.Need-overflow-add-v invariant_loop decreases_loop
 add_v c = omega arith
@@ -34,7 +34,7 @@ loop_less : tie.Need-loop-smaller invariant_loop decreases_loop
 loop_less c = omega arith
 
 loop_again : tie.Need-loop-preserved invariant_loop decreases_loop
-loop_again c = (omega arith, below_more _ _ c.before.before.before.loop.invariant.1 (sym c.before.set-ok.ensures ∙ not-false _ c.if1.false))
+loop_again c = (omega arith, below_more _ _ c.before.before.before.loop.invariant.1 (sym c.before.set-ok.ensures ∙ c.if1.false))
 
 returns_2 : tie.Need-returns-2 invariant_loop decreases_loop
 returns_2 c = first_end _ _ _ c.before.loop.invariant.1 (omega arith)

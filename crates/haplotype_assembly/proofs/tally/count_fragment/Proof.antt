@@ -60,7 +60,7 @@ returns : tie.Need-returns
 returns c =
     let t = c.before.before in
     let i = st (grouped t) in
-    let none = sym c.before.has-line.ensures ∙ not-true _ c.if1.true in
+    let none = sym c.before.has-line.ensures ∙ c.if1.true in
     record {
       bytes_are = omega (arith, ap length (line_none _ _ i.args.c.lines (fragment i) _ (tallied t) none));
       lines_are = omega (arith, one_none _ _ 0 (fragment i) _ (tallied t) none);
@@ -82,7 +82,7 @@ returns_2 c =
     let l = c.before.before in
     let t = tally l in
     let i = from l in
-    let some = sym l.before.before.has-line.ensures ∙ not-false _ l.before.if1.false in
+    let some = sym l.before.before.has-line.ensures ∙ l.before.if1.false in
     record {
       bytes_are = omega (arith, more_is l, ap length (line_some _ _ i.args.c.lines (fragment i) _ (tallied t) some));
       lines_are = omega (arith, one_some _ _ 0 (fragment i) _ (tallied t) some);

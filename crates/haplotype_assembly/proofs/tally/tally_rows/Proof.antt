@@ -28,7 +28,7 @@ abbrev turn : tie.After-unpack invariant_loop decreases_loop → tie.In-loop inv
 turn c = c.before.before
 
 row_in : (c : tie.After-unpack invariant_loop decreases_loop) → RowIn (st (turn c)).args.s.n (st (turn c)).args.s.f (row_from c.unpack.result)
-row_in c = read_in _ _ _ c.unpack.ensures (st (turn c)).pre.1 (head (turn c)).loop.inv.from (turn c).loop-test.true
+row_in c = read_in _ _ _ c.unpack.ensures (st (turn c)).pre.1 (head (turn c)).loop.invariant.from (turn c).loop-test.true
 
 low : (c : tie.After-unpack invariant_loop decreases_loop) → c.unpack.result.variant < 1024
 low c = omega (arith, (row_in c).variant_in, (st (turn c)).pre.0.sized.n_top)
@@ -50,7 +50,7 @@ phased_rule_requires c κs = ((st (turn c)).pre.0, (row_in c).variant_in)
 
 tally_call_requires : tie.Need-tally-call-requires invariant_loop decreases_loop
 tally_call_requires c κs = let u = c.before.before in
-    (low u, tallying_small (head (turn u)).loop.inv (st (turn u)).pre.1.few)
+    (low u, tallying_small (head (turn u)).loop.invariant (st (turn u)).pre.1.few)
 
 add_p : tie.Need-overflow-add-p invariant_loop decreases_loop
 add_p c = omega (arith, (st (turn c.before.before)).pre.1.few)
@@ -61,7 +61,7 @@ loop_less c = omega arith
 loop_again : tie.Need-loop-preserved invariant_loop decreases_loop
 loop_again c =
     let u = c.before.before in
-    let i = (head (turn u)).loop.inv in
+    let i = (head (turn u)).loop.invariant in
     let more = (turn u).loop-test.true in
     ⊎_elim
     (λ x. rw (x.2 ∙ x.1.ensures) (tallying_on i more _ (shown_on (st (turn u)).args.rows.now _ _ u.unpack.ensures _ _ more _ c.before.phased-rule.ensures x.0.taken) (low u)))

@@ -165,13 +165,13 @@ returns_6 : tie.Need-returns-6
 unfolding outcome_of
 returns_6 c =
     let h = c.before in
-    unless_at _ 14 _ _ (sym h.has_room.ensures ∙ not-true _ c.if6.true) ∙ after_absent h.before
+    unless_at _ 14 _ _ (sym h.has_room.ensures ∙ c.if6.true) ∙ after_absent h.before
 
 returns_7 : tie.Need-returns-7
 unfolding outcome_of
 returns_7 c =
     let h = c.before in
-    unless_on _ 14 _ _ (sym h.has_room.ensures ∙ not-false _ c.if6.false) ∙ after_absent h.before
+    unless_on _ 14 _ _ (sym h.has_room.ensures ∙ c.if6.false) ∙ after_absent h.before
 
 pub arriving_fault_spec : {M : Type 1} → statement M
 arriving_fault_spec =

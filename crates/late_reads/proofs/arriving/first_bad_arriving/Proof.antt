@@ -41,7 +41,7 @@ call_words_ok_requires c κs = let p = c.before.before.before.requires in (p.siz
 returns : tie.Need-returns invariant_loop decreases_loop
 returns c =
     let l = lp c.before in
-    first_at _ _ _ l.loop.inv.1 c.before.before.before.loop-test.true (sym (tested c.before) ∙ not-true _ c.if1.true)
+    first_at _ _ _ l.loop.invariant.1 c.before.before.before.loop-test.true (sym (tested c.before) ∙ c.if1.true)
 
 add_i : tie.Need-overflow-add-i invariant_loop decreases_loop
 add_i c = omega arith
@@ -50,7 +50,7 @@ loop_less : tie.Need-loop-smaller invariant_loop decreases_loop
 loop_less c = omega arith
 
 loop_again : tie.Need-loop-preserved invariant_loop decreases_loop
-loop_again c = (omega arith, below_more _ _ (lp c.before).loop.inv.1 (sym (tested c.before) ∙ not-false _ c.if1.false))
+loop_again c = (omega arith, below_more _ _ (lp c.before).loop.invariant.1 (sym (tested c.before) ∙ c.if1.false))
 
 returns_2 : tie.Need-returns-2 invariant_loop decreases_loop
 returns_2 c = first_end _ _ _ c.before.loop.invariant.1 (omega arith)

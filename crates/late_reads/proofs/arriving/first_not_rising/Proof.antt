@@ -27,7 +27,7 @@ arriving_rises_requires c κs = search rules
 returns : tie.Need-returns invariant_loop decreases_loop
 returns c =
     let l = c.before.before.before in
-    first_at _ _ _ l.loop.invariant.1 c.before.before.loop-test.true (sym c.before.arriving_rises.ensures ∙ not-true _ c.if1.true)
+    first_at _ _ _ l.loop.invariant.1 c.before.before.loop-test.true (sym c.before.arriving_rises.ensures ∙ c.if1.true)
 
 add_i : tie.Need-overflow-add-i invariant_loop decreases_loop
 add_i c = omega arith
@@ -37,7 +37,7 @@ loop_less c = omega arith
 
 loop_again : tie.Need-loop-preserved invariant_loop decreases_loop
 loop_again c =
-    (omega arith, below_more _ _ c.before.before.before.loop.invariant.1 (sym c.before.arriving_rises.ensures ∙ not-false _ c.if1.false))
+    (omega arith, below_more _ _ c.before.before.before.loop.invariant.1 (sym c.before.arriving_rises.ensures ∙ c.if1.false))
 
 returns_2 : tie.Need-returns-2 invariant_loop decreases_loop
 returns_2 c = first_end _ _ _ c.before.loop.invariant.1 (omega arith)

@@ -63,14 +63,14 @@ returns c =
     let t = c.before in
     let l = t.before.before.before in
     let s = st l in
-    fit_stop l.loop.invariant.1 (arriving_more s.args.calls.now l.loop.i t.before.before.loop-test.true) (sym (tested t) ∙ not-true _ c.if1.true)
+    fit_stop l.loop.invariant.1 (arriving_more s.args.calls.now l.loop.i t.before.before.loop-test.true) (sym (tested t) ∙ c.if1.true)
 
 loop_again : tie.Need-loop-preserved invariant_loop decreases_loop
 loop_again c =
     let t = c.before in
     let l = t.before.before.before in
     let s = st l in
-    (omega arith, fit_on l.loop.invariant.1 (arriving_more s.args.calls.now l.loop.i t.before.before.loop-test.true) (sym (tested t) ∙ not-false _ c.if1.false))
+    (omega arith, fit_on l.loop.invariant.1 (arriving_more s.args.calls.now l.loop.i t.before.before.loop-test.true) (sym (tested t) ∙ c.if1.false))
 
 returns_2 : tie.Need-returns-2 invariant_loop decreases_loop
 returns_2 c = let l = c.before in fit_end l.loop.invariant.1 (arriving_out (st l).args.calls.now l.loop.i c.loop-test.false)

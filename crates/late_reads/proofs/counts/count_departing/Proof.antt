@@ -50,7 +50,7 @@ turn c =
     let l = lp c in
     let got = c.before.before.before.before.before.read-call in
     let cutoff = l.before.before.before.cutoff-of in
-    chain_turn (st l).args.f got.result l.loop.inv.0 c.before.before.before.before.before.before.loop-test.true got.ensures
+    chain_turn (st l).args.f got.result l.loop.invariant.0 c.before.before.before.before.before.before.loop-test.true got.ensures
     c.before.before.before.read.given.1 c.chain-call.ensures (to_z-of_z (sfits_of {w = w32} cutoff.ok) ∙ cutoff.ensures) (strand_is l)
 
 loop_holds : tie.Need-loop-init invariant_loop decreases_loop
@@ -73,13 +73,13 @@ same_length c = ap length (returns c) ∙ simp written_length
 count_call_requires : tie.Need-count-call-requires invariant_loop decreases_loop
 count_call_requires c κs =
     let l = lp c in
-    rw (turn c).counted_is (add_countable l.loop.inv.1 (turn c).left_is (omega arith) (st l).pre.0.sized.n_top)
+    rw (turn c).counted_is (add_countable l.loop.invariant.1 (turn c).left_is (omega arith) (st l).pre.0.sized.n_top)
 
 loop_again : tie.Need-loop-preserved invariant_loop decreases_loop
 loop_again c =
     let t = c.before.before in
     let l = lp t in
-    ((turn t).on, add_on l.loop.inv.1 (turn t).left_is _ (c.before.count-call.ensures ∙ same_count (negsuc 0) (strand_is l) (turn t).counted_is _))
+    ((turn t).on, add_on l.loop.invariant.1 (turn t).left_is _ (c.before.count-call.ensures ∙ same_count (negsuc 0) (strand_is l) (turn t).counted_is _))
 
 returns_2 : tie.Need-returns-2 invariant_loop decreases_loop
 returns_2 c = let l = c.before in add_end l.loop.invariant.1 (chain_out _ _ l.loop.k l.loop.r c.loop-test.false)

@@ -49,7 +49,7 @@ turn c =
     let l = lp c in
     let got = c.before.before.before.before.read-call in
     let cutoff = l.before.before.before.cutoff-of in
-    chain_turn (st l).args.f got.result l.loop.inv.0 c.before.before.before.before.before.loop-test.true got.ensures
+    chain_turn (st l).args.f got.result l.loop.invariant.0 c.before.before.before.before.before.loop-test.true got.ensures
     c.before.before.read.given.1 c.chain-call.ensures (to_z-of_z (sfits_of {w = w32} cutoff.ok) ∙ cutoff.ensures) (strand_is l)
 
 tested : (c : tie.After-call-fits invariant_loop decreases_loop) → let l = lp c.before in let a = (st l).args in let w = a.words.now in
@@ -73,19 +73,19 @@ returns c = let l = c.before.before.before.before in fit_end l.loop.invariant.1 
 call_fits_requires : tie.Need-call-fits-requires invariant_loop decreases_loop
 call_fits_requires c κs =
     let l = lp c in
-    rw (turn c).counted_is (fit_countable l.loop.inv.1 (turn c).left_is (omega arith) (st l).pre.0.sized.n_top)
+    rw (turn c).counted_is (fit_countable l.loop.invariant.1 (turn c).left_is (omega arith) (st l).pre.0.sized.n_top)
 
 returns_2 : tie.Need-returns-2 invariant_loop decreases_loop
 returns_2 c =
     let t = c.before in
     let l = lp t.before in
-    fit_stop l.loop.inv.1 (turn t.before).left_is (sym (tested t) ∙ not-true _ c.if1.true)
+    fit_stop l.loop.invariant.1 (turn t.before).left_is (sym (tested t) ∙ c.if1.true)
 
 loop_again : tie.Need-loop-preserved invariant_loop decreases_loop
 loop_again c =
     let t = c.before in
     let l = lp t.before in
-    ((turn t.before).on, fit_on l.loop.inv.1 (turn t.before).left_is (sym (tested t) ∙ not-false _ c.if1.false))
+    ((turn t.before).on, fit_on l.loop.invariant.1 (turn t.before).left_is (sym (tested t) ∙ c.if1.false))
 
 returns_3 : tie.Need-returns-3 invariant_loop decreases_loop
 returns_3 c = let l = c.before in fit_end l.loop.invariant.1 (chain_out _ _ l.loop.k l.loop.r c.loop-test.false)

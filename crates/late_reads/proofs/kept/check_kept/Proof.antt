@@ -137,7 +137,7 @@ in_range_requires c κs =
 
 returns_3 : tie.Need-returns-3
 unfolding outcome_of
-returns_3 c = unless_at _ 10 0 _ (sym c.before.in_range.ensures ∙ not-true _ c.if3.true) ∙ after_long c.before.before
+returns_3 c = unless_at _ 10 0 _ (sym c.before.in_range.ensures ∙ c.if3.true) ∙ after_long c.before.before
 
 returns_4 : tie.Need-returns-4
 unfolding outcome_of kept_outcome
@@ -145,7 +145,7 @@ returns_4 c = check_stops _ _ c.before.checked.given.0.0 (ap outcome_of (sym c.b
 
 returns_5 : tie.Need-returns-5
 unfolding outcome_of
-returns_5 c = unless_on _ 10 0 _ (sym c.before.in_range.ensures ∙ not-false _ c.if3.false) ∙ after_long c.before.before
+returns_5 c = unless_on _ 10 0 _ (sym c.before.in_range.ensures ∙ c.if3.false) ∙ after_long c.before.before
 
 pub check_kept_spec : {M : Type 1} → statement M
 check_kept_spec =

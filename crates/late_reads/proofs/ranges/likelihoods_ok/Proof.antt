@@ -48,7 +48,7 @@ total_ok_requires c κs = search rules
 returns : tie.Need-returns invariant_loop decreases_loop
 returns c =
     let l = lp c.before in
-    one_fails _ _ _ l.loop.inv.1 c.before.before.before.loop-test.true (sym (tested c.before) ∙ not-true _ c.if1.true)
+    one_fails _ _ _ l.loop.invariant.1 c.before.before.before.loop-test.true (sym (tested c.before) ∙ c.if1.true)
 
 add_e : tie.Need-overflow-add-e invariant_loop decreases_loop
 add_e c = omega arith
@@ -57,7 +57,7 @@ loop_less : tie.Need-loop-smaller invariant_loop decreases_loop
 loop_less c = omega arith
 
 loop_again : tie.Need-loop-preserved invariant_loop decreases_loop
-loop_again c = (omega arith, below_more _ _ (lp c.before).loop.inv.1 (sym (tested c.before) ∙ not-false _ c.if1.false))
+loop_again c = (omega arith, below_more _ _ (lp c.before).loop.invariant.1 (sym (tested c.before) ∙ c.if1.false))
 
 returns_2 : tie.Need-returns-2 invariant_loop decreases_loop
 returns_2 c = none_fails _ _ _ c.before.loop.invariant.1 (omega arith)

@@ -64,7 +64,7 @@ add_first : tie.Need-overflow-add-first invariant_loop decreases_loop
 add_first c =
     let d = first_added c in
     let l = d.before.before in
-    added_fits l.loop.first.0 d.arriving-share.result.0 _ (added d) (omega (arith, l.loop.inv.0.small, small d, below d.before))
+    added_fits l.loop.first.0 d.arriving-share.result.0 _ (added d) (omega (arith, l.loop.invariant.0.small, small d, below d.before))
 
 arriving_share_requires_2 : tie.Need-arriving-share-requires-2 invariant_loop decreases_loop
 arriving_share_requires_2 c κs =
@@ -88,7 +88,7 @@ add_second : tie.Need-overflow-add-second invariant_loop decreases_loop
 add_second c =
     let d = second_added c in
     let l = (turn d).before in
-    added_fits l.loop.second.0 d.arriving-share2.result.0 _ (added_2 d) (omega (arith, l.loop.inv.1.small, small_2 d, below (turn d)))
+    added_fits l.loop.second.0 d.arriving-share2.result.0 _ (added_2 d) (omega (arith, l.loop.invariant.1.small, small_2 d, below (turn d)))
 
 add_i : tie.Need-overflow-add-i invariant_loop decreases_loop
 add_i c = omega (arith, below (turn (second_added c)))
@@ -104,11 +104,11 @@ loop_again c =
     let l = t.before in
     let s = start t in
     let i = l.loop.i in (
-      running_more (shares s 0) top (count s) l.loop.first.0 _ i l.loop.inv.0 t.loop-test.taken
-          (added_read l.loop.first.0 d.arriving-share.result.0 _ (added d) (omega (arith, l.loop.inv.0.small, small d, below t)))
+      running_more (shares s 0) top (count s) l.loop.first.0 _ i l.loop.invariant.0 t.loop-test.taken
+          (added_read l.loop.first.0 d.arriving-share.result.0 _ (added d) (omega (arith, l.loop.invariant.0.small, small d, below t)))
           (omega (arith, small d)),
-      running_more (shares s 1) top (count s) l.loop.second.0 _ i l.loop.inv.1 t.loop-test.taken
-          (added_read l.loop.second.0 e.arriving-share2.result.0 _ (added_2 e) (omega (arith, l.loop.inv.1.small, small_2 e, below t)))
+      running_more (shares s 1) top (count s) l.loop.second.0 _ i l.loop.invariant.1 t.loop-test.taken
+          (added_read l.loop.second.0 e.arriving-share2.result.0 _ (added_2 e) (omega (arith, l.loop.invariant.1.small, small_2 e, below t)))
           (omega (arith, small_2 e)),
     )
 

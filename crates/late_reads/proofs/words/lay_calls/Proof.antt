@@ -40,14 +40,14 @@ module _ (l : tie.At-loop invariant_loop decreases_loop) where
   rs = taken st.args.words.now st.args.s m
 
   sized : Sized l.loop.words st.args.s
-  sized = subst (λ (x : List ℤ). Sized x st.args.s) (sym l.loop.inv.2) (sized_laid st.args.words.now st.args.s st.args.calls.now rs l.loop.i st.pre.0.sized)
+  sized = subst (λ (x : List ℤ). Sized x st.args.s) (sym l.loop.invariant.2) (sized_laid st.args.words.now st.args.s st.args.calls.now rs l.loop.i st.pre.0.sized)
 
-  left_top : (l.loop.left.used ≤ 16384) × (l.loop.left.free ≤ st.args.s.c)
+  left_top : (l.loop.false.used ≤ 16384) × (l.loop.false.free ≤ st.args.s.c)
   left_top =
-      let b = left_in st.pre.0 l.loop.i (omega (arith, l.loop.inv.0, st.pre.1.fits)) in
+      let b = left_in st.pre.0 l.loop.i (omega (arith, l.loop.invariant.0, st.pre.1.fits)) in
       let z = st.pre.0.sized in
-      let used = ap (λ (x : RoomLeft). x.used) l.loop.inv.1 in
-      let free = ap (λ (x : RoomLeft). x.free) l.loop.inv.1 in
+      let used = ap (λ (x : RoomLeft). x.used) l.loop.invariant.1 in
+      let free = ap (λ (x : RoomLeft). x.free) l.loop.invariant.1 in
       (omega (arith, b.0, z.c_top), omega (arith, b.1, z.used_top))
 
 -- ---- the record that is taken, what is left then, and the record after it

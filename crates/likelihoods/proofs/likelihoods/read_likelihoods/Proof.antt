@@ -63,7 +63,7 @@ add_first : tie.Need-overflow-add-first invariant_loop decreases_loop
 add_first c =
     let d = first_added c in
     let l = d.before.before in
-    added_fits l.loop.first.0 d.call-share.result.0 _ (added d) (omega (arith, l.loop.inv.0.small, small d, few d.before))
+    added_fits l.loop.first.0 d.call-share.result.0 _ (added d) (omega (arith, l.loop.invariant.0.small, small d, few d.before))
 
 call_share_requires_2 : tie.Need-call-share-requires-2 invariant_loop decreases_loop
 call_share_requires_2 c κs = let i = (first_added c).before in (calls_fewer (inside i) (start i).pre.0, omega arith)
@@ -85,7 +85,7 @@ add_second : tie.Need-overflow-add-second invariant_loop decreases_loop
 add_second c =
     let d = second_added c in
     let l = (turn d).before in
-    added_fits l.loop.second.0 d.call-share2.result.0 _ (added_2 d) (omega (arith, l.loop.inv.1.small, small_2 d, few (turn d)))
+    added_fits l.loop.second.0 d.call-share2.result.0 _ (added_2 d) (omega (arith, l.loop.invariant.1.small, small_2 d, few (turn d)))
 
 add_j : tie.Need-overflow-add-j invariant_loop decreases_loop
 add_j c = omega (arith, few (turn (second_added c)))
@@ -102,11 +102,11 @@ loop_again c =
     let s = start i in
     let n = s.args.e - s.args.a in
     let j = l.loop.j in (
-      running_more (shares s 0) top n l.loop.first.0 _ j l.loop.inv.0 i.loop-test.taken
-          (added_read l.loop.first.0 d.call-share.result.0 _ (added d) (omega (arith, l.loop.inv.0.small, small d, few i)))
+      running_more (shares s 0) top n l.loop.first.0 _ j l.loop.invariant.0 i.loop-test.taken
+          (added_read l.loop.first.0 d.call-share.result.0 _ (added d) (omega (arith, l.loop.invariant.0.small, small d, few i)))
           (omega (arith, small d)),
-      running_more (shares s 1) top n l.loop.second.0 _ j l.loop.inv.1 i.loop-test.taken
-          (added_read l.loop.second.0 e.call-share2.result.0 _ (added_2 e) (omega (arith, l.loop.inv.1.small, small_2 e, few i)))
+      running_more (shares s 1) top n l.loop.second.0 _ j l.loop.invariant.1 i.loop-test.taken
+          (added_read l.loop.second.0 e.call-share2.result.0 _ (added_2 e) (omega (arith, l.loop.invariant.1.small, small_2 e, few i)))
           (omega (arith, small_2 e)),
     )
 

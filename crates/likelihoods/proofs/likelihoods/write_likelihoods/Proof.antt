@@ -124,7 +124,7 @@ loop_again c =
     let e : 2 * f + 1 + 1 ≡ 2 * (f + 1) = omega arith in (
       omega (arith, (turn c).loop-test.true),
       sym (start_next s.args.ends.now f),
-      written_on (values s) (2 * f + 1) lik₀ _ _ (written_on (values s) (2 * f) lik₀ _ _ l.loop.inv.2 (first_is d)) (second_is d)
+      written_on (values s) (2 * f + 1) lik₀ _ _ (written_on (values s) (2 * f) lik₀ _ _ l.loop.invariant.2 (first_is d)) (second_is d)
           ∙ ap (λ (m : ℕ). written (values s) m lik₀) e,
     )
 

@@ -111,13 +111,13 @@ small c =
 within : (c : tie.After-mixed invariant_loop decreases_loop) → top (start (at c)).args.ends.now (at c).loop.f + nat_abs (shares (start (at c)) (at c).loop.f) ≤ top (start (at c)).args.ends.now ((at c).loop.f + 1)
 within c =
     let l = at c in
-    omega (arith, small c, l.loop.inv.0, start_next (start l).args.ends.now l.loop.f, rises (turn c))
+    omega (arith, small c, l.loop.invariant.0, start_next (start l).args.ends.now l.loop.f, rises (turn c))
 
 fits : (c : tie.After-mixed invariant_loop decreases_loop) → nat_abs (at c).loop.sum.0 + nat_abs (shares (start (at c)) (at c).loop.f) < 2 ^ 63
 fits c =
     let i = turn c in
     let l = at c in
-    omega (arith, l.loop.inv.1.small, within c, start_next (start l).args.ends.now l.loop.f, few i, few_fragments i)
+    omega (arith, l.loop.invariant.1.small, within c, start_next (start l).args.ends.now l.loop.f, few i, few_fragments i)
 
 abbrev share : tie.After-struct-told2 invariant_loop decreases_loop → tie.After-mixed invariant_loop decreases_loop
 share c = c.before.before.before.before
@@ -137,7 +137,7 @@ loop_again c =
     let l = at d in
     let s = start l in (
       sym (start_next s.args.ends.now l.loop.f),
-      running_more (shares s) (top s.args.ends.now) s.args.n l.loop.sum.0 _ l.loop.f l.loop.inv.1 (turn d).loop-test.taken
+      running_more (shares s) (top s.args.ends.now) s.args.n l.loop.sum.0 _ l.loop.f l.loop.invariant.1 (turn d).loop-test.taken
           (added_read l.loop.sum.0 d.mixed.result.0 _ (share_is d) (fits d))
           (within d),
     )

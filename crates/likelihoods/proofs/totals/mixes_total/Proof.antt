@@ -113,7 +113,7 @@ loop_again c =
     let d = mix c in
     let i = turn d in
     let l = i.before in
-    running_more (standing_share l.before.args.lik.now) top l.before.args.n l.loop.sum.0 _ l.loop.f l.loop.inv i.loop-test.taken
+    running_more (standing_share l.before.args.lik.now) top l.before.args.n l.loop.sum.0 _ l.loop.f l.loop.invariant i.loop-test.taken
     (added_read l.loop.sum.0 d.mixed.result.0 _ (added d) (fits d))
     (omega (arith, small d))
 

@@ -50,7 +50,7 @@ add_sum : tie.Need-overflow-add-sum invariant_loop decreases_loop
 add_sum c =
     let d = share c in
     let l = d.before.before in
-    added_fits l.loop.sum.0 d.prior_share.result.0 _ (added d) (omega (arith, l.loop.inv.small, small d, few d.before))
+    added_fits l.loop.sum.0 d.prior_share.result.0 _ (added d) (omega (arith, l.loop.invariant.small, small d, few d.before))
 
 add_v : tie.Need-overflow-add-v invariant_loop decreases_loop
 add_v c = omega (arith, few (share c).before)
@@ -64,8 +64,8 @@ loop_again c =
     let i = d.before in
     let l = i.before in
     let s = start l in
-    running_more (shares s) top s.args.n l.loop.sum.0 _ l.loop.v l.loop.inv i.loop-test.taken
-    (added_read l.loop.sum.0 d.prior_share.result.0 _ (added d) (omega (arith, l.loop.inv.small, small d, few i)))
+    running_more (shares s) top s.args.n l.loop.sum.0 _ l.loop.v l.loop.invariant i.loop-test.taken
+    (added_read l.loop.sum.0 d.prior_share.result.0 _ (added d) (omega (arith, l.loop.invariant.small, small d, few i)))
     (omega (arith, small d))
 
 returns : tie.Need-returns invariant_loop decreases_loop

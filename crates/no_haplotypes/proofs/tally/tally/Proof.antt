@@ -74,8 +74,8 @@ loop_again c =
     let s = st l in
     let i = row_in l in
     let e = plus_read w64 l.before.loop.total.0 d.add-call.result.0 (total_small d) in
-    let k = tallied_on l.before.loop.inv.2 (row_at s.args.piles.now l.before.loop.c) i.allele_in d.add-call.ensures in
-    (omega (arith, l.before.loop.inv.0), omega (arith, l.loop-test.taken), rw (e, rows_more s.args.piles.now s.args.pile.start l.before.loop.c l.before.loop.inv.0) k)
+    let k = tallied_on l.before.loop.invariant.2 (row_at s.args.piles.now l.before.loop.c) i.allele_in d.add-call.ensures in
+    (omega (arith, l.before.loop.invariant.0), omega (arith, l.loop-test.taken), rw (e, rows_more s.args.piles.now s.args.pile.start l.before.loop.c l.before.loop.invariant.0) k)
 
 returns : tie.Need-returns invariant_loop decreases_loop
 returns c =

@@ -23,10 +23,10 @@ loop_less c =
 -- the token's number
 counted : (c : tie.After-wrapping-add-u64 invariant_loop decreases_loop) → c.wrapping-add-u64.result ≡ next_token c.before.before.before.before.before.before.before.before.args.reader
 counted c =
-    c.wrapping-add-u64.ensures ∙ token_counted _ (not-false _ c.before.before.before.before.before.if1.false)
+    c.wrapping-add-u64.ensures ∙ token_counted _ (c.before.before.before.before.before.if1.false)
 
 returns : tie.Need-returns invariant_loop decreases_loop
-returns c = token_kept _ (not-true _ c.if1.true)
+returns c = token_kept _ (c.if1.true)
 
 returns_2 : tie.Need-returns-2 invariant_loop decreases_loop
 unfolding after_token

@@ -69,7 +69,7 @@ returns : tie.Need-returns invariant_loop decreases_loop
 unfolding first_bad_order
 returns c =
     let t = turn c.before.before in
-    first_at _ _ _ t.before.loop.inv.3 t.loop-test.taken (sym (tested c.before.before) ∙ not-true _ c.if1.true)
+    first_at _ _ _ t.before.loop.invariant.3 t.loop-test.taken (sym (tested c.before.before) ∙ c.if1.true)
 
 add_o : tie.Need-overflow-add-o invariant_loop decreases_loop
 add_o c = search rules
@@ -84,7 +84,7 @@ loop_again c =
       omega arith,
       d.auto.1.1.0 ∙ l.inv.1,
       d.ensures.1,
-      below_more _ _ l.inv.3 (sym (tested c.before.before) ∙ not-false _ c.if1.false),
+      below_more _ _ l.inv.3 (sym (tested c.before.before) ∙ c.if1.false),
     )
 
 returns_2 : tie.Need-returns-2 invariant_loop decreases_loop

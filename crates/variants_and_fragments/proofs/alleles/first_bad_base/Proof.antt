@@ -35,7 +35,7 @@ is_base_requires : tie.Need-is_base-requires invariant_loop decreases_loop
 is_base_requires c κs = search rules
 
 returns : tie.Need-returns-then-not-is_base invariant_loop decreases_loop
-returns c = first_at _ _ _ (lp c.before).loop-i.inv.1 c.before.before.before.loop-i-test.true (sym c.before.is_base.ensures ∙ not-true _ c.if-not-is_base.true)
+returns c = first_at _ _ _ (lp c.before).loop-i.invariant.1 c.before.before.before.loop-i-test.true (sym c.before.is_base.ensures ∙ c.if-not-is_base.true)
 
 add_i : tie.Need-overflow_add-i invariant_loop decreases_loop
 add_i c = omega arith
@@ -44,7 +44,7 @@ loop_less : tie.Need-loop-i-smaller invariant_loop decreases_loop
 loop_less c = omega arith
 
 loop_again : tie.Need-loop-i-preserved invariant_loop decreases_loop
-loop_again c = (omega arith, below_more _ _ (lp c.before).loop-i.inv.1 (sym c.before.is_base.ensures ∙ not-false _ c.if-not-is_base.false))
+loop_again c = (omega arith, below_more _ _ (lp c.before).loop-i.invariant.1 (sym c.before.is_base.ensures ∙ c.if-not-is_base.false))
 
 returns_2 : tie.Need-returns invariant_loop decreases_loop
 returns_2 c = first_end _ _ _ c.before.loop-i.invariant.1 (omega arith)

@@ -20,57 +20,57 @@ abbrev decreases_loop : tie.decreases-loop-r
 decreases_loop words s seen used r₀ r = used + 1 - r
 
 -- the places of a turn: the loop's head, and the entry
-abbrev lp : tie.After-shared_slice_known-in-loop-r-1 invariant_loop decreases_loop → tie.At-loop-r invariant_loop decreases_loop
-lp c = c.before.before
+abbrev lp : tie.In-loop-r invariant_loop decreases_loop → tie.At-loop-r invariant_loop decreases_loop
+lp c = c.before
 
 abbrev st : tie.At-loop-r invariant_loop decreases_loop → tie.Start invariant_loop decreases_loop
 st c = c.before.before
 
 -- record r has a flag
-r_in : (c : tie.After-shared_slice_known-in-loop-r-1 invariant_loop decreases_loop) → (lp c).loop-r.r ≤ 16384
-r_in c = let z = (st (lp c)).requires.0 in omega (arith, c.before.loop-r-test.true, z.used_top, z.c_top)
+r_in : (c : tie.In-loop-r invariant_loop decreases_loop) → (lp c).loop-r.r ≤ 16384
+r_in c = let z = (st (lp c)).requires.0 in omega (arith, c.loop-r-test.true, z.used_top, z.c_top)
 
 -- past the tests record r is right, or not reached
-passed : (c : tie.Joined-seen-r-ne0 invariant_loop decreases_loop) → reached_call_ok (st (lp c.before)).args.words.now (st (lp c.before)).args.s (lp c.before).loop-r.r ≡ true
+passed : (c : tie.Joined-seen-r-ne0 invariant_loop decreases_loop) → reached_call_ok (st (lp c.before.before)).args.words.now (st (lp c.before.before)).args.s (lp c.before.before).loop-r.r ≡ true
 passed c =
-    let m = (st (lp c.before)).requires.1.1 in
+    let m = (st (lp c.before.before)).requires.1.1 in
     ⊎_elim
-    (λ y. sym (call_tested _ _ _ _ (r_in c.before) m y.0.true) ∙ sym y.1.ensures ∙ not-false _ y.2.left)
-    (λ n. sym (call_untested _ _ _ _ (r_in c.before) m n.left))
+    (λ y. sym (call_tested _ _ _ _ (r_in c.before.before) m y.if-seen-r-ne0.true) ∙ sym y.call_ok.ensures ∙ y.if-not-call_ok.false)
+    (λ n. sym (call_untested _ _ _ _ (r_in c.before.before) m n.if-seen-r-ne0.false))
     c.if-seen-r-ne0.branch-raw
 
 loop_holds : tie.Need-loop-r-init invariant_loop decreases_loop
 loop_holds c = (omega arith, (omega arith, λ j l m. absurd (omega arith)))
 
 shared_slice_read_if1 : tie.Need-bounds-seen-r invariant_loop decreases_loop
-shared_slice_read_if1 c = omega (arith, r_in c, (st (lp c)).requires.1.1.long)
+shared_slice_read_if1 c = omega (arith, r_in c.before, c.requires.1.1.long)
 
 call_ok_requires : tie.Need-call_ok-requires invariant_loop decreases_loop
 call_ok_requires c κs =
-    let l = lp c.before in
+    let l = lp c.before.before in
     let z = (st l).requires in
-    (z.0, (z.1.0, (l.loop-r.inv.0, omega (arith, c.before.before.loop-r-test.true, z.0.used_top))))
+    (z.0, (z.1.0, (l.loop-r.invariant.0, omega (arith, c.loop-r-test.true, z.0.used_top))))
 
 returns : tie.Need-returns-then-not-call_ok invariant_loop decreases_loop
 returns c =
-    let b = c.before.before.before in
+    let b = c.before.before.before.before in
     let l = lp b in
-    from_is _ 1 _ _ l.loop-r.inv.0 (omega (arith, l.loop-r.inv.1.0)) l.loop-r.inv.1.1
-    (λ _. sym (call_tested _ _ _ _ (r_in b) (st l).requires.1.1 c.before.before.if-seen-r-ne0.true) ∙ sym c.before.call_ok.ensures ∙ not-true _ c.if-not-call_ok.true)
+    from_is _ 1 _ _ l.loop-r.invariant.0 (omega (arith, l.loop-r.invariant.1.0)) l.loop-r.invariant.1.1
+    (λ _. sym (call_tested _ _ _ _ (r_in b) (st l).requires.1.1 c.before.before.if-seen-r-ne0.true) ∙ sym c.before.call_ok.ensures ∙ c.if-not-call_ok.true)
 
 add_r : tie.Need-overflow_add-r invariant_loop decreases_loop
-add_r c = omega (arith, r_in c.before)
+add_r c = omega (arith, r_in c.before.before)
 
 loop_less : tie.Need-loop-r-smaller invariant_loop decreases_loop
 loop_less c = omega arith
 
 loop_again : tie.Need-loop-r-preserved invariant_loop decreases_loop
 loop_again c =
-    let l = lp c.before in (
-      omega (arith, l.loop-r.inv.0),
+    let l = lp c.before.before in (
+      omega (arith, l.loop-r.invariant.0),
       (
-        omega (arith, c.before.before.loop-r-test.true),
-        λ j lo hi. elim (ℕ_discrete j l.loop-r.r) [ yes e ↦ rw e (passed c) | no n ↦ l.loop-r.inv.1.1 j lo (omega arith) ],
+        omega (arith, c.loop-r-test.true),
+        λ j lo hi. elim (ℕ_discrete j l.loop-r.r) [ yes e ↦ rw e (passed c) | no n ↦ l.loop-r.invariant.1.1 j lo (omega arith) ],
       ),
     )
 

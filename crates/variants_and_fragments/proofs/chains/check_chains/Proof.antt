@@ -83,11 +83,11 @@ past c =
 
 returns_4 : tie.Need-returns-then-not-free_ok
 unfolding outcome_of
-returns_4 c = let f = c.before.before in unless_at _ 5 _ _ (sym f.free_ok.ensures ∙ not-true _ c.if-not-free_ok.true) ∙ past f
+returns_4 c = let f = c.before.before in unless_at _ 5 _ _ (sym f.free_ok.ensures ∙ c.if-not-free_ok.true) ∙ past f
 
 returns_5 : tie.Need-returns
 unfolding outcome_of
-returns_5 c = let f = c.before.before in unless_on _ 5 _ _ (sym f.free_ok.ensures ∙ not-false _ c.if-not-free_ok.false) ∙ past f
+returns_5 c = let f = c.before.before in unless_on _ 5 _ _ (sym f.free_ok.ensures ∙ c.if-not-free_ok.false) ∙ past f
 
 pub check_chains_spec : {M : Type 1} → statement M
 check_chains_spec =

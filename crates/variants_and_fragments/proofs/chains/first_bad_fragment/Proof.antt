@@ -43,7 +43,7 @@ returns : tie.Need-returns-then-not-fragment_ok invariant_loop decreases_loop
 returns c =
     let k = ok c.before in
     let more = k.before.before.loop-f-test.true in
-    record { at = first_at _ _ _ (lp k).loop-f.inv.1.0 more (sym k.fragment_ok.ensures.ok ∙ not-true _ c.if-not-fragment_ok.true); marked = λ e. absurd (omega (arith, more)) }
+    record { at = first_at _ _ _ (lp k).loop-f.invariant.1.0 more (sym k.fragment_ok.ensures.ok ∙ c.if-not-fragment_ok.true); marked = λ e. absurd (omega (arith, more)) }
 
 add_f : tie.Need-overflow_add-f invariant_loop decreases_loop
 add_f c = search rules
@@ -54,9 +54,9 @@ loop_less c = search rules
 loop_again : tie.Need-loop-f-preserved invariant_loop decreases_loop
 loop_again c =
     let k = ok c.before in
-    let on : k.fragment_ok.result ≡ true = not-false _ c.if-not-fragment_ok.false in
-    let inv = (lp k).loop-f.inv.1 in
-    (omega arith, (below_more _ _ inv.0 (sym k.fragment_ok.ensures.ok ∙ on), (rw add-one (k.fragment_ok.ensures.marked on), k.fragment_ok.kept.1.1.1.0 ∙ inv.1.1)))
+    let on : k.fragment_ok.result ≡ true = c.if-not-fragment_ok.false in
+    let inv = (lp k).loop-f.invariant.1 in
+    (omega arith, (below_more _ _ inv.0 (sym k.fragment_ok.ensures.ok ∙ on), (rw add-one (k.fragment_ok.ensures.marked on), k.fragment_ok.auto.seen ∙ inv.1.1)))
 
 same_length_2 : tie.Need-shape_of-seen invariant_loop decreases_loop
 same_length_2 c = search rules

@@ -25,7 +25,7 @@ first_ok_requires : tie.Need-first_ok-requires
 first_ok_requires c κs = search rules
 
 returns_2 : tie.Need-returns-then-not-first_ok
-returns_2 c = record { ok = frag_first _ _ _ (strand_in c.before.before) (sym c.before.first_ok.ensures ∙ not-true _ c.if-not-first_ok.true); marked = λ z. true_false z refl }
+returns_2 c = record { ok = frag_first _ _ _ (strand_in c.before.before) (sym c.before.first_ok.ensures ∙ c.if-not-first_ok.true); marked = λ z. true_false z refl }
 
 walk_chain_requires : tie.Need-walk_chain-requires
 walk_chain_requires c κs = search rules
@@ -38,7 +38,7 @@ unfolding reached
 returns_3 c =
     let walked = c.before.before in
     let kept = walked.before.before in
-    record { ok = walked.walk_chain.ensures.ok ∙ frag_in _ _ _ (strand_in kept.before.before) (sym kept.before.first_ok.ensures ∙ not-false _ kept.if-not-first_ok.false); marked = walked.walk_chain.ensures.marked }
+    record { ok = walked.walk_chain.ensures.ok ∙ frag_in _ _ _ (strand_in kept.before.before) (sym kept.before.first_ok.ensures ∙ kept.if-not-first_ok.false); marked = walked.walk_chain.ensures.marked }
 
 pub fragment_ok_spec : {M : Type 1} → statement M
 fragment_ok_spec =

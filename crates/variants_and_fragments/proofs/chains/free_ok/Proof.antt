@@ -17,7 +17,7 @@ same_length c = search rules
 
 returns : tie.Need-returns-then-not-walk_free
 unfolding free_ok
-returns c = let e = sym c.before.before.before.walk_free.ensures.ok ∙ not-true _ c.if-not-walk_free.true in simp e
+returns c = let e = sym c.before.before.before.walk_free.ensures.ok ∙ c.if-not-walk_free.true in simp e
 
 all_marked_requires : tie.Need-all_marked-requires
 all_marked_requires c κs = search rules
@@ -28,12 +28,10 @@ same_length_2 c = search rules
 returns_2 : tie.Need-returns
 unfolding free_ok
 returns_2 c =
-    let walk = c.before.before.before.before.before in
-    let st = walk.before.before.before in
-    let on = not-false _ c.before.before.if-not-walk_free.false in
+    let on = c.if-not-walk_free.false in
     c.all_marked.ensures
-    ∙ marked_chains st.args.words.now st.args.s _ (omega (arith, st.requires.0.used_top, st.requires.0.c_top)) (walk.walk_free.ensures.marked on)
-    ∙ rw (sym walk.walk_free.ensures.ok ∙ on) refl
+    ∙ marked_chains c.args.words.now c.args.s _ (omega (arith, c.requires.0.used_top, c.requires.0.c_top)) (c.walk_free.ensures.marked on)
+    ∙ rw (sym c.walk_free.ensures.ok ∙ on) refl
 
 pub free_ok_spec : {M : Type 1} → statement M
 free_ok_spec = tie.close (tie.spec walk_free_requires same_length returns all_marked_requires same_length_2 returns_2)

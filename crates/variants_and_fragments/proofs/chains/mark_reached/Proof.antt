@@ -34,7 +34,7 @@ loop_again : tie.Need-loop-f-preserved invariant_loop decreases_loop
 loop_again c =
     let m = c.before.before in
     let l = m.before.before.before in
-    (omega arith, (rw add-one m.mark_chain.ensures, m.mark_chain.auto.1.1.1.0 ∙ l.loop-f.invariant.1.1))
+    (omega arith, (rw add-one m.mark_chain.ensures, m.mark_chain.auto.seen ∙ l.loop-f.invariant.1.1))
 
 same_length : tie.Need-shape_of-seen invariant_loop decreases_loop
 same_length c = search rules

@@ -76,7 +76,7 @@ same_length_3 : tie.Need-shape_of-seen-then-not-after_ok invariant_loop decrease
 same_length_3 c = search rules
 
 returns_3 : tie.Need-returns-then-not-after_ok invariant_loop decreases_loop
-returns_3 c = fails c.before.before.before.before (sym c.before.after_ok.ensures ∙ not-true _ c.if-not-after_ok.true)
+returns_3 c = fails c.before.before.before.before (sym c.before.after_ok.ensures ∙ c.if-not-after_ok.true)
 
 slice_write_seen : tie.Need-bounds-seen-r-then-next-after invariant_loop decreases_loop
 slice_write_seen c = search rules
@@ -87,7 +87,7 @@ loop_less c = search rules
 loop_again : tie.Need-loop-k-preserved-then-next-after invariant_loop decreases_loop
 loop_again c =
     let e = c.before.before.before.before in
-    (goes e (sym c.before.after_ok.ensures ∙ not-false _ c.if-not-after_ok.false) _ (sym c.before.before.if-next-after.true ∙ c.before.before.before.next_call-next.ensures), simp length-set (lp e).loop-k.invariant.1)
+    (goes e (sym c.before.after_ok.ensures ∙ c.if-not-after_ok.false) _ (sym c.before.before.if-next-after.true ∙ c.before.before.before.next_call-next.ensures), simp length-set (lp e).loop-k.invariant.1)
 
 link_ok_requires : tie.Need-link_ok-requires invariant_loop decreases_loop
 link_ok_requires c κs = search rules
@@ -96,7 +96,7 @@ same_length_4 : tie.Need-shape_of-seen-then-not-link_ok invariant_loop decreases
 same_length_4 c = search rules
 
 returns_4 : tie.Need-returns-then-not-link_ok invariant_loop decreases_loop
-returns_4 c = fails c.before.before.before.before (sym c.before.link_ok.ensures ∙ not-true _ c.if-not-link_ok.true)
+returns_4 c = fails c.before.before.before.before (sym c.before.link_ok.ensures ∙ c.if-not-link_ok.true)
 
 slice_write_seen_2 : tie.Need-bounds-seen-r-else-next-after invariant_loop decreases_loop
 slice_write_seen_2 c = search rules
@@ -107,7 +107,7 @@ loop_less_2 c = search rules
 loop_again_2 : tie.Need-loop-k-preserved invariant_loop decreases_loop
 loop_again_2 c =
     let e = c.before.before.before.before in
-    (goes e (sym c.before.link_ok.ensures ∙ not-false _ c.if-not-link_ok.false) _ c.before.before.before.next_call-next.ensures, simp length-set (lp e).loop-k.invariant.1)
+    (goes e (sym c.before.link_ok.ensures ∙ c.if-not-link_ok.false) _ c.before.before.before.next_call-next.ensures, simp length-set (lp e).loop-k.invariant.1)
 
 same_length_5 : tie.Need-shape_of-seen invariant_loop decreases_loop
 same_length_5 c = search rules

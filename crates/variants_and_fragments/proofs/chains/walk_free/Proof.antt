@@ -59,7 +59,7 @@ returns_3 : tie.Need-returns-then-used-next invariant_loop decreases_loop
 returns_3 c =
     let e = c.before.before in
     let l = lp e in
-    walk_link (st l).requires.0 l.loop-k.inv.0 (omega (arith, e.before.before.before.loop-k-test.true)) e.before.before.if-t-eq0.false (omega (arith, e.if-seen-t-gt0.false))
+    walk_link (st l).requires.0 l.loop-k.invariant.0 (omega (arith, e.before.before.before.loop-k-test.true)) e.before.before.if-t-eq0.false (omega (arith, e.if-seen-t-gt0.false))
     (next_in _ _ _ (st l).requires.0 ∙ lt-leb _ _ (rw c.before.next_call-next.ensures at c.if-used-next.true))
 
 slice_write_seen : tie.Need-bounds-seen-t-in-loop-k invariant_loop decreases_loop
@@ -74,7 +74,7 @@ loop_again c =
     let l = lp e in
     let n = c.before.next_call-next.ensures in
     let top = rw n at c.if-used-next.false in
-    (walk_on (st l).requires.0 l.loop-k.inv.0 (omega (arith, e.before.before.before.loop-k-test.true)) e.before.before.if-t-eq0.false (omega (arith, e.if-seen-t-gt0.false)) (next_in _ _ _ (st l).requires.0 ∙ le-leb _ _ top) top _ n, simp length-set l.loop-k.inv.1)
+    (walk_on (st l).requires.0 l.loop-k.invariant.0 (omega (arith, e.before.before.before.loop-k-test.true)) e.before.before.if-t-eq0.false (omega (arith, e.if-seen-t-gt0.false)) (next_in _ _ _ (st l).requires.0 ∙ le-leb _ _ top) top _ n, simp length-set l.loop-k.invariant.1)
 
 same_length_4 : tie.Need-shape_of-seen invariant_loop decreases_loop
 same_length_4 c = search rules

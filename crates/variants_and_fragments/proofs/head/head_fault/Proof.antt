@@ -35,7 +35,7 @@ returns_4 : tie.Need-returns-then-s-gt-MAX_CALLS
 returns_4 c =
     let d = c.before.before in
     let b = e2 d in
-    head_calls _ _ (read b).read_sizes-s.ensures (read b).before.if-words-lt-HEAD_WORDS.left b.if-s-gt-MAX_VARIANTS.left d.if-s-gt-MAX_FRAGMENTS.false c.if-s-gt-MAX_CALLS.true
+    head_calls _ _ (read b).read_sizes-s.ensures (read b).before.if-words-lt-HEAD_WORDS.false b.if-s-gt-MAX_VARIANTS.false d.if-s-gt-MAX_FRAGMENTS.false c.if-s-gt-MAX_CALLS.true
 
 cutoff_ok_requires : tie.Need-cutoff_ok-requires
 cutoff_ok_requires c κs = search rules
@@ -45,7 +45,7 @@ returns_5 c =
     let e = c.before.before in
     let d = e3 e in
     let b = e2 d in
-    head_cutoff _ _ (read b).read_sizes-s.ensures (read b).before.if-words-lt-HEAD_WORDS.left b.if-s-gt-MAX_VARIANTS.left d.if-s-gt-MAX_FRAGMENTS.left e.if-s-gt-MAX_CALLS.false (sym c.before.cutoff_ok.ensures ∙ not-true _ c.if-not-cutoff_ok.true)
+    head_cutoff _ _ (read b).read_sizes-s.ensures (read b).before.if-words-lt-HEAD_WORDS.false b.if-s-gt-MAX_VARIANTS.false d.if-s-gt-MAX_FRAGMENTS.false e.if-s-gt-MAX_CALLS.false (sym c.before.cutoff_ok.ensures ∙ c.if-not-cutoff_ok.true)
 
 returns_6 : tie.Need-returns-then-s
 returns_6 c =
@@ -53,7 +53,7 @@ returns_6 c =
     let e = g.before.before in
     let d = e3 e in
     let b = e2 d in
-    head_used _ _ (read b).read_sizes-s.ensures (read b).before.if-words-lt-HEAD_WORDS.left b.if-s-gt-MAX_VARIANTS.left d.if-s-gt-MAX_FRAGMENTS.left e.if-s-gt-MAX_CALLS.false (sym g.before.cutoff_ok.ensures ∙ not-false _ g.if-not-cutoff_ok.false) c.if-s.true
+    head_used _ _ (read b).read_sizes-s.ensures (read b).before.if-words-lt-HEAD_WORDS.false b.if-s-gt-MAX_VARIANTS.false d.if-s-gt-MAX_FRAGMENTS.false e.if-s-gt-MAX_CALLS.false (sym g.before.cutoff_ok.ensures ∙ g.if-not-cutoff_ok.false) c.if-s.true
 
 -- past the records used
 abbrev u2 : tie.Else-s-2 → tie.Else-s
@@ -66,7 +66,7 @@ returns_7 c =
     let e = g.before.before in
     let d = e3 e in
     let b = e2 d in
-    head_free _ _ (read b).read_sizes-s.ensures (read b).before.if-words-lt-HEAD_WORDS.left b.if-s-gt-MAX_VARIANTS.left d.if-s-gt-MAX_FRAGMENTS.left e.if-s-gt-MAX_CALLS.false (sym g.before.cutoff_ok.ensures ∙ not-false _ g.if-not-cutoff_ok.false) u.if-s.false c.if-s-2.true
+    head_free _ _ (read b).read_sizes-s.ensures (read b).before.if-words-lt-HEAD_WORDS.false b.if-s-gt-MAX_VARIANTS.false d.if-s-gt-MAX_FRAGMENTS.false e.if-s-gt-MAX_CALLS.false (sym g.before.cutoff_ok.ensures ∙ g.if-not-cutoff_ok.false) u.if-s.false c.if-s-2.true
 
 total_words_requires : tie.Need-total_words-all-requires
 total_words_requires c κs = search rules
@@ -79,7 +79,7 @@ returns_8 c =
     let e = g.before.before in
     let d = e3 e in
     let b = e2 d in
-    head_right _ _ (read b).read_sizes-s.ensures (read b).before.if-words-lt-HEAD_WORDS.left b.if-s-gt-MAX_VARIANTS.left d.if-s-gt-MAX_FRAGMENTS.left e.if-s-gt-MAX_CALLS.left (sym g.before.cutoff_ok.ensures ∙ not-false _ g.if-not-cutoff_ok.left) u.if-s.left v.if-s-2.false (c.if-words-all.true ∙ c.before.total_words-all.ensures)
+    head_right _ _ (read b).read_sizes-s.ensures (read b).before.if-words-lt-HEAD_WORDS.false b.if-s-gt-MAX_VARIANTS.false d.if-s-gt-MAX_FRAGMENTS.false e.if-s-gt-MAX_CALLS.false (sym g.before.cutoff_ok.ensures ∙ g.if-not-cutoff_ok.false) u.if-s.false v.if-s-2.false (c.if-words-all.true ∙ c.before.total_words-all.ensures)
 
 returns_9 : tie.Need-returns
 returns_9 c =
@@ -89,7 +89,7 @@ returns_9 c =
     let e = g.before.before in
     let d = e3 e in
     let b = e2 d in
-    head_length _ _ (read b).read_sizes-s.ensures (read b).before.if-words-lt-HEAD_WORDS.left b.if-s-gt-MAX_VARIANTS.left d.if-s-gt-MAX_FRAGMENTS.left e.if-s-gt-MAX_CALLS.left (sym g.before.cutoff_ok.ensures ∙ not-false _ g.if-not-cutoff_ok.left) u.if-s.left v.if-s-2.false (λ q. c.if-words-all.false (q ∙ sym c.before.total_words-all.ensures))
+    head_length _ _ (read b).read_sizes-s.ensures (read b).before.if-words-lt-HEAD_WORDS.false b.if-s-gt-MAX_VARIANTS.false d.if-s-gt-MAX_FRAGMENTS.false e.if-s-gt-MAX_CALLS.false (sym g.before.cutoff_ok.ensures ∙ g.if-not-cutoff_ok.false) u.if-s.false v.if-s-2.false (λ q. c.if-words-all.false (q ∙ sym c.before.total_words-all.ensures))
 
 pub head_fault_spec : {M : Type 1} → statement M
 head_fault_spec =

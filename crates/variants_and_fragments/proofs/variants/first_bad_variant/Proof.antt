@@ -27,7 +27,7 @@ variant_ok_requires c κs = search rules
 returns : tie.Need-returns-then-not-variant_ok invariant_loop decreases_loop
 returns c =
     let l = c.before.before.before in
-    first_at _ _ _ l.loop-v.invariant.1 c.before.before.loop-v-test.true (sym c.before.variant_ok.ensures ∙ not-true _ c.if-not-variant_ok.true)
+    first_at _ _ _ l.loop-v.invariant.1 c.before.before.loop-v-test.true (sym c.before.variant_ok.ensures ∙ c.if-not-variant_ok.true)
 
 add_v : tie.Need-overflow_add-v invariant_loop decreases_loop
 add_v c = omega arith
@@ -37,7 +37,7 @@ loop_less c = omega arith
 
 loop_again : tie.Need-loop-v-preserved invariant_loop decreases_loop
 loop_again c =
-    (omega arith, below_more _ _ c.before.before.before.loop-v.invariant.1 (sym c.before.variant_ok.ensures ∙ not-false _ c.if-not-variant_ok.false))
+    (omega arith, below_more _ _ c.before.before.before.loop-v.invariant.1 (sym c.before.variant_ok.ensures ∙ c.if-not-variant_ok.false))
 
 returns_2 : tie.Need-returns invariant_loop decreases_loop
 returns_2 c = first_end _ _ _ c.before.loop-v.invariant.1 (omega arith)

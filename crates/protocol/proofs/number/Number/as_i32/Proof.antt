@@ -13,14 +13,14 @@ st c = c.before
 
 -- what is known past the first test: the token is an integer
 whole : (c : tie.Else1) → is_integer (st c.before).args.self ≡ true
-whole c = sym c.before.is-integer.ensures ∙ not-false _ c.if1.false
+whole c = sym c.before.is-integer.ensures ∙ c.if1.false
 
 is_integer_requires : tie.Need-is-integer-requires
 is_integer_requires c κs = search rules
 
 returns : tie.Need-returns
 unfolding i32_in
-returns c = integral_none _ _ _ (st c.before).args.self (sym c.before.is-integer.ensures ∙ not-true _ c.if1.true)
+returns c = integral_none _ _ _ (st c.before).args.self (sym c.before.is-integer.ensures ∙ c.if1.true)
 
 returns_2 : tie.Need-returns-2
 unfolding i32_in signed_sizes
