@@ -39,7 +39,7 @@ pub struct Step {
 
 // Where the reading stands after a token: in the input, the token's line and that of the next byte, its
 // number in the request, whether all that was read so far could be read, and if not, why.
-#[derive(Drop)]
+#[derive(Clone, Copy)]
 pub struct Reader {
     pub cursor: Cursor,
     pub line: u64,
