@@ -135,13 +135,13 @@ module _ {M : Type 1} {𝓤 : Ura M} (𝓛 : Logic 𝓤) (at_mem : Memory → SP
   abbrev to_new : (New 𝓛 at_mem run).Ghost
   to_new = (((κ, tt), (q, tt), tt, (x, (n, tt)), (v ∷ [], (vint w64 n ∷ [], tt))), tt)
 
-  goes_new : ent 𝓤 (on_entry 𝓛 read-call.signature (κ, tt) (q, tt) a at) (sep 𝓤 ((New 𝓛 at_mem run).pre to_new) (sem 𝓛 Own))
+  goes_new : ent 𝓤 (on_entry 𝓛 read-call.signature (κ, tt) (q, tt) a at) (sep 𝓤 ((New 𝓛 at_mem run).requires to_new) (sem 𝓛 Own))
   goes_new =
       qed 𝓛 ((‵ (flft κ q) ⊛ ‵ ftrue) ∷ ‵ (owns (ShrSlice (named 0) κ i32 ∷ Z.the_row ∷ usize ∷ []) a at) ∷ []) ∵
       move ! (1 ∷ []) $ fsplit ! $ use1 𝓛 (‵ Own ⊛ ‵ Own) ((shr_slice_copy 𝓛 (named 0) κ i32).twice x (v ∷ [])) $ split ! $ move ! (2 ∷ []) $ drop ! $
       nothing ! $ owned ! usize (Is usize) (uint_Makes 𝓛 w64) n _ (refl, fits) $ fjoin ! $ move ! (1 ∷ 0 ∷ []) $ fjoin ! $
       -- [what the callee's parameters own; what words owns; the token]
-      move ! (2 ∷ 0 ∷ []) $ use2 𝓛 (raw ((New 𝓛 at_mem run).pre to_new)) (qed 𝓛 ((‵ (flft κ q) ⊛ ‵ ftrue) ∷ ‵ (owns (ShrSlice (named 0) κ i32 ∷ usize ∷ []) (x, (n, tt)) (v ∷ [], (vint w64 n ∷ [], tt))) ∷ []) ∵ join ! $ frame ! $ done !) $ frame ! $ done !
+      move ! (2 ∷ 0 ∷ []) $ use2 𝓛 (raw ((New 𝓛 at_mem run).requires to_new)) (qed 𝓛 ((‵ (flft κ q) ⊛ ‵ ftrue) ∷ ‵ (owns (ShrSlice (named 0) κ i32 ∷ usize ∷ []) (x, (n, tt)) (v ∷ [], (vint w64 n ∷ [], tt))) ∷ []) ∵ join ! $ frame ! $ done !) $ frame ! $ done !
 
   new_said : (r : ChainReader) → ent 𝓤 (ensured 𝓛 new.ended (new.clauses 𝓛 at_mem run) (κ, tt) (x, (n, tt)) tt r) (fact 𝓤 (r ≡ made))
   new_said r = ex_e 𝓤 _ (λ ws. snd∗ 𝓤 (sem 𝓛 (lasts new.ended (κ, tt) (x, (n, tt)) ws)) (fact 𝓤 (r ≡ made)))
@@ -153,7 +153,7 @@ module _ {M : Type 1} {𝓤 : Ura M} (𝓛 : Logic 𝓤) (at_mem : Memory → SP
   abbrev to_next : ℕ → ℕ → GName → (Next 𝓛 at_mem run).Ghost
   to_next b ν γ = (((ν ∷ κ, (κ, tt)), (PosShare.right q, (PosShare.left q, tt)), (meet_⊑_right (ν ∷ []) κ, tt), lent_at b γ, (vptr b 0 ∷ [], (z ∷ [], tt))), tt)
 
-  goes_next : Sized x.now s × (n ≤ s.c) → (b ν : ℕ) (γ : GName) → ent 𝓤 (lent.Lent κ q b 𝓛 ν γ made) ((Next 𝓛 at_mem run).pre (to_next b ν γ))
+  goes_next : Sized x.now s × (n ≤ s.c) → (b ν : ℕ) (γ : GName) → ent 𝓤 (lent.Lent κ q b 𝓛 ν γ made) ((Next 𝓛 at_mem run).requires (to_next b ν γ))
   goes_next ok b ν γ =
       qed 𝓛 ((‵ (lent.ref κ q b ν γ made) ⊛ ‵ (flft (ν ∷ κ) (PosShare.right q)) ⊛ ‵ (flft κ (PosShare.left q))) ∷ []) ∵ says ! ok $ split ! $ move ! (1 ∷ []) $ split ! $
       -- [the loan's token; κ's; the reference]
@@ -179,7 +179,7 @@ module _ {M : Type 1} {𝓤 : Ura M} (𝓛 : Logic 𝓤) (at_mem : Memory → SP
         alloc1 ! (λ l₀. alloc1 ! (λ l₁. alloc1 ! (λ l₂. alloc1 ! (λ l₃. alloc1 ! (λ l₄. alloc1 ! (λ l₅. alloc1 ! (λ l₆. alloc1 ! (λ l₇. alloc1 ! (λ l₈. alloc0 ! $ params1 ! $
         pass1 ! (init ! 14 refl ((shr_slice_Lawful 𝓛 (named 0) κ i32).typed x (v ∷ []) p).0) $ pass1 ! (init ! 12 refl ((LL.lawful Z.the_type Z'.the_laws 𝓛).typed s _ sizes).0) $ pass1 ! (init ! 10 refl (tt, record { fits = fits })) $ pass0 ! $
         -- the call of `new`
-        move ! (18 ∷ []) $ use1 𝓛 (raw ((New 𝓛 at_mem run).pre to_new) ⊛ ‵ Own) goes_new $ split ! $
+        move ! (18 ∷ []) $ use1 𝓛 (raw ((New 𝓛 at_mem run).requires to_new) ⊛ ‵ Own) goes_new $ split ! $
         calls_at ! fm (New 𝓛 at_mem run) known-new to_new (and_then ! (load ! (from ! (stop !)) (look ! 16 refl)) (and_then ! (load ! (from ! (stop !)) (look ! 12 refl)) (no_more !))) (λ u.
         use1 𝓛 (later (some (λ (r : ChainReader). ((‵ (flft κ q) ⊛ ‵ ftrue) ⊛ ‵ (B.own_val r (u ∷ []))) ⊛ raw (ensured 𝓛 new.ended (new.clauses 𝓛 at_mem run) (κ, tt) (x, (n, tt)) tt r)))) (id⊢ 𝓤 _) $ await ! tt $ pick ! (λ r.
         split ! $ move ! (1 ∷ []) $ use1 𝓛 (raw (fact 𝓤 (r ≡ made))) (new_said r) $ heard ! (r ≡ made) (λ e. split ! $ move ! (1 ∷ []) $ rewrite ! 0 (λ (y : ChainReader). ‵ (B.own_val y (u ∷ []))) e refl $
@@ -194,7 +194,7 @@ module _ {M : Type 1} {𝓤 : Ura M} (𝓛 : Logic 𝓤) (at_mem : Memory → SP
         -- the local is lent, and `next` called
         move ! (1 ∷ []) $ split ! $ move ! (12 ∷ 2 ∷ 0 ∷ []) $
         use3 𝓛 (later (some (λ (ν : ℕ). some (λ (γ : GName). raw (lent.Lent κ q l₄ 𝓛 ν γ made) ⊛ (raw (Rest 𝓛 ν (PosShare.right q)) ⊛ ‵ (flent (ν ∷ κ) (Body (mem B) l₄ 0 γ))))))) (lent.lends_reader κ q l₄ 𝓛 made) $ await ! tt $ pick ! (λ ν. pick ! (λ γ. split ! $
-        use1 𝓛 (raw ((Next 𝓛 at_mem run).pre (to_next l₄ ν γ))) (goes_next ok l₄ ν γ) $
+        use1 𝓛 (raw ((Next 𝓛 at_mem run).requires (to_next l₄ ν γ))) (goes_next ok l₄ ν γ) $
         -- [what `next` asks; what is kept of the loan; true; what words owns; _8; …; _7; …; _6; …; _5; …; the rest of
         -- _4; _3; …; _2; …; _1; …; room for _0; …]
         calls_at ! fm (Next 𝓛 at_mem run) known_next (to_next l₄ ν γ) (and_then ! (load ! (from ! (stop !)) (look ! 6 refl)) (and_then ! (load ! (from ! (stop !)) (look ! 15 refl)) (no_more !))) (λ u'.

@@ -143,11 +143,11 @@ module _ {M : Type 1} {𝓤 : Ura M} (𝓛 : Logic 𝓤) (at_mem : Memory → SP
   abbrev Asked : Type 0
   Asked = Sized h.words.now s × (h.next ≤ s.c)
 
-  asked : Asked → ent 𝓤 (on_entry 𝓛 record-at.signature (κ', tt) (q', tt) (h.words, (s, (h.next, tt))) passed) ((ReadRecord 𝓛 at_mem run).pre to)
+  asked : Asked → ent 𝓤 (on_entry 𝓛 record-at.signature (κ', tt) (q', tt) (h.words, (s, (h.next, tt))) passed) ((ReadRecord 𝓛 at_mem run).requires to)
   asked ok = qed 𝓛 ((‵ (flft κ' q') ⊛ ‵ ftrue) ∷ ‵ (owns (ShrSlice (named 0) κ' i32 ∷ Z.the_row ∷ usize ∷ []) (h.words, (s, (h.next, tt))) passed) ∷ []) ∵ says ! ok $ frame ! $ done !
 
   -- what the reader owns gives what the callee asks, and is kept
-  apart : Asked → h.next < 2 ^ 64 → Is Z.the_row s (z ∷ []) → ent 𝓤 (⋆ 𝓛 ((‵ (flft κ' q') ⊛ ‵ ftrue) ∷ ‵ Own ∷ [])) (sep 𝓤 ((ReadRecord 𝓛 at_mem run).pre to) (sem 𝓛 Own))
+  apart : Asked → h.next < 2 ^ 64 → Is Z.the_row s (z ∷ []) → ent 𝓤 (⋆ 𝓛 ((‵ (flft κ' q') ⊛ ‵ ftrue) ∷ ‵ Own ∷ [])) (sep 𝓤 ((ReadRecord 𝓛 at_mem run).requires to) (sem 𝓛 Own))
   apart ok fits sizes =
       qed 𝓛 ((‵ (flft κ' q') ⊛ ‵ ftrue) ∷ ‵ Own ∷ []) ∵
       move ! (1 ∷ []) $ use1 𝓛 (‵ Own ⊛ ‵ Own) ((LL.copy D (T'.the_copy (α κ')) 𝓛).twice h (mach ∷ [])) $ split ! $
@@ -155,7 +155,7 @@ module _ {M : Type 1} {𝓤 : Ura M} (𝓛 : Logic 𝓤) (at_mem : Memory → SP
       -- [what words owns; what next owns; what the reader owns; the token]
       move ! (1 ∷ []) $ drop ! $ nothing ! $ owned ! usize (Is usize) (uint_Makes 𝓛 w64) h.next _ (refl, fits) $ fjoin ! $
       owned ! Z.the_row (Is Z.the_row) (LL.makes Z.the_type Z'.the_plain 𝓛) s _ sizes $ fjoin ! $ move ! (1 ∷ 0 ∷ []) $ fjoin ! $
-      move ! (2 ∷ 0 ∷ []) $ use2 𝓛 (raw ((ReadRecord 𝓛 at_mem run).pre to)) (asked ok) $ frame ! $ done !)
+      move ! (2 ∷ 0 ∷ []) $ use2 𝓛 (raw ((ReadRecord 𝓛 at_mem run).requires to)) (asked ok) $ frame ! $ done !)
 
   -- of the callee's `ensured`, the clause alone: it has no `&mut`, so what is said of last values is dropped
   said : (r : CallStep) → ent 𝓤 (ensured 𝓛 record-at.ended (record-at.clauses 𝓛 at_mem run) (κ', tt) (h.words, (s, (h.next, tt))) tt r) (fact 𝓤 (r ≡ step_at h.words.now s h.next))
@@ -191,7 +191,7 @@ module _ {M : Type 1} {𝓤 : Ura M} (𝓛 : Logic 𝓤) (at_mem : Memory → SP
         assigns ! (of_opd ! (load ! (from ! (hop ! (look ! 15 refl) (fld ! refl (stop !)))) (look_in ! 0 (sub ! 0 refl (whole !))))) (from ! (stop !)) (init ! 9 refl (tt, ((LL.lawful D L 𝓛).typed h _ was).0.1.0)) $
         assigns ! (of_opd ! (load ! (from ! (hop ! (look ! 15 refl) (fld ! refl (stop !)))) (look_in ! 0 (sub ! 1 refl (whole !))))) (from ! (stop !)) (init ! 7 refl (tt, ((LL.lawful D L 𝓛).typed h _ was).0.1.1.0)) $
         -- the call
-        move ! (5 ∷ 1 ∷ []) $ use2 𝓛 (raw ((ReadRecord 𝓛 at_mem run).pre to) ⊛ ‵ Own) (apart ok was.1.1.1.0.1 sizes) $ split ! $
+        move ! (5 ∷ 1 ∷ []) $ use2 𝓛 (raw ((ReadRecord 𝓛 at_mem run).requires to) ⊛ ‵ Own) (apart ok was.1.1.1.0.1 sizes) $ split ! $
         calls_at ! fm (ReadRecord 𝓛 at_mem run) known to (and_then ! (load ! (from ! (stop !)) (look ! 9 refl)) (and_then ! (load ! (from ! (stop !)) (look ! 13 refl)) (and_then ! (load ! (from ! (stop !)) (look ! 7 refl)) (no_more !)))) (λ u.
         use1 𝓛 (later (some (λ (r : CallStep). ((‵ (flft κ' q') ⊛ ‵ ftrue) ⊛ ‵ ((S.the_row).own_val r (u ∷ []))) ⊛ raw (ensured 𝓛 record-at.ended (record-at.clauses 𝓛 at_mem run) (κ', tt) (h.words, (s, (h.next, tt))) tt r)))) (id⊢ 𝓤 _) $ await ! tt $ pick ! (λ r.
         split ! $ move ! (1 ∷ []) $ use1 𝓛 (raw (fact 𝓤 (r ≡ step_at h.words.now s h.next))) (said r) $ heard ! (r ≡ step_at h.words.now s h.next) (λ e. split ! $ move ! (1 ∷ []) $
