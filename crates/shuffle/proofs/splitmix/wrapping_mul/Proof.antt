@@ -7,10 +7,10 @@ use Rattle.shuffle.proofs.splitmix.wrapping_mul.Statement.{statement}
 use Rattle.shuffle.proofs.splitmix.wrapping_mul.Tie as tie
 
 mul_wrapping_add_u64 : tie.Need-overflow_mul-a1
-mul_wrapping_add_u64 c = record { fits = below 32 (shr_lt 32 32 c.ranges.a.ranges) (mask_lt c.args.b 32) }
+mul_wrapping_add_u64 c = record { fits = below 32 (shr_lt 32 32 c.ranges.a.fits) (mask_lt c.args.b 32) }
 
 mul_wrapping_add_u64_2 : tie.Need-overflow_mul-a0
-mul_wrapping_add_u64_2 c = record { fits = below 32 (mask_lt c.args.a 32) (shr_lt 32 32 c.ranges.b.ranges) }
+mul_wrapping_add_u64_2 c = record { fits = below 32 (mask_lt c.args.a 32) (shr_lt 32 32 c.ranges.b.fits) }
 
 wrapping_add_u64_requires : tie.Need-wrapping_add_u64-middle-requires
 wrapping_add_u64_requires c κs = search rules
