@@ -30,7 +30,7 @@ accepted_priors_requires c κs = is_accepted c.before.before
 
 returns : tie.Need-returns-in-Refused
 unfolding genotype_priors_outcome
-returns c = let d = c.before in refuses _ (case_stops _ _ _ _ (ap outcome_of (sym d.checked.given.1) ∙ d.before.before.check_case-checked.ensures))
+returns c = let d = c.before in refuses _ (case_stops _ _ _ _ (ap outcome_of (sym d.checked-1.given.1) ∙ d.before.before.check_case-checked.ensures))
 
 same_length : tie.Need-shape_of-priors
 same_length c = search rules

@@ -19,13 +19,13 @@ st c = c.before.before.before
 abbrev case_outcome : tie.After-check_case → Outcome Sizes
 case_outcome c = check_case_outcome (st c).args.words.now (st c).args.bases.now
 
-accepted : (c : tie.In-Accepted-2) → case_outcome c.before.before ≡ done c.s.given.0.0
+accepted : (c : tie.In-Accepted-2) → case_outcome c.before.before ≡ done c.s-1.given.0.0
 unfolding outcome_of
-accepted c = sym c.before.before.check_case.ensures ∙ ap outcome_of c.s.given.1
+accepted c = sym c.before.before.check_case.ensures ∙ ap outcome_of c.s-1.given.1
 
 -- how many orders the slice has room for
 abbrev room : tie.In-Accepted-2 → ℕ
-room c = order_count c.s.given.0.0.n (length (st c.before.before).args.orders.now)
+room c = order_count c.s-1.given.0.0.n (length (st c.before.before).args.orders.now)
 
 -- past the case
 past_case : (c : tie.In-Accepted-2) → unless (ltb 0 (room c)) 8 0 (done tt) ≡ sweep_orders_outcome (st c.before.before).args.words.now (st c.before.before).args.bases.now (st c.before.before).args.orders.now
@@ -57,7 +57,7 @@ write_orders_requires c κs = (
 
 returns_2 : tie.Need-returns-in-Refused
 unfolding sweep_orders_outcome
-returns_2 c = let d = c.before in refuses _ (case_stops _ _ _ _ (ap outcome_of (sym d.x.given.1) ∙ d.before.before.check_case.ensures))
+returns_2 c = let d = c.before in refuses _ (case_stops _ _ _ _ (ap outcome_of (sym d.x-1.given.1) ∙ d.before.before.check_case.ensures))
 
 same_length : tie.Need-shape_of-orders
 same_length c = search rules

@@ -100,7 +100,7 @@ write_filters_requires c κs =
 
 returns_3 : tie.Need-returns-in-Refused
 unfolding var_filter_outcome
-returns_3 c = refuses _ (case_stops _ _ _ _ (ap outcome_of (sym c.before.checked.given.1) ∙ c.before.before.before.check_case-checked.ensures))
+returns_3 c = refuses _ (case_stops _ _ _ _ (ap outcome_of (sym c.before.checked-1.given.1) ∙ c.before.before.before.check_case-checked.ensures))
 
 same_length : tie.Need-shape_of-filters
 same_length c = search rules
