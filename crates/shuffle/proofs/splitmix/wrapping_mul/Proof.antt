@@ -28,7 +28,7 @@ returns : tie.Need-returns
 returns c =
     let a = c.before.before.args.a in
     let b = c.before.before.args.b in
-    c.wrapping_add_u64-middle.ensures
+    c.wrapping_add_u64.ensures
     ∙ ap (λ (m : ℕ). (bit_and a 0xffff_ffff * bit_and b 0xffff_ffff + bit_and m 0xffff_ffff * 4294967296) % 2 ^ 64) c.before.wrapping_add_u64-middle.ensures
     ∙ low_product a b
 
