@@ -82,7 +82,7 @@ loop_again c =
     let l = (turn c.before.before).before.loop-o in
     let d = c.before.before.is_permutation in (
       omega arith,
-      d.auto.1.1.0 ∙ l.invariant.1,
+      d.auto.marks ∙ l.invariant.1,
       d.ensures.1,
       below_more _ _ l.invariant.3 (sym (tested c.before.before) ∙ c.if-not-is_permutation.false),
     )

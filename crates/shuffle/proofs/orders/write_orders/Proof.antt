@@ -70,7 +70,7 @@ loop_again c =
     let l = turn.before.loop-o in
     let d = c.before.before.shuffle_order-state in (
       omega arith,
-      same_len_mid (begins turn) (lent turn) l.orders d.new.0 d.auto.0 ∙ l.invariant.1,
+      same_len_mid (begins turn) (lent turn) l.orders d.new.order d.auto.order ∙ l.invariant.1,
       write_more _ _ _ _ _ _ _ (filled turn) turn.loop-o-test.true _ d.ensures.0 d.ensures.1 l.invariant.2,
     )
 
