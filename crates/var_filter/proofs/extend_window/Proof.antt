@@ -1,6 +1,7 @@
 -- `extend_window` meets its contract. The loop's invariant: what is passed is a window before the visit of v.
 -- Assumes nothing.
-use mathlib.Core.Path.{refl}
+use mathlib.Core.Path.{refl, ap}
+use mathlib.Core.Bool.{not}
 use Prim.Native.Nat.{◌+◌, ◌-◌, ◌≤◌}
 use native.Mathlib.Omega.{arith}
 use native.Mathlib.Nat.{le_refl}
@@ -71,7 +72,7 @@ loop_again : tie.Need-loop-end-preserved-then-not-q-density invariant_loop decre
 unfolding strong
 loop_again c =
     let at = c.before.before.before.before.before.before in
-    window_strong (start_of at).requires.0 at.loop-end.invariant c.before.before.before.before.before.loop-end-test.true (in_reach c.before.before.before) c.if-not-q-density.true
+    window_strong (start_of at).requires.0 at.loop-end.invariant c.before.before.before.before.before.loop-end-test.true (in_reach c.before.before.before) (ap not c.if-not-q-density.true)
 
 loop_less_2 : tie.Need-loop-end-smaller invariant_loop decreases_loop
 loop_less_2 c = omega arith
@@ -80,7 +81,7 @@ loop_again_2 : tie.Need-loop-end-preserved invariant_loop decreases_loop
 unfolding strong
 loop_again_2 c =
     let at = c.before.before.before.before.before.before in
-    window_weak (start_of at).requires.0 at.loop-end.invariant c.before.before.before.before.before.loop-end-test.true (in_reach c.before.before.before) c.if-not-q-density.false
+    window_weak (start_of at).requires.0 at.loop-end.invariant c.before.before.before.before.before.loop-end-test.true (in_reach c.before.before.before) (ap not c.if-not-q-density.false)
 
 returns_2 : tie.Need-returns invariant_loop decreases_loop
 returns_2 c =

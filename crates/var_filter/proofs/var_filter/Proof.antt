@@ -24,34 +24,34 @@ use Rattle.var_filter.proofs.var_filter.Tie as tie
 abbrev start_of : tie.After-check_case-checked → tie.Start
 start_of c = c.before.before.before.before
 
-abbrev st : tie.In-Accepted-2 → tie.Start
-st c = start_of c.before.before
+abbrev st : tie.In-Accepted → tie.Start
+st c = start_of c.before
 
-abbrev S : tie.In-Accepted-2 → Sizes
-S c = c.checked-in-Accepted-1.given.0.0
+abbrev S : tie.In-Accepted → Sizes
+S c = c.in-Accepted.s
 
-abbrev case_of : tie.After-earlier-short → tie.In-Accepted-2
-case_of c = c.before.before.before.before
+abbrev case_of : tie.After-earlier-short → tie.In-Accepted
+case_of c = c.before.before.before
 
 abbrev room : tie.Else-not-is_finite → tie.Else-short-ne0
-room c = c.before.before
+room c = c.before.before.before
 
 -- ---- what holds there
-accepted : (c : tie.In-Accepted-2) → outcome_of (Accepted (S c)) ≡ check_case_outcome (st c).args.words.now (st c).args.bases.now
-accepted c = ap outcome_of (sym c.checked-in-Accepted-1.given.1) ∙ c.before.before.check_case-checked.ensures
+accepted : (c : tie.In-Accepted) → outcome_of (Accepted (S c)) ≡ check_case_outcome (st c).args.words.now (st c).args.bases.now
+accepted c = c.in-Accepted.ensures
 
-case : (c : tie.In-Accepted-2) → CaseIn (st c).args.words.now (S c)
+case : (c : tie.In-Accepted) → CaseIn (st c).args.words.now (S c)
 case c = case_in _ _ _ (is_done _ _ _ (accepted c))
 
 -- the slices, each with what it needs
-abbrev slices : tie.In-Accepted-2 → List (ℕ × ℕ)
+abbrev slices : tie.In-Accepted → List (ℕ × ℕ)
 slices c = ((S c).n, length (st c).args.quals.now) ∷ ((S c).n, length (st c).args.filters.now) ∷ []
 
 short : (c : tie.After-earlier-short) → c.earlier-short.result ≡ smallest_short (slices (case_of c))
-short c = c.earlier-short.ensures ∙ short_more _ _ _ _ _ c.before.before.short_of.ensures (short_last _ _ _ c.before.short_of-in-Accepted.ensures)
+short c = c.earlier-short.ensures ∙ short_more _ _ _ _ _ c.short_of.ensures (short_last _ _ _ c.short_of-in-Accepted.ensures)
 
 -- what is left past the case
-abbrev last_line : tie.In-Accepted-2 → Outcome Unit
+abbrev last_line : tie.In-Accepted → Outcome Unit
 last_line c = unless (is_finite (limits_of (st c).args.density (st c).args.max_depth).density_qual) 11 0 (done tt)
 
 check_case_requires : tie.Need-check_case-checked-requires
@@ -90,7 +90,7 @@ unfolding var_filter_outcome
 past_short c = enough_on _ _ (fits c) ∙ case_past _ _ _ _ (accepted (case_of c.before))
 
 returns_2 : tie.Need-returns-then-not-is_finite
-returns_2 c = refuses _ (unless_at _ 11 0 _ (sym c.before.is_finite.ensures ∙ c.if-not-is_finite.true) ∙ past_short c.before.before)
+returns_2 c = refuses _ (unless_at _ 11 0 _ (sym c.is_finite.ensures ∙ c.if-not-is_finite.true) ∙ past_short c.before.before.before)
 
 write_filters_requires : tie.Need-write_filters-requires
 write_filters_requires c κs =
@@ -100,7 +100,7 @@ write_filters_requires c κs =
 
 returns_3 : tie.Need-returns-in-Refused
 unfolding var_filter_outcome
-returns_3 c = refuses _ (case_stops _ _ _ _ (ap outcome_of (sym c.before.checked-1.given.1) ∙ c.before.before.before.check_case-checked.ensures))
+returns_3 c = refuses _ (case_stops _ _ _ _ c.in-Refused.ensures)
 
 same_length : tie.Need-shape_of-filters
 same_length c = search rules
