@@ -40,7 +40,7 @@ entry_size z h = omega (arith, size_small z (omega arith))
 ln_add_exp_requires : tie.Need-ln_add_exp-requires
 ln_add_exp_requires c κs =
     let d = c.before.before in
-    (d.before.requires.0, entry_size d.entry-x.result.0 d.entry-x.ensures.1, entry_size c.entry-x.result.0 c.entry-x.ensures.1)
+    (d.before.requires.0, entry_size d.entry-x.result.0 d.entry-x.ensures.1, entry_size c.entry.result.0 c.entry.ensures.1)
 
 returns_2 : tie.Need-returns
 unfolding post_at post_of
@@ -48,9 +48,9 @@ returns_2 c =
     let d = c.before in
     let f = d.before.before in
     let x = f.entry-x.ensures.1 in
-    let y = d.entry-x.ensures.1 in
-    let e = add_is f.entry-x.result.0 d.entry-x.result.0 c.ln_add_exp.result.0 (omega arith) (omega arith) c.ln_add_exp.ensures in
-    rw d.before.if-phased-i.false (cc (e, f.entry-x.ensures.0, d.entry-x.ensures.0))
+    let y = d.entry.ensures.1 in
+    let e = add_is f.entry-x.result.0 d.entry.result.0 c.ln_add_exp.result.0 (omega arith) (omega arith) c.ln_add_exp.ensures in
+    rw d.before.if-phased-i.false (cc (e, f.entry-x.ensures.0, d.entry.ensures.0))
 
 pub post_of_spec : {M : Type 1} → statement M
 post_of_spec =

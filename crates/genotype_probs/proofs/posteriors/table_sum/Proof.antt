@@ -35,11 +35,11 @@ row_sum_requires_2 : tie.Need-row_sum-requires invariant_loop decreases_loop
 row_sum_requires_2 c κs = let s = c.before.before.before in (s.requires.0, s.requires.1, c.loop-i-test.true)
 
 -- what is added
-small : (c : tie.After-row_sum-sum invariant_loop decreases_loop) → nat_abs (row c.before.before.before.before c.before.before.loop-i.i) ≤ (2 ^ 40 + 12288)
-small c = omega (arith, ap nat_abs c.row_sum-sum.ensures.0, c.row_sum-sum.ensures.1)
+small : (c : tie.After-row_sum invariant_loop decreases_loop) → nat_abs (row c.before.before.before.before c.before.before.loop-i.i) ≤ (2 ^ 40 + 12288)
+small c = omega (arith, ap nat_abs c.row_sum.ensures.0, c.row_sum.ensures.1)
 
 -- and what it is added to
-sum_small : (c : tie.After-row_sum-sum invariant_loop decreases_loop) → nat_abs c.before.before.loop-i.sum.0 ≤ 2 ^ 40 + 24576
+sum_small : (c : tie.After-row_sum invariant_loop decreases_loop) → nat_abs c.before.before.loop-i.sum.0 ≤ 2 ^ 40 + 24576
 sum_small c =
     let l = c.before.before in
     omega (arith, l.loop-i.invariant.small, l.loop-i.invariant.inside, l.before.before.requires.1.k_high)
@@ -49,9 +49,9 @@ ln_add_exp_requires c κs =
     let l = c.before.before in
     let s = l.before.before in
     let a = l.loop-i.sum.0 in
-    let x = c.row_sum-sum.result.0 in
+    let x = c.row_sum.result.0 in
     let h = sum_small c in
-    let k = c.row_sum-sum.ensures.1 in
+    let k = c.row_sum.ensures.1 in
     (s.requires.0, omega (arith, size_small a (omega arith)), omega (arith, size_small x (omega arith)))
 
 add_i : tie.Need-overflow_add-i invariant_loop decreases_loop
@@ -67,12 +67,12 @@ loop_again c =
     let l = d.before.before in
     let s = l.before.before in
     let sum = l.loop-i.sum.0 in
-    let x = d.row_sum-sum.result.0 in
+    let x = d.row_sum.result.0 in
     let h = sum_small d in
-    let k = d.row_sum-sum.ensures.1 in
+    let k = d.row_sum.ensures.1 in
     let e = add_is sum x c.ln_add_exp-sum.result.0 (omega arith) (omega arith) c.ln_add_exp-sum.ensures in
     summing_more (2 ^ 40 + 12288) (row s) s.args.k sum _ l.loop-i.i l.loop-i.invariant d.before.loop-i-test.true
-    (e ∙ ap (add_exp sum) d.row_sum-sum.ensures.0)
+    (e ∙ ap (add_exp sum) d.row_sum.ensures.0)
     (small d)
 
 returns : tie.Need-returns invariant_loop decreases_loop
