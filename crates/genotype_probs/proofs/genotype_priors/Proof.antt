@@ -12,12 +12,9 @@ use Rattle.genotype_probs.proofs.genotype_priors.Tie as tie
 check_case_requires : tie.Need-check_case-checked-requires
 check_case_requires c κs = search rules
 
-abbrev start : tie.After-check_case-checked → tie.Start
-start c = c.before.before
-
-is_accepted : (c : tie.In-Accepted-2) → check_case_outcome (start c.before.before).args.words.now (start c.before.before).args.bases.now ≡ done c.checked-in-Accepted-1.given.0.0
+is_accepted : (c : tie.In-Accepted) → check_case_outcome c.args.words.now c.args.bases.now ≡ done c.in-Accepted.s
 unfolding outcome_of
-is_accepted c = sym c.before.before.check_case-checked.ensures ∙ ap outcome_of c.checked-in-Accepted-1.given.1
+is_accepted c = sym c.check_case-checked.ensures ∙ ap outcome_of c.in-Accepted.is
 
 enum_known_checked : tie.Need-enum_known-checked
 enum_known_checked c = search rules
@@ -26,11 +23,11 @@ enum_known_checked_2 : tie.Need-enum_known-checked-in-Accepted-1
 enum_known_checked_2 c = search rules
 
 accepted_priors_requires : tie.Need-accepted_priors-requires
-accepted_priors_requires c κs = is_accepted c.before.before
+accepted_priors_requires c κs = is_accepted c.before
 
 returns : tie.Need-returns-in-Refused
 unfolding genotype_priors_outcome
-returns c = let d = c.before in refuses _ (case_stops _ _ _ _ (ap outcome_of (sym d.checked-1.given.1) ∙ d.before.before.check_case-checked.ensures))
+returns c = refuses _ (case_stops _ _ _ _ (ap outcome_of (sym c.in-Refused.is) ∙ c.check_case-checked.ensures))
 
 same_length : tie.Need-shape_of-priors
 same_length c = search rules

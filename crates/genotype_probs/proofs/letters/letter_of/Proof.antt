@@ -25,9 +25,9 @@ unfolding base_of
 returns_2 c =
     let s = c.before.before.before in
     let g : c.before.before.if-byte-eq71.g ≡ cond (eqb s.args.byte 71) 2 3 =
-    ⊎_elim (λ w. let u = w.1 in simp (eq-eqb _ _ w.0.true, u)) (λ w. let u = w.1 in simp (ne_eqb _ _ w.0.left, u)) c.before.before.if-byte-eq71.branch-raw in
+    ⊎_elim (λ w. let u = w.g-is in simp (eq-eqb _ _ w.if-byte-eq71.true, u)) (λ w. let u = w.g-is in simp (ne_eqb _ _ w.if-byte-eq71.false, u)) c.before.before.if-byte-eq71.branch-raw in
     let k : c.before.if-byte-eq67.c ≡ cond (eqb s.args.byte 67) 1 (cond (eqb s.args.byte 71) 2 3) =
-    ⊎_elim (λ w. let u = w.1 in simp (eq-eqb _ _ w.0.true, u)) (λ w. let u = w.1 in simp (ne_eqb _ _ w.0.left, u, g)) c.before.if-byte-eq67.branch-raw in
+    ⊎_elim (λ w. let u = w.c-is in simp (eq-eqb _ _ w.if-byte-eq67.true, u)) (λ w. let u = w.c-is in simp (ne_eqb _ _ w.if-byte-eq67.false, u, g)) c.before.if-byte-eq67.branch-raw in
     rw (ne_eqb _ _ c.if-byte-eq65.false) (k ∙ not_A (eqb s.args.byte 67) (eqb s.args.byte 71))
 
 pub letter_of_spec : {M : Type 1} → statement M

@@ -69,15 +69,15 @@ loop_again c =
     let s = l.before.before in
     let h = d.before.loop-p-test.true in
     let x = d.post_of-x.ensures in
-    let a : to_z w64 (of_z w64 l.loop-p.top.0) ≡ l.loop-p.top.0 = search (rules, c.before.before.before.struct_told-1.given) in
-    let b : to_z w64 (of_z w64 d.post_of-x.result.0) ≡ d.post_of-x.result.0 = search (rules, c.before.struct_told-in-loop-p-1.given) in
+    let a : to_z w64 (of_z w64 l.loop-p.top.0) ≡ l.loop-p.top.0 = search (rules, c.struct_told-1.given) in
+    let b : to_z w64 (of_z w64 d.post_of-x.result.0) ≡ d.post_of-x.result.0 = search (rules, c.struct_told-in-loop-p-1.given) in
     ⊎_elim
     (λ w.
-    let t : lt_z (value s l.loop-p.best) (value s l.loop-p.p) ≡ true = same_test _ _ _ _ true (a ∙ l.loop-p.invariant.2) (b ∙ x) w.0.true in
-    (omega arith, w.1 ∙ maximum_more (value s) l.loop-p.best l.loop-p.p l.loop-p.invariant.1 t, ap (λ (z : LogProb). z.0) w.2 ∙ x ∙ sym (ap (value s) w.1)))
+    let t : lt_z (value s l.loop-p.best) (value s l.loop-p.p) ≡ true = same_test _ _ _ _ true (a ∙ l.loop-p.invariant.2) (b ∙ x) w.if-top-x.true in
+    (omega arith, w.best-is ∙ maximum_more (value s) l.loop-p.best l.loop-p.p l.loop-p.invariant.1 t, ap (λ (z : LogProb). z.0) w.top-is ∙ x ∙ sym (ap (value s) w.best-is)))
     (λ w.
-    let t : lt_z (value s l.loop-p.best) (value s l.loop-p.p) ≡ false = same_test _ _ _ _ false (a ∙ l.loop-p.invariant.2) (b ∙ x) w.0.left in
-    (omega arith, w.1 ∙ maximum_kept (value s) l.loop-p.best l.loop-p.p l.loop-p.invariant.1 t, ap (λ (z : LogProb). z.0) w.2 ∙ l.loop-p.invariant.2 ∙ sym (ap (value s) w.1)))
+    let t : lt_z (value s l.loop-p.best) (value s l.loop-p.p) ≡ false = same_test _ _ _ _ false (a ∙ l.loop-p.invariant.2) (b ∙ x) w.if-top-x.false in
+    (omega arith, w.best-is ∙ maximum_kept (value s) l.loop-p.best l.loop-p.p l.loop-p.invariant.1 t, ap (λ (z : LogProb). z.0) w.top-is ∙ l.loop-p.invariant.2 ∙ sym (ap (value s) w.best-is)))
     c.if-top-x.branch-raw
 
 returns : tie.Need-returns invariant_loop decreases_loop

@@ -18,7 +18,7 @@ use Rattle.genotype_probs.proofs.table.rates_fault.Tie as tie
 
 -- ---- past each test: the place before it, the rates, that the rate is in range, and what is left
 abbrev rates1 : tie.Else-not-rate_ok → Rates
-rates1 c = c.before.before.args.rates
+rates1 c = c.args.rates
 
 ok1 : (c : tie.Else-not-rate_ok) → rate_ok (hom_snv_rate (rates1 c)) ≡ true
 ok1 c = sym c.before.rate_ok.ensures ∙ c.if-not-rate_ok.false
@@ -28,7 +28,7 @@ unfolding rate_tests
 left1 c = fault_from_lem (rates1 c) ∙ fault_past (rates1 c) 0 (omega arith) (ok1 c)
 
 abbrev past1 : tie.Else-not-rate_ok-2 → tie.Else-not-rate_ok
-past1 c = c.before.before
+past1 c = c.before.before.before
 
 abbrev rates2 : tie.Else-not-rate_ok-2 → Rates
 rates2 c = rates1 (past1 c)
@@ -41,7 +41,7 @@ unfolding rate_tests
 left2 c = left1 (past1 c) ∙ fault_past (rates2 c) 1 (omega arith) (ok2 c)
 
 abbrev past2 : tie.Else-not-rate_ok-3 → tie.Else-not-rate_ok-2
-past2 c = c.before.before
+past2 c = c.before.before.before
 
 abbrev rates3 : tie.Else-not-rate_ok-3 → Rates
 rates3 c = rates2 (past2 c)
@@ -54,7 +54,7 @@ unfolding rate_tests
 left3 c = left2 (past2 c) ∙ fault_past (rates3 c) 2 (omega arith) (ok3 c)
 
 abbrev past3 : tie.Else-not-rate_ok-4 → tie.Else-not-rate_ok-3
-past3 c = c.before.before
+past3 c = c.before.before.before
 
 abbrev rates4 : tie.Else-not-rate_ok-4 → Rates
 rates4 c = rates3 (past3 c)
@@ -67,7 +67,7 @@ unfolding rate_tests
 left4 c = left3 (past3 c) ∙ fault_past (rates4 c) 3 (omega arith) (ok4 c)
 
 abbrev past4 : tie.Else-not-rate_ok-5 → tie.Else-not-rate_ok-4
-past4 c = c.before.before
+past4 c = c.before.before.before
 
 abbrev rates5 : tie.Else-not-rate_ok-5 → Rates
 rates5 c = rates4 (past4 c)
@@ -80,7 +80,7 @@ unfolding rate_tests
 left5 c = left4 (past4 c) ∙ fault_past (rates5 c) 4 (omega arith) (ok5 c)
 
 abbrev past5 : tie.Else-not-rate_ok-6 → tie.Else-not-rate_ok-5
-past5 c = c.before.before
+past5 c = c.before.before.before
 
 abbrev rates6 : tie.Else-not-rate_ok-6 → Rates
 rates6 c = rates5 (past5 c)
@@ -98,42 +98,42 @@ rate_ok_requires c κs = search rules
 
 returns : tie.Need-returns-then-not-rate_ok
 unfolding rate_tests
-returns c = sym (fault_from_lem c.before.before.args.rates ∙ fault_here c.before.before.args.rates 0 (omega arith) (sym c.before.rate_ok.ensures ∙ c.if-not-rate_ok.true))
+returns c = sym (fault_from_lem c.args.rates ∙ fault_here c.args.rates 0 (omega arith) (sym c.before.rate_ok.ensures ∙ c.if-not-rate_ok.true))
 
 rate_ok_requires_2 : tie.Need-rate_ok-requires-2
 rate_ok_requires_2 c κs = search rules
 
 returns_2 : tie.Need-returns-then-not-rate_ok-2
 unfolding rate_tests
-returns_2 c = sym (left1 c.before.before ∙ fault_here (rates1 c.before.before) 1 (omega arith) (sym c.before.rate_ok-2.ensures ∙ c.if-not-rate_ok-2.true))
+returns_2 c = sym (left1 c.before.before.before ∙ fault_here (rates1 c.before.before.before) 1 (omega arith) (sym c.before.rate_ok-2.ensures ∙ c.if-not-rate_ok-2.true))
 
 rate_ok_requires_3 : tie.Need-rate_ok-requires-3
 rate_ok_requires_3 c κs = search rules
 
 returns_3 : tie.Need-returns-then-not-rate_ok-3
 unfolding rate_tests
-returns_3 c = sym (left2 c.before.before ∙ fault_here (rates2 c.before.before) 2 (omega arith) (sym c.before.rate_ok-3.ensures ∙ c.if-not-rate_ok-3.true))
+returns_3 c = sym (left2 c.before.before.before ∙ fault_here (rates2 c.before.before.before) 2 (omega arith) (sym c.before.rate_ok-3.ensures ∙ c.if-not-rate_ok-3.true))
 
 rate_ok_requires_4 : tie.Need-rate_ok-requires-4
 rate_ok_requires_4 c κs = search rules
 
 returns_4 : tie.Need-returns-then-not-rate_ok-4
 unfolding rate_tests
-returns_4 c = sym (left3 c.before.before ∙ fault_here (rates3 c.before.before) 3 (omega arith) (sym c.before.rate_ok-4.ensures ∙ c.if-not-rate_ok-4.true))
+returns_4 c = sym (left3 c.before.before.before ∙ fault_here (rates3 c.before.before.before) 3 (omega arith) (sym c.before.rate_ok-4.ensures ∙ c.if-not-rate_ok-4.true))
 
 rate_ok_requires_5 : tie.Need-rate_ok-requires-5
 rate_ok_requires_5 c κs = search rules
 
 returns_5 : tie.Need-returns-then-not-rate_ok-5
 unfolding rate_tests
-returns_5 c = sym (left4 c.before.before ∙ fault_here (rates4 c.before.before) 4 (omega arith) (sym c.before.rate_ok-5.ensures ∙ c.if-not-rate_ok-5.true))
+returns_5 c = sym (left4 c.before.before.before ∙ fault_here (rates4 c.before.before.before) 4 (omega arith) (sym c.before.rate_ok-5.ensures ∙ c.if-not-rate_ok-5.true))
 
 rate_ok_requires_6 : tie.Need-rate_ok-requires-6
 rate_ok_requires_6 c κs = search rules
 
 returns_6 : tie.Need-returns-then-not-rate_ok-6
 unfolding rate_tests
-returns_6 c = sym (left5 c.before.before ∙ fault_here (rates5 c.before.before) 5 (omega arith) (sym c.before.rate_ok-6.ensures ∙ c.if-not-rate_ok-6.true))
+returns_6 c = sym (left5 c.before.before.before ∙ fault_here (rates5 c.before.before.before) 5 (omega arith) (sym c.before.rate_ok-6.ensures ∙ c.if-not-rate_ok-6.true))
 
 rate_sum_requires : tie.Need-rate_sum-requires
 rate_sum_requires c κs =
@@ -141,7 +141,7 @@ rate_sum_requires c κs =
     let c3 = past3 c4 in
     let c2 = past2 c3 in
     let c1 = past1 c2 in
-    (c1.before.before.requires, ok1 c1, ok2 c2, ok3 c3, ok4 c4)
+    (c1.requires, ok1 c1, ok2 c2, ok3 c3, ok4 c4)
 
 -- the sum, read back
 sum_is : (c : tie.After-rate_sum) → to_z w64 (of_z w64 c.rate_sum.result.0) ≡ rate_sum (rates6 c.before)
