@@ -1,7 +1,7 @@
 -- A token read a byte at a time reads as its integer, at every type: the value where the integer fits, else unreadable.
 -- By induction on the bytes: the state holds the number so far, or is spoilt, and then no type holds the token. Assumes nothing.
 use Rattle.std.proofs.Common.{◌≡◌, ℕ, zero, suc, ◌+◌, ◌-◌, ◌*◌, ◌^◌, ◌<◌, ◌≤◌, Bool, true, false, cond, not, ◌&&◌, ◌||◌, eqb, ltb, List, [], ◌∷◌, length, ℤ, sym, refl, ap, ◌∙◌, subst, add_assoc, mul_assoc, add-mul, le-mul_of_pos_right, arith, ltb-false, ltb-true, le-ltb, lt-ltb, eqb-true}
-use mathlib.Core.Bool.{and-false, and_true, or_true}
+use mathlib.Core.Bool.{and-false, and-true, or-true}
 use native.Mathlib.Nat.{pow-succ', one-le-pow}
 use lib.Dec.{leb-suc-suc, eqb-suc-zero}
 use lib.Ieee.{binary64, of_bits}
@@ -121,7 +121,7 @@ other_shows s b bs hb hn h = rw (after_other s b hb h, sign_late s b hn) (spoilt
 either_shows : (b : ℕ) (bs : List ℕ) (ih : (s : Number) → s.bad ≡ false → s.digits ≡ true → Shows (pushed_all s bs) (with_digits s.negative s.value bs)) (s : Number) (d : Bool) → is_digit b ≡ d → s.bad ≡ false → s.digits ≡ true → Shows (pushed_all (pushed s b) bs) (with_digits s.negative s.value (b ∷ bs))
 either_shows b bs ih s true h hb hd = digit_shows b bs ih s hb h
 either_shows b bs ih s false h hb hd =
-    rw (← digits_other s.negative s.value b bs h) (other_shows s b bs hb (simp (hd, or_true)) h)
+    rw (← digits_other s.negative s.value b bs h) (other_shows s b bs hb (simp (hd, or-true)) h)
 
 digits_show : (ds : List ℕ) (s : Number) → s.bad ≡ false → s.digits ≡ true → Shows (pushed_all s ds) (with_digits s.negative s.value ds)
 unfolding pushed_all
@@ -213,7 +213,7 @@ module _ {A : Type 0} (q : ℕ) (value : ℤ → A) (unreadable : A) where
   unfolding integral_of signed_sizes with_sign
   signed_reading false v = refl
   signed_reading true zero = simp (lt-ltb 0 (suc q + 1) (omega arith), lt-ltb 0 (suc q) (omega arith))
-  signed_reading true (suc v) = let e : suc q + 1 ≡ suc (suc q) = omega arith in simp (e, leb-suc-suc (suc v) (suc q), leb-suc-suc v q, and_true)
+  signed_reading true (suc v) = let e : suc q + 1 ≡ suc (suc q) = omega arith in simp (e, leb-suc-suc (suc v) (suc q), leb-suc-suc v q, and-true)
 
   unfit_integral : {r : Reading} → Unfit r → q < 2 ^ 63 → unreadable ≡ integral_of (suc q) value unreadable r
   unfolding integral_of with_sign
