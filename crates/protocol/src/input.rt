@@ -7,8 +7,8 @@ use crate::number::{
     Number, ReadF64, ReadI32, ReadI64, ReadLength, ReadU8, ReadU32, ReadU64, is_space,
     opens_comment,
 };
-use crate::{BUFFER_BYTES, Buffer};
-use libc::STDIN_FILENO;
+use crate::{BUFFER_BYTES, Source};
+use std::io::Read;
 
 // Why the program cannot read a token: an unknown request, no number of its type, the length of a slice that its array
 // does not hold, the end of the input in its place.
@@ -128,7 +128,7 @@ impl Cursor {
 }
 
 // The next byte of the input.
-fn next(input: &mut Buffer, cursor: Cursor) -> Step
+fn next(input: &mut Source, cursor: Cursor) -> Step
     ensures { ahead result ≤ cursor.left }
 {
     let at = cursor.at;
@@ -144,7 +144,7 @@ fn next(input: &mut Buffer, cursor: Cursor) -> Step
                 left: left - 1,
             };
             return Step {
-                byte: input[at],
+                byte: input.bytes[at],
                 more: true,
                 cursor: after,
             };
@@ -160,16 +160,18 @@ fn next(input: &mut Buffer, cursor: Cursor) -> Step
         left: left - 1,
     };
     Step {
-        byte: input[0],
+        byte: input.bytes[0],
         more: true,
         cursor: after,
     }
 }
 
-// Reads once into the buffer, and answers how many bytes came: 0 at the end of the input.
-fn refill(input: &mut [u8]) -> usize {
-    let got = libc::read(STDIN_FILENO, input);
-    io::count(got, input)
+// Reads once into the buffer, and answers how many bytes came: 0 at the end of the input, or where the read fails.
+fn refill(input: &mut Source) -> usize {
+    match input.stdin.read(&mut input.bytes) {
+        Ok(count) => count,
+        Err(_) => 0,
+    }
 }
 
 // The step to the first byte of a token, or to the end of the input, and its line.
@@ -181,7 +183,7 @@ pub struct Start {
 
 // The start of the next token, from the line `from` on: white space and comments are passed. In the loop
 // `comment` says whether the step stands in a comment.
-fn token_start(input: &mut Buffer, cursor: Cursor, from: u64) -> Start {
+fn token_start(input: &mut Source, cursor: Cursor, from: u64) -> Start {
     let mut step = next(input, cursor);
     let mut line = from;
     let mut comment = false;
@@ -206,7 +208,7 @@ pub struct Token {
 }
 
 // The next token, pushed byte by byte; no byte of a reader that failed, nor at the end of the input, where it fails.
-pub fn read_token(input: &mut Buffer, reader: Reader) -> Token
+pub fn read_token(input: &mut Source, reader: Reader) -> Token
     ensures { result.reader.token ≡ next_token reader }
 {
     let mut number = Number::new();
@@ -247,7 +249,7 @@ pub struct U8Part {
 }
 
 // The next token as a u8; the reader fails where it is none.
-pub fn read_u8(input: &mut Buffer, reader: Reader) -> U8Part {
+pub fn read_u8(input: &mut Source, reader: Reader) -> U8Part {
     let token = read_token(input, reader);
     let number = token.number;
     let after = token.reader;
@@ -271,7 +273,7 @@ pub struct U32Part {
 }
 
 // The next token as a u32; the reader fails where it is none.
-pub fn read_u32(input: &mut Buffer, reader: Reader) -> U32Part {
+pub fn read_u32(input: &mut Source, reader: Reader) -> U32Part {
     let token = read_token(input, reader);
     let number = token.number;
     let after = token.reader;
@@ -295,7 +297,7 @@ pub struct U64Part {
 }
 
 // The next token as a u64; the reader fails where it is none.
-pub fn read_u64(input: &mut Buffer, reader: Reader) -> U64Part {
+pub fn read_u64(input: &mut Source, reader: Reader) -> U64Part {
     let token = read_token(input, reader);
     let number = token.number;
     let after = token.reader;
@@ -319,7 +321,7 @@ pub struct I32Part {
 }
 
 // The next token as an i32; the reader fails where it is none.
-pub fn read_i32(input: &mut Buffer, reader: Reader) -> I32Part {
+pub fn read_i32(input: &mut Source, reader: Reader) -> I32Part {
     let token = read_token(input, reader);
     let number = token.number;
     let after = token.reader;
@@ -343,7 +345,7 @@ pub struct I64Part {
 }
 
 // The next token as an i64; the reader fails where it is none.
-pub fn read_i64(input: &mut Buffer, reader: Reader) -> I64Part {
+pub fn read_i64(input: &mut Source, reader: Reader) -> I64Part {
     let token = read_token(input, reader);
     let number = token.number;
     let after = token.reader;
@@ -367,7 +369,7 @@ pub struct F64Part {
 }
 
 // The next token as an f64; the reader fails where it is none.
-pub fn read_f64(input: &mut Buffer, reader: Reader) -> F64Part {
+pub fn read_f64(input: &mut Source, reader: Reader) -> F64Part {
     let token = read_token(input, reader);
     let number = token.number;
     let after = token.reader;
@@ -391,7 +393,7 @@ pub struct SlicePart {
 }
 
 // The next token as the length of a slice of at most `most` elements, else 0, and the reader fails.
-pub fn read_length(input: &mut Buffer, reader: Reader, most: usize) -> SlicePart
+pub fn read_length(input: &mut Source, reader: Reader, most: usize) -> SlicePart
     ensures { result.length ≤ most }
 {
     let token = read_token(input, reader);
@@ -419,7 +421,7 @@ pub fn read_length(input: &mut Buffer, reader: Reader, most: usize) -> SlicePart
 }
 
 // A slice of u8 into the front of out. At the loop's head i elements are there.
-pub fn read_u8s(input: &mut Buffer, reader: Reader, out: &mut [u8]) -> SlicePart
+pub fn read_u8s(input: &mut Source, reader: Reader, out: &mut [u8]) -> SlicePart
     ensures { Counts result.length out.new }
 {
     let head = read_length(input, reader, out.len());
@@ -440,7 +442,7 @@ pub fn read_u8s(input: &mut Buffer, reader: Reader, out: &mut [u8]) -> SlicePart
 }
 
 // A slice of u32 into the front of out. At the loop's head i elements are there.
-pub fn read_u32s(input: &mut Buffer, reader: Reader, out: &mut [u32]) -> SlicePart
+pub fn read_u32s(input: &mut Source, reader: Reader, out: &mut [u32]) -> SlicePart
     ensures { Counts result.length out.new }
 {
     let head = read_length(input, reader, out.len());
@@ -461,7 +463,7 @@ pub fn read_u32s(input: &mut Buffer, reader: Reader, out: &mut [u32]) -> SlicePa
 }
 
 // A slice of i32 into the front of out. At the loop's head i elements are there.
-pub fn read_i32s(input: &mut Buffer, reader: Reader, out: &mut [i32]) -> SlicePart
+pub fn read_i32s(input: &mut Source, reader: Reader, out: &mut [i32]) -> SlicePart
     ensures { Counts result.length out.new }
 {
     let head = read_length(input, reader, out.len());
@@ -482,7 +484,7 @@ pub fn read_i32s(input: &mut Buffer, reader: Reader, out: &mut [i32]) -> SlicePa
 }
 
 // A slice of i64 into the front of out. At the loop's head i elements are there.
-pub fn read_i64s(input: &mut Buffer, reader: Reader, out: &mut [i64]) -> SlicePart
+pub fn read_i64s(input: &mut Source, reader: Reader, out: &mut [i64]) -> SlicePart
     ensures { Counts result.length out.new }
 {
     let head = read_length(input, reader, out.len());
@@ -503,7 +505,7 @@ pub fn read_i64s(input: &mut Buffer, reader: Reader, out: &mut [i64]) -> SlicePa
 }
 
 // A slice of f64 into the front of out. At the loop's head i elements are there.
-pub fn read_f64s(input: &mut Buffer, reader: Reader, out: &mut [f64]) -> SlicePart
+pub fn read_f64s(input: &mut Source, reader: Reader, out: &mut [f64]) -> SlicePart
     ensures { Counts result.length out.new }
 {
     let head = read_length(input, reader, out.len());
@@ -524,35 +526,35 @@ pub fn read_f64s(input: &mut Buffer, reader: Reader, out: &mut [f64]) -> SlicePa
 }
 
 // The length of an output slice of u8, which is to be the front of out.
-pub fn read_front_u8(input: &mut Buffer, reader: Reader, out: &[u8]) -> SlicePart
+pub fn read_front_u8(input: &mut Source, reader: Reader, out: &[u8]) -> SlicePart
     ensures { Counts result.length out.now }
 {
     read_length(input, reader, out.len())
 }
 
 // The length of an output slice of i32, which is to be the front of out.
-pub fn read_front_i32(input: &mut Buffer, reader: Reader, out: &[i32]) -> SlicePart
+pub fn read_front_i32(input: &mut Source, reader: Reader, out: &[i32]) -> SlicePart
     ensures { Counts result.length out.now }
 {
     read_length(input, reader, out.len())
 }
 
 // The length of an output slice of u32, which is to be the front of out.
-pub fn read_front_u32(input: &mut Buffer, reader: Reader, out: &[u32]) -> SlicePart
+pub fn read_front_u32(input: &mut Source, reader: Reader, out: &[u32]) -> SlicePart
     ensures { Counts result.length out.now }
 {
     read_length(input, reader, out.len())
 }
 
 // The length of an output slice of i64, which is to be the front of out.
-pub fn read_front_i64(input: &mut Buffer, reader: Reader, out: &[i64]) -> SlicePart
+pub fn read_front_i64(input: &mut Source, reader: Reader, out: &[i64]) -> SlicePart
     ensures { Counts result.length out.now }
 {
     read_length(input, reader, out.len())
 }
 
 // The length of an output slice of f64, which is to be the front of out.
-pub fn read_front_f64(input: &mut Buffer, reader: Reader, out: &[f64]) -> SlicePart
+pub fn read_front_f64(input: &mut Source, reader: Reader, out: &[f64]) -> SlicePart
     ensures { Counts result.length out.now }
 {
     read_length(input, reader, out.len())
@@ -577,7 +579,7 @@ pub fn push_word(word: u64, b: u8) -> u64
 }
 
 // The next token as a word: 1 at the end of the input.
-pub fn read_word(input: &mut Buffer, reader: Reader) -> WordPart
+pub fn read_word(input: &mut Source, reader: Reader) -> WordPart
     ensures { result.reader.token ≡ 1 }
 {
     let mut word: u64 = 1;

@@ -6,8 +6,42 @@ pub mod number;
 pub mod output;
 mod print;
 
-// The bytes of a buffer, as `io::large_buffer` makes it.
+use std::io::{Stdin, Stdout};
+
+// The bytes of a buffer.
 pub const BUFFER_BYTES: usize = 65536;
 
 // The buffer of the input or of the output.
 pub type Buffer = [u8; BUFFER_BYTES];
+
+// Standard input, and the buffer of its bytes.
+#[derive(Drop)]
+pub struct Source {
+    stdin: Stdin,
+    bytes: Buffer,
+}
+
+impl Source {
+    pub fn new(stdin: Stdin) -> Source {
+        Source {
+            stdin,
+            bytes: [0; BUFFER_BYTES],
+        }
+    }
+}
+
+// Standard output, and the buffer of its bytes.
+#[derive(Drop)]
+pub struct Sink {
+    stdout: Stdout,
+    bytes: Buffer,
+}
+
+impl Sink {
+    pub fn new(stdout: Stdout) -> Sink {
+        Sink {
+            stdout,
+            bytes: [0; BUFFER_BYTES],
+        }
+    }
+}

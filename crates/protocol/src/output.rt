@@ -3,21 +3,22 @@
 ghost use Rattle.std.specs.Prelude.{◌≡◌, ◌≤◌};
 
 use crate::number::widened;
-use crate::{Buffer, print};
-use libc::STDOUT_FILENO;
+use crate::{Sink, print};
+use std::io::Write;
 
-// Writes out the bytes that wait, and answers 0.
-pub fn flush(output: &[u8], used: usize) -> usize
+// Writes out the bytes that wait, and answers 0. A write that fails drops the bytes that are left.
+pub fn flush(output: &Sink, used: usize) -> usize
     ensures { result ≡ 0 }
 {
-    if used <= output.len() {
-        io::write_all(STDOUT_FILENO, &output[..used]);
+    if used <= output.bytes.len() {
+        let mut stdout = output.stdout;
+        let _ = stdout.write_all(&output.bytes[..used]);
     }
     0
 }
 
 // The count after which there is room for any number: the bytes that wait are written out where there is none.
-fn room(output: &mut Buffer, used: usize) -> usize
+fn room(output: &mut Sink, used: usize) -> usize
     ensures { result ≤ 65500 }
 {
     if used > 65500 {
@@ -28,14 +29,14 @@ fn room(output: &mut Buffer, used: usize) -> usize
 }
 
 // One byte.
-pub fn byte(output: &mut Buffer, used: usize, b: u8) -> usize {
+pub fn byte(output: &mut Sink, used: usize, b: u8) -> usize {
     let at = room(output, used);
-    output[at] = b;
+    output.bytes[at] = b;
     at + 1
 }
 
 // A text.
-pub fn text(output: &mut Buffer, used: usize, bytes: &[u8]) -> usize {
+pub fn text(output: &mut Sink, used: usize, bytes: &[u8]) -> usize {
     let mut at = used;
     let mut i: usize = 0;
     while i < bytes.len() {
@@ -46,25 +47,25 @@ pub fn text(output: &mut Buffer, used: usize, bytes: &[u8]) -> usize {
 }
 
 // A number that is not below 0.
-pub fn natural(output: &mut Buffer, used: usize, x: u64) -> usize {
+pub fn natural(output: &mut Sink, used: usize, x: u64) -> usize {
     let at = room(output, used);
-    print::put_u64(output, at, x)
+    print::put_u64(&mut output.bytes, at, x)
 }
 
 // A signed number.
-pub fn integer(output: &mut Buffer, used: usize, x: i64) -> usize {
+pub fn integer(output: &mut Sink, used: usize, x: i64) -> usize {
     let at = room(output, used);
-    print::put_i64(output, at, x)
+    print::put_i64(&mut output.bytes, at, x)
 }
 
 // An f64, as its pattern.
-pub fn float(output: &mut Buffer, used: usize, x: f64) -> usize {
+pub fn float(output: &mut Sink, used: usize, x: f64) -> usize {
     let at = room(output, used);
-    print::put_f64(output, at, x)
+    print::put_f64(&mut output.bytes, at, x)
 }
 
 // What stands in front of the i-th number of a line: one space, and nothing in front of the first.
-fn space(output: &mut Buffer, used: usize, i: usize) -> usize {
+fn space(output: &mut Sink, used: usize, i: usize) -> usize {
     if i == 0 {
         used
     } else {
@@ -73,7 +74,7 @@ fn space(output: &mut Buffer, used: usize, i: usize) -> usize {
 }
 
 // A line of the elements of xs, with one space between two. At the loop's head i of them are printed.
-pub fn line_u8(output: &mut Buffer, used: usize, xs: &[u8]) -> usize {
+pub fn line_u8(output: &mut Sink, used: usize, xs: &[u8]) -> usize {
     let mut at = used;
     let mut i: usize = 0;
     while i < xs.len() {
@@ -86,7 +87,7 @@ pub fn line_u8(output: &mut Buffer, used: usize, xs: &[u8]) -> usize {
 }
 
 // A line of the elements of xs, with one space between two. At the loop's head i of them are printed.
-pub fn line_u32(output: &mut Buffer, used: usize, xs: &[u32]) -> usize {
+pub fn line_u32(output: &mut Sink, used: usize, xs: &[u32]) -> usize {
     let mut at = used;
     let mut i: usize = 0;
     while i < xs.len() {
@@ -99,7 +100,7 @@ pub fn line_u32(output: &mut Buffer, used: usize, xs: &[u32]) -> usize {
 }
 
 // A line of the elements of xs, with one space between two. At the loop's head i of them are printed.
-pub fn line_i32(output: &mut Buffer, used: usize, xs: &[i32]) -> usize {
+pub fn line_i32(output: &mut Sink, used: usize, xs: &[i32]) -> usize {
     let mut at = used;
     let mut i: usize = 0;
     while i < xs.len() {
@@ -112,7 +113,7 @@ pub fn line_i32(output: &mut Buffer, used: usize, xs: &[i32]) -> usize {
 }
 
 // A line of the elements of xs, with one space between two. At the loop's head i of them are printed.
-pub fn line_i64(output: &mut Buffer, used: usize, xs: &[i64]) -> usize {
+pub fn line_i64(output: &mut Sink, used: usize, xs: &[i64]) -> usize {
     let mut at = used;
     let mut i: usize = 0;
     while i < xs.len() {
@@ -125,7 +126,7 @@ pub fn line_i64(output: &mut Buffer, used: usize, xs: &[i64]) -> usize {
 }
 
 // A line of the elements of xs, with one space between two. At the loop's head i of them are printed.
-pub fn line_f64(output: &mut Buffer, used: usize, xs: &[f64]) -> usize {
+pub fn line_f64(output: &mut Sink, used: usize, xs: &[f64]) -> usize {
     let mut at = used;
     let mut i: usize = 0;
     while i < xs.len() {

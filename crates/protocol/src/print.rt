@@ -11,10 +11,10 @@ pub fn put_u64(out: &mut [u8], at: usize, x: u64) -> usize
     requires { at + 20 ≤ length out.old }
     ensures { Put out.old at (decimal_of x) out.new result }
 {
-    let mut text = [0u8; 20];
-    let k = io::decimal(x, &mut text);
-    copy(&text[..k], out, at);
-    at + k
+    let mut digits = itoa::Buffer::new();
+    let text = digits.format(x);
+    copy(text.as_bytes(), out, at);
+    at + text.len()
 }
 
 // The same for a signed number: a `-` in front of a negative one.

@@ -6,19 +6,19 @@ use Rattle.protocol.proofs.Nans.{is_nan_lem}
 use Rattle.protocol.proofs.float.from_pattern.Statement.{statement}
 use Rattle.protocol.proofs.float.from_pattern.Tie as tie
 
-is_nan_requires : tie.Need-is-nan-requires
+is_nan_requires : tie.Need-is_nan-requires
 is_nan_requires c κs = search rules
 
-float_from_bits_result : tie.Need-float-from-bits-result
-float_from_bits_result c = simp (sym c.before.is_nan.ensures ∙ c.if1.false) tt
+float_from_bits_result : tie.Need-float_from_bits-result
+float_from_bits_result c = simp (sym c.before.is_nan.ensures ∙ c.if-is_nan.false) tt
 
-returns : tie.Need-returns
+returns : tie.Need-returns-then-is_nan
 unfolding div of_bits
 returns c =
     is_nan_lem (of_bits binary64 c.before.before.args.bits)
-    (sym (nan_bits_is binary64 c.before.before.args.bits) ∙ sym c.before.is_nan.ensures ∙ c.if1.true)
+    (sym (nan_bits_is binary64 c.before.before.args.bits) ∙ sym c.before.is_nan.ensures ∙ c.if-is_nan.true)
 
-returns_2 : tie.Need-returns-2
+returns_2 : tie.Need-returns-else-is_nan
 returns_2 c = search rules
 
 pub from_pattern_spec : {M : Type 1} → statement M

@@ -4,10 +4,10 @@ use Rattle.protocol.proofs.Reading.{counts}
 use Rattle.protocol.proofs.input.read_i32s.Statement.{statement}
 use Rattle.protocol.proofs.input.read_i32s.Tie as tie
 
-abbrev invariant_loop : tie.invariant_loop
+abbrev invariant_loop : tie.invariant-loop-i
 invariant_loop input₀ out₀ n after₀ i₀ input out after i = (i ≤ n) × (n ≤ length out₀) × (length out ≡ length out₀)
 
-abbrev decreases_loop : tie.decreases_loop
+abbrev decreases_loop : tie.decreases-loop-i
 decreases_loop input₀ out₀ n after₀ i₀ input out after i = n - i
 
 pub read_i32s_spec : {M : Type 1} → statement M

@@ -6,18 +6,18 @@ use Rattle.protocol.specs.declared.input.Reader.{Reader}
 use Rattle.protocol.proofs.input.read_word.Statement.{statement}
 use Rattle.protocol.proofs.input.read_word.Tie as tie
 
-abbrev invariant_loop : tie.invariant_loop
+abbrev invariant_loop : tie.invariant-loop-step
 invariant_loop input₀ reader word₀ start step₀ input word step = Unit {0}
 
-abbrev decreases_loop : tie.decreases_loop
+abbrev decreases_loop : tie.decreases-loop-step
 decreases_loop input₀ reader word₀ start step₀ input word step = ahead step
 
-abbrev turn : tie.After-next invariant_loop decreases_loop → tie.In-loop invariant_loop decreases_loop
+abbrev turn : tie.After-next-step invariant_loop decreases_loop → tie.In-loop-step invariant_loop decreases_loop
 turn c = c.before.before.before.before.before.before
 
-loop_less : tie.Need-loop-smaller invariant_loop decreases_loop
+loop_less : tie.Need-loop-step-smaller invariant_loop decreases_loop
 loop_less c =
-    step_falls (turn c).before.loop.step (ahead c.next.result) (turn c).loop-test.true c.next.ensures
+    step_falls (turn c).before.loop-step.step (ahead c.next-step.result) (turn c).loop-step-test.true c.next-step.ensures
 
 returns : tie.Need-returns invariant_loop decreases_loop
 unfolding after_token

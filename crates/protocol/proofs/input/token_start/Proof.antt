@@ -5,18 +5,18 @@ use Rattle.protocol.proofs.Reading.{step_falls}
 use Rattle.protocol.proofs.input.token_start.Statement.{statement}
 use Rattle.protocol.proofs.input.token_start.Tie as tie
 
-abbrev invariant_loop : tie.invariant_loop
+abbrev invariant_loop : tie.invariant-loop-step
 invariant_loop input₀ from step₀ line₀ comment₀ input step line comment = Unit {0}
 
-abbrev decreases_loop : tie.decreases_loop
+abbrev decreases_loop : tie.decreases-loop-step
 decreases_loop input₀ from step₀ line₀ comment₀ input step line comment = ahead step
 
-abbrev turn : tie.After-next2 invariant_loop decreases_loop → tie.In-loop invariant_loop decreases_loop
+abbrev turn : tie.After-next-step-in-loop-step invariant_loop decreases_loop → tie.In-loop-step invariant_loop decreases_loop
 turn c = c.before.before.before.before.before.before.before
 
-loop_less : tie.Need-loop-smaller invariant_loop decreases_loop
+loop_less : tie.Need-loop-step-smaller invariant_loop decreases_loop
 loop_less c =
-    step_falls (turn c).before.loop.step (ahead c.next2.result) (turn c).loop-test.true c.next2.ensures
+    step_falls (turn c).before.loop-step.step (ahead c.next-step-in-loop-step.result) (turn c).loop-step-test.true c.next-step-in-loop-step.ensures
 
 pub token_start_spec : {M : Type 1} → statement M
 token_start_spec =

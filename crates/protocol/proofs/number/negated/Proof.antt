@@ -5,13 +5,13 @@ use Rattle.protocol.proofs.Signs.{fits64, fits32, negative}
 use Rattle.protocol.proofs.number.negated.Statement.{statement}
 use Rattle.protocol.proofs.number.negated.Tie as tie
 
-cast_result : tie.Need-overflow-cast-result
+cast_result : tie.Need-overflow_cast-result
 cast_result c = search rules
 
-sub_result : tie.Need-overflow-sub-result
+sub_result : tie.Need-overflow_sub-result
 sub_result c = fits64 c.args.value (omega (arith, c.requires))
 
-cast_result_2 : tie.Need-overflow-cast-result-2
+cast_result_2 : tie.Need-overflow_cast-result-2
 cast_result_2 c = fits32 c.args.value (omega (arith, c.requires)) c.requires
 
 returns : tie.Need-returns

@@ -3,11 +3,11 @@ use Rattle.std.proofs.Common.{arith}
 use Rattle.protocol.proofs.output.float.Statement.{statement}
 use Rattle.protocol.proofs.output.float.Tie as tie
 
-room_requires : tie.Need-room-requires
+room_requires : tie.Need-room-at-requires
 room_requires c κs = tt
 
-put_f64_requires : tie.Need-put-f64-requires
-put_f64_requires c κs = omega (arith, c.put-f64-arg.given.0.1)
+put_f64_requires : tie.Need-put_f64-requires
+put_f64_requires c κs = omega (arith, c.put_f64-arg-1.given.0.1)
 
 returns : tie.Need-returns
 returns c = tt

@@ -3,11 +3,11 @@ use Rattle.std.proofs.Common.{arith}
 use Rattle.protocol.proofs.output.integer.Statement.{statement}
 use Rattle.protocol.proofs.output.integer.Tie as tie
 
-room_requires : tie.Need-room-requires
+room_requires : tie.Need-room-at-requires
 room_requires c κs = tt
 
-put_i64_requires : tie.Need-put-i64-requires
-put_i64_requires c κs = omega (arith, c.put-i64-arg.given.0.1)
+put_i64_requires : tie.Need-put_i64-requires
+put_i64_requires c κs = omega (arith, c.put_i64-arg-1.given.0.1)
 
 returns : tie.Need-returns
 returns c = tt

@@ -3,10 +3,10 @@ use Rattle.std.proofs.Common.{◌-◌, ◌≤◌, length, rules}
 use Rattle.protocol.proofs.output.line_i64.Statement.{statement}
 use Rattle.protocol.proofs.output.line_i64.Tie as tie
 
-abbrev invariant_loop : tie.invariant_loop
+abbrev invariant_loop : tie.invariant-loop-i
 invariant_loop output₀ used xs at₀ i₀ output at i = i ≤ length xs
 
-abbrev decreases_loop : tie.decreases_loop
+abbrev decreases_loop : tie.decreases-loop-i
 decreases_loop output₀ used xs at₀ i₀ output at i = length xs - i
 
 pub line_i64_spec : {M : Type 1} → statement M

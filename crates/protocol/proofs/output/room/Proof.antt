@@ -6,10 +6,10 @@ use Rattle.protocol.proofs.output.room.Tie as tie
 flush_requires : tie.Need-flush-requires
 flush_requires c κs = search rules
 
-returns : tie.Need-returns
+returns : tie.Need-returns-then-used-gt65500
 returns c = omega arith
 
-returns_2 : tie.Need-returns-2
+returns_2 : tie.Need-returns-else-used-gt65500
 returns_2 c = search rules
 
 pub room_spec : {M : Type 1} → statement M

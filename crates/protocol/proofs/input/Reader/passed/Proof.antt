@@ -6,7 +6,7 @@ use Rattle.protocol.proofs.input.Reader.passed.Tie as tie
 
 returns : tie.Need-returns
 unfolding after_token
-returns c = simp c.line_after.ensures
+returns c = simp c.line_after-below.ensures
 
 pub passed_spec : {M : Type 1} → statement M
 passed_spec = tie.close (tie.spec (λ c κs. search rules) returns)

@@ -13,5 +13,5 @@ as_f64_spec =
     (tie.spec
     (λ c κs. search rules)
     (λ c κs. search rules)
-    (λ c. ap Value c.from-pattern.ensures ∙ natural_value _ _ _ _ c.before.before.is-natural.ensures c.before.if1.true (search rules))
-    (λ c. natural_none _ _ _ _ c.before.is-natural.ensures c.if1.false))
+    (λ c. ap Value c.from_pattern.ensures ∙ natural_value _ _ _ _ c.before.before.is_natural.ensures c.before.if-is_natural.true (search rules))
+    (λ c. natural_none _ _ _ _ c.before.is_natural.ensures c.if-is_natural.false))

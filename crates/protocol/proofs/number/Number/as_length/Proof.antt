@@ -11,5 +11,5 @@ as_length_spec =
     tie.close
     (tie.spec
     (λ c κs. search rules)
-    (λ c. natural_value _ _ _ _ c.before.is-natural.ensures c.if1.true (search rules))
-    (λ c. natural_none _ _ _ _ c.before.is-natural.ensures c.if1.false))
+    (λ c. natural_value _ _ _ _ c.before.is_natural.ensures c.if-is_natural.true (search rules))
+    (λ c. natural_none _ _ _ _ c.before.is_natural.ensures c.if-is_natural.false))

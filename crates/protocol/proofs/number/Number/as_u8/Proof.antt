@@ -12,6 +12,6 @@ as_u8_spec =
     (tie.spec
     (λ c κs. search rules)
     (λ c. search rules)
-    (λ c. natural_value _ _ _ _ c.before.before.is-natural.ensures c.before.if1.true c.if2.true)
-    (λ c. natural_large _ _ _ _ c.if2.false)
-    (λ c. natural_none _ _ _ _ c.before.is-natural.ensures c.if1.false))
+    (λ c. natural_value _ _ _ _ c.before.before.is_natural.ensures c.before.if-is_natural.true c.if-value-lt256.true)
+    (λ c. natural_large _ _ _ _ c.if-value-lt256.false)
+    (λ c. natural_none _ _ _ _ c.before.is_natural.ensures c.if-is_natural.false))

@@ -4,16 +4,16 @@ use Rattle.protocol.specs.Inner.State.{signed}
 use Rattle.protocol.proofs.number.Number.sign.Statement.{statement}
 use Rattle.protocol.proofs.number.Number.sign.Tie as tie
 
-returns : tie.Need-returns
+returns : tie.Need-returns-then-b-first
 unfolding signed
-returns c = simp c.if1.true
+returns c = simp c.if-b-first.true
 
 spoil_requires : tie.Need-spoil-requires
 spoil_requires c κs = search rules
 
-returns_2 : tie.Need-returns-2
+returns_2 : tie.Need-returns
 unfolding signed
-returns_2 c = c.spoil.ensures ∙ simp c.before.if1.false
+returns_2 c = c.spoil.ensures ∙ simp c.before.if-b-first.false
 
 pub sign_spec : {M : Type 1} → statement M
 sign_spec = tie.close (tie.spec returns spoil_requires returns_2)
