@@ -55,14 +55,14 @@ other_is : (c : tie.After-unpack-row) → c.unpack-row.result.one_minus_qual.0 �
 other_is c = ap (λ (r : Row). r.one_minus_qual.0) c.unpack-row.ensures
 
 weighed_requires : tie.Need-weighed-qual-requires
-weighed_requires c κs = let u = c.before in rw (qual_is u) (small_quals (start u)).0
+weighed_requires c κs = let u = c.before.before in rw (qual_is u) (small_quals (start u)).0
 
 weighed_requires_2 : tie.Need-weighed-one_minus_qual-requires
-weighed_requires_2 c κs = let u = c.before.before in rw (other_is u) (small_quals (start u)).1
+weighed_requires_2 c κs = let u = c.before.before.before.before in rw (other_is u) (small_quals (start u)).1
 
 -- where the row is unpacked
 abbrev unpacking : tie.After-weighed-one_minus_qual → tie.After-unpack-row
-unpacking c = c.before.before.before
+unpacking c = c.before.before.before.before.before
 
 mul_call_term : tie.Need-overflow_mul-v
 mul_call_term c = let u = unpacking c in omega (arith, variant_is u, pair_there (start u))
@@ -89,7 +89,7 @@ result_is c =
     let r = c.before in
     let w = r.before.before in
     let u = unpacking w in
-    let q = w.before.weighed-qual.ensures c.if-flag-eq1.true ∙ qual_is u in
+    let q = w.weighed-qual.ensures c.if-flag-eq1.true ∙ qual_is u in
     let o = w.weighed-one_minus_qual.ensures c.if-flag-eq1.true ∙ other_is u in
     r.call_term-y.ensures
     ∙ term_of (call (start u)) _ _ _ _ _ (allele_is u) (ap (λ (v : ℕ). allele_on (start u).args.hap.now (start u).args.h v) (variant_is u)) q o

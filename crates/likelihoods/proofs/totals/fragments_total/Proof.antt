@@ -82,7 +82,7 @@ second_is c = rw c.before.before.before.loop-f.invariant.0 at c.read_likelihoods
 
 mixed_requires : tie.Need-mixed-requires invariant_loop decreases_loop
 mixed_requires c κs =
-    let i = c.before.before in (
+    let i = c.before.before.before.before in (
       (start i.before).requires.0,
       omega (arith, c.read_likelihoods-r.ensures.first_small, few i),
       omega (arith, c.read_likelihoods-r.ensures.second_small, few i),
@@ -90,7 +90,7 @@ mixed_requires c κs =
 
 -- this turn of the loop, and its head
 abbrev turn : tie.After-mixed invariant_loop decreases_loop → tie.In-loop-f invariant_loop decreases_loop
-turn c = c.before.before.before
+turn c = c.before.before.before.before.before
 
 abbrev at : tie.After-mixed invariant_loop decreases_loop → tie.At-loop-f invariant_loop decreases_loop
 at c = (turn c).before
@@ -98,7 +98,7 @@ at c = (turn c).before
 -- what is added, and how far from 0 it is
 share_is : (c : tie.After-mixed invariant_loop decreases_loop) → c.mixed.result.0 ≡ shares (start (at c)) (at c).loop-f.f
 unfolding fragment_share
-share_is c = rw (first_is c.before, second_is c.before) at c.mixed.ensures
+share_is c = rw (first_is c.before.before.before, second_is c.before.before.before) at c.mixed.ensures
 
 small : (c : tie.After-mixed invariant_loop decreases_loop) → nat_abs (shares (start (at c)) (at c).loop-f.f) ≤ 262144 * (end_of (at c) - (at c).loop-f.a) + 8192
 small c =
