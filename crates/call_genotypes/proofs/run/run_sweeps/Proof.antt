@@ -38,7 +38,7 @@ part_small : (c : tie.In-loop-s invariant_loop decreases_loop) (x : ℕ) → let
 part_small c x =
     let s = st c.before in
     let h = end_fits s.requires.1.holds x in
-    let g = s.good.1.1.1.1.1.1.0 in
+    let g = s.well_formed.1.1.1.1.1.1.0 in
     (omega (arith, h, g.0), omega (arith, h, g.0), omega (arith, h, g.1))
 
 loop_holds : tie.Need-loop-s-init invariant_loop decreases_loop

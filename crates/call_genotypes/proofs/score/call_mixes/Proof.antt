@@ -16,7 +16,7 @@ use Rattle.call_genotypes.proofs.score.call_mixes.Statement.{statement}
 use Rattle.call_genotypes.proofs.score.call_mixes.Tie as tie
 
 abbrev at : tie.After-gap-g → tie.Start
-at c = c.before.before
+at c = c.before.before.before.before
 
 abbrev row : tie.Start → Row
 row s = row_from s.args.row
@@ -50,7 +50,7 @@ distance_is : (c : tie.After-distance-d) → let l = c.before.before in
 distance_is c = read_back w64 _ c.distance-d.type_inv ∙ c.distance-d.ensures
 
 gap_requires : tie.Need-gap-g-requires
-gap_requires c κs = let s = c.before in (s.requires.1.0.qual_in, s.requires.1.0.one_minus_qual_in)
+gap_requires c κs = let s = c in (s.requires.1.0.qual_in, s.requires.1.0.one_minus_qual_in)
 
 turned_requires : tie.Need-turned-requires
 turned_requires c κs = let g = c.before.before in (omega (arith, (at g).requires.1.0.allele_in), (at g).requires.1.1.1 _, omega (arith, gap_small g))

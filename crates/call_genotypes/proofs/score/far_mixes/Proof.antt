@@ -22,16 +22,16 @@ read_gap : (s : tie.Start) → to_z w64 (of_z w64 s.args.g) ≡ s.args.g
 read_gap s = read_small w64 s.args.g (omega (arith, s.requires.2))
 
 -- the two numbers, by the sign of d
-m_is : (c : tie.Joined-d-lt0) → let s = c.before in to_z w64 c.if-d-lt0.m ≡ cond (lt_z s.args.d (pos 0)) (pos 0) s.args.d
+m_is : (c : tie.Joined-d-lt0) → let s = c.before in to_z w64 c.if-d-lt0.m-bits ≡ cond (lt_z s.args.d (pos 0)) (pos 0) s.args.d
 m_is c =
     let e = read c.before in
-    ⊎_elim (λ w. rw (← e, w.0.true) (ap (to_z w64) w.1)) (λ w. rw (← e, w.0.left) (ap (to_z w64) w.1)) c.if-d-lt0.branch-raw
+    ⊎_elim (λ w. rw (← e, w.if-d-lt0.true) w.m-is) (λ w. rw (← e, w.if-d-lt0.false) w.m-is) c.if-d-lt0.branch-raw
 
-y_is : (c : tie.Joined-d-lt0-2) → let s = c.before.before in to_z w64 c.if-d-lt0-2.y ≡ cond (lt_z s.args.d (pos 0)) (pos 0) s.args.g
+y_is : (c : tie.Joined-d-lt0-2) → let s = c.before.before in to_z w64 c.if-d-lt0-2.y-bits ≡ cond (lt_z s.args.d (pos 0)) (pos 0) s.args.g
 y_is c =
     let s = c.before.before in
     let e = read s in
-    ⊎_elim (λ w. rw (← e, w.0.true) (ap (to_z w64) w.1)) (λ w. rw (← e, w.0.left) (ap (to_z w64) w.1 ∙ read_gap s)) c.if-d-lt0-2.branch-raw
+    ⊎_elim (λ w. rw (← e, w.if-d-lt0-2.true) w.y-is) (λ w. rw (← e, w.if-d-lt0-2.false) (w.y-is ∙ read_gap s)) c.if-d-lt0-2.branch-raw
 
 -- what the two are the sum and the difference of, on each side
 module _ (s : tie.Start) where

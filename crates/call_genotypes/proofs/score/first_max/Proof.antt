@@ -33,15 +33,15 @@ x_is : (c : tie.After-x-1 invariant_loop decreases_loop) → let n = get_or (st 
 x_is c = read_back w64 _ c.x-1.given
 
 b_is : (c : tie.Joined-best-x invariant_loop decreases_loop) → let l = c.before.before.before.loop-g in let s = st c.before in
-    c.if-best-x.b ≡ cond (lt_z (to_z w64 l.best) (get_or s.args.s.now (s.args.at + l.g) (pos 0))) l.g l.b
+    c.if-best-x.b ≡ cond (lt_z (to_z w64 l.best-bits) (get_or s.args.s.now (s.args.at + l.g) (pos 0))) l.g l.b
 b_is c =
-    ⊎_elim (λ w. rw (← x_is c.before, w.0.true) w.1) (λ w. rw (← x_is c.before, w.0.left) w.1) c.if-best-x.branch-raw
+    ⊎_elim (λ w. rw (← x_is c.before, w.if-best-x.true) w.b-is) (λ w. rw (← x_is c.before, w.if-best-x.false) w.b-is) c.if-best-x.branch-raw
 
 best_is : (c : tie.Joined-best-x-2 invariant_loop decreases_loop) → let l = c.before.before.before.before.loop-g in let s = st c.before.before in let n = get_or s.args.s.now (s.args.at + l.g) (pos 0) in
-    to_z w64 c.if-best-x-2.best ≡ cond (lt_z (to_z w64 l.best) n) n (to_z w64 l.best)
+    to_z w64 c.if-best-x-2.best-bits ≡ cond (lt_z (to_z w64 l.best-bits) n) n (to_z w64 l.best-bits)
 best_is c =
     let e = x_is c.before.before in
-    ⊎_elim (λ w. rw (← e, w.0.true) (ap (to_z w64) w.1)) (λ w. rw (← e, w.0.left) (ap (to_z w64) w.1)) c.if-best-x-2.branch-raw
+    ⊎_elim (λ w. rw (← e, w.if-best-x-2.true) w.best-is) (λ w. rw (← e, w.if-best-x-2.false) w.best-is) c.if-best-x-2.branch-raw
 
 returns : tie.Need-returns-then-m-eq0 invariant_loop decreases_loop
 unfolding first_maximum

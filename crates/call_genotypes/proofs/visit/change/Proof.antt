@@ -27,12 +27,12 @@ held p = p.0
 gained : (c : tie.Joined-row-new) → let s = c.before.before in c.if-row-new.gained.0 ≡ call_term (call s) s.args.new
 unfolding call_term
 gained c =
-    ⊎_elim (λ w. rw (eq-eqb _ _ w.0.true) (ap held w.2)) (λ w. rw (ne_eqb _ _ w.0.left) (ap held w.2)) c.if-row-new.branch-raw
+    ⊎_elim (λ w. rw (eq-eqb _ _ w.if-row-new.true) (ap held w.gained-is)) (λ w. rw (ne_eqb _ _ w.if-row-new.false) (ap held w.gained-is)) c.if-row-new.branch-raw
 
 lost : (c : tie.Joined-row-old) → c.if-row-old.lost.0 ≡ call_term (call (st c)) (st c).args.old
 unfolding call_term
 lost c =
-    ⊎_elim (λ w. rw (eq-eqb _ _ w.0.true) (ap held w.2)) (λ w. rw (ne_eqb _ _ w.0.left) (ap held w.2)) c.if-row-old.branch-raw
+    ⊎_elim (λ w. rw (eq-eqb _ _ w.if-row-old.true) (ap held w.lost-is)) (λ w. rw (ne_eqb _ _ w.if-row-old.false) (ap held w.lost-is)) c.if-row-old.branch-raw
 
 abbrev joined : tie.After-struct_told-2-1 → tie.Joined-row-old
 joined c = c.before.before.before.before

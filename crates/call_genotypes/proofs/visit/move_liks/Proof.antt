@@ -60,10 +60,10 @@ loop_holds : tie.Need-loop-p-init invariant_loop decreases_loop
 loop_holds c = moving_start _ _ _ _ _ _ _
 
 mul_at : tie.Need-overflow_mul-at invariant_loop decreases_loop
-mul_at c = omega (arith, place_low c, (turn c).before.loop-p.invariant.long, (st (turn c)).good.1.0.0)
+mul_at c = omega (arith, place_low c, (turn c).before.loop-p.invariant.long, (st (turn c)).well_formed.1.0.0)
 
 add_at : tie.Need-overflow_add-at invariant_loop decreases_loop
-add_at c = omega (arith, place_low c, (turn c).before.loop-p.invariant.long, (st (turn c)).good.1.0.0)
+add_at c = omega (arith, place_low c, (turn c).before.loop-p.invariant.long, (st (turn c)).well_formed.1.0.0)
 
 change_requires : tie.Need-change-requires invariant_loop decreases_loop
 change_requires c κs = let R = rw (← row_is c.before.before) at (row_in (turn c.before)) in (qual_size R, other_size R)

@@ -11,7 +11,7 @@ use Rattle.call_genotypes.proofs.visit.put_pair.Tie as tie
 
 -- the places before
 abbrev st : tie.After-pair_at-old → tie.Start
-st c = c.before.before.before.before.before.before
+st c = c.before.before.before.before.before
 
 abbrev pair : tie.After-shared_slice_known-4-1 → tie.After-pair_at-old
 pair c = c.before.before.before

@@ -7,20 +7,20 @@ use Rattle.call_genotypes.proofs.visit.visit.Tie as tie
 
 -- the places before
 abbrev st : tie.After-scores → tie.Start
-st c = c.before.before.before.before.before.before.before.before.before
+st c = c.before.before.before.before.before.before.before
 
 abbrev scored : tie.After-pair_at-old → tie.After-scores
-scored c = c.before.before.before
+scored c = c.before.before
 
 abbrev pair : tie.After-best_pair-new → tie.After-pair_at-old
-pair c = c.before.before.before
+pair c = c.before.before
 
 cast_best_pair : tie.Need-overflow_cast-ks
-cast_best_pair c = omega (arith, c.shared_slice_known-5-1.given (st (scored c.before.before)).args.v)
+cast_best_pair c = omega (arith, c.shared_slice_known-5-1.given (st (scored c.before)).args.v)
 
 best_pair_requires : tie.Need-best_pair-new-requires
 best_pair_requires c κs =
-    let w = scored c.before.before in
+    let w = scored c.before in
     let S = (st w).requires.1.holds in
     let k = w.scores.auto.post in
     (omega (arith, S.standing.held.variants_top, S.v_in), k_least S, k_three S, omega (arith, k, S.standing.room, S.v_in))
