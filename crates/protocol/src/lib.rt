@@ -1,5 +1,6 @@
 // The text of the request stream: tokens read from standard input, numbers and lines written to standard output.
 #![tactic(auto)]
+
 mod float;
 pub mod input;
 pub mod number;
