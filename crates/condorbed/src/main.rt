@@ -14,9 +14,11 @@ mod priors;
 mod requests;
 mod run;
 
-fn main() {
-    let mut input = io::large_buffer();
-    let mut output = io::large_buffer();
+use protocol::{Sink, Source};
+
+fn main(rt: HostRuntime) {
+    let mut input = Source::new(rt.stdin());
+    let mut output = Sink::new(rt.stdout());
     let mut words = arrays::words();
     let mut bases = arrays::bases();
     requests::answer_all(&mut input, &mut output, &mut words, &mut bases);
