@@ -2,7 +2,7 @@
 -- it has the number of its fragment, so that the strand which section 4 looks up by that number is the strand of the fragment at hand.
 -- Assumes nothing.
 use mathlib.Core.Path.{◌≡◌, refl, sym, ap, ◌∙◌}
-use mathlib.Core.Bool.{Bool, true, false, ◌&&◌, and_true, and_comm}
+use mathlib.Core.Bool.{Bool, true, false, ◌&&◌, and-true, and_comm}
 use mathlib.Core.List.{List, [], ◌∷◌, map}
 use Prim.Native.Nat.{ℕ, zero, suc, ◌+◌, ◌*◌, ◌/◌, ◌%◌, ◌<◌}
 use native.Mathlib.Decide.{ℕ_discrete}
@@ -105,7 +105,7 @@ module _ (case : Case) (v : ℕ) where
   alleles_are a h =
       let m : a % 3 ≡ a = omega arith in
       pile_count (λ (row : Row). eqb row.call.allele a) (λ x call. eqb call.allele a) (λ f l call. refl)
-      ∙ counted_by a (λ x call. usable cutoff x call && eqb call.allele a) (λ x call. rw (ne_eqb a 9 (omega arith), m, lt-ltb a 3 h, and_true))
+      ∙ counted_by a (λ x call. usable cutoff x call && eqb call.allele a) (λ x call. rw (ne_eqb a 9 (omega arith), m, lt-ltb a 3 h, and-true))
 
   strands_are : (s a : ℕ) → s < 2 → a < 3 → strand_calls case v s a ≡ count_over fragments (adds (3 + (3 * s + a)))
   unfolding strand_calls counted

@@ -48,10 +48,10 @@ rate_read z t = let h = rate_size z t in read_small w64 z (omega arith)
 
 -- ---- accepted rates
 pub record RatesIn (rates : Rates) : Type 0 where
-  pub hom_snv_lem : rate_ok (hom_snv_rate rates) ≡ true
-  pub het_snv_lem : rate_ok (het_snv_rate rates) ≡ true
-  pub hom_indel_lem : rate_ok (hom_indel_rate rates) ≡ true
-  pub het_indel_lem : rate_ok (het_indel_rate rates) ≡ true
+  pub hom_snv : rate_ok (hom_snv_rate rates) ≡ true
+  pub het_snv : rate_ok (het_snv_rate rates) ≡ true
+  pub hom_indel : rate_ok (hom_indel_rate rates) ≡ true
+  pub het_indel : rate_ok (het_indel_rate rates) ≡ true
   pub ts_in : rate_ok (ts_rate rates) ≡ true
   pub tv_in : rate_ok (tv_rate rates) ≡ true
   pub sum_below : lt_z (rate_sum rates) (pos 0) ≡ true
@@ -61,10 +61,10 @@ unfolding rates_fault rate_test rate_tests
 rates_in rates e =
     let all = first_all (rate_test rates) 7 (omega (arith, e)) in
     record {
-      hom_snv_lem = all 0 (omega arith);
-      het_snv_lem = all 1 (omega arith);
-      hom_indel_lem = all 2 (omega arith);
-      het_indel_lem = all 3 (omega arith);
+      hom_snv = all 0 (omega arith);
+      het_snv = all 1 (omega arith);
+      hom_indel = all 2 (omega arith);
+      het_indel = all 3 (omega arith);
       ts_in = all 4 (omega arith);
       tv_in = all 5 (omega arith);
       sum_below = all 6 (omega arith);

@@ -2,7 +2,7 @@
 -- calls, and those at variants under the phased rule are the calls of its line.
 -- Assumes nothing.
 use mathlib.Core.Path.{◌≡◌, refl, sym, ap, ◌∙◌}
-use mathlib.Core.Bool.{Bool, true, false, cond, ◌&&◌, and_true, and-false}
+use mathlib.Core.Bool.{Bool, true, false, cond, ◌&&◌, and-true, and-false}
 use mathlib.Core.List.{List, [], ◌∷◌, ◌++◌, map, append_assoc}
 use Prim.Native.Nat.{ℕ, zero, suc, ◌+◌, ◌≤◌, ◌<◌}
 use native.Mathlib.Omega.{arith}
@@ -59,7 +59,7 @@ module _ (w : List ℤ) (b : List ℕ) (s : Sizes) (h : check_case_outcome w b �
       go : (t : Bool) → All (RowIn s.n s.f) (map (row_of f) (cond t (call ∷ only (usable case.cutoff x) calls) (only (usable case.cutoff x) calls)))
           → (All (RowIn s.n s.f) (rows_for f x calls) → shown_calls w (rows_for f x calls) ≡ only (picks x) calls)
           → shown_calls w (map (row_of f) (cond t (call ∷ only (usable case.cutoff x) calls) (only (usable case.cutoff x) calls))) ≡ cond (rule && t) (call ∷ only (picks x) calls) (only (picks x) calls)
-      go true (also i is) rec = rw (and_true, rule_is w b s h call.variant i.variant_in, rec is)
+      go true (also i is) rec = rw (and-true, rule_is w b s h call.variant i.variant_in, rec is)
       go false is rec = rw and-false (rec is)
 
   module _ (f : ℕ) (l : f < s.f) where

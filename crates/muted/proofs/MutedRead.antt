@@ -1,7 +1,7 @@
 -- A muted read does not vote, and each of its calls is ambiguous. So a run writes 0 and 0 as its likelihoods.
 -- Assumes nothing.
 use mathlib.Core.Path.{◌≡◌, refl, ap, ◌∙◌}
-use mathlib.Core.Bool.{Bool, false, cond, not, ◌&&◌, ◌||◌, and_true, and-false}
+use mathlib.Core.Bool.{Bool, false, cond, not, ◌&&◌, ◌||◌, and-true, and-false}
 use mathlib.Core.List.{List, [], ◌∷◌, map}
 use Prim.Native.Nat.{ℕ, ◌+◌, ◌*◌, ◌/◌, ◌%◌}
 use native.Mathlib.Omega.{arith}
@@ -41,13 +41,13 @@ module _ (x : Fragment) (cutoff : ℤ) (never : All (λ call. usable cutoff x ca
 
   pub all_ambiguous : (v : ℕ) → ambiguous_in cutoff v x ≡ length (only (λ (call : Call). eqb call.variant v) x.calls)
   unfolding ambiguous_in
-  all_ambiguous v = ap length (only_same (all_imp (λ call n. ap (λ (t : Bool). eqb call.variant v && not t) n ∙ and_true _) never))
+  all_ambiguous v = ap length (only_same (all_imp (λ call n. ap (λ (t : Bool). eqb call.variant v && not t) n ∙ and-true _) never))
 
   pub counted_last : (e : ℕ) → read_count cutoff x e ≡ cond (eqb (e % 10) 9) (length (only (λ (call : Call). eqb call.variant (e / 10)) x.calls)) 0
   unfolding read_count counted
   counted_last e =
       by_test (eqb (e % 10) 9)
-      (λ t. rw t (ap length (only_same (all_imp (λ call n. ap (λ (u : Bool). eqb call.variant (e / 10) && not u) n ∙ and_true _) never))))
+      (λ t. rw t (ap length (only_same (all_imp (λ call n. ap (λ (u : Bool). eqb call.variant (e / 10) && not u) n ∙ and-true _) never))))
       (λ t. rw t (ap length (only_never (all_imp (λ call n.
       let here = eqb call.variant (e / 10) in
       let shown = eqb call.allele (e % 10 % 3) && (ltb (e % 10) 3 || eqb (e % 10 / 3) (1 + direction x.strand)) in

@@ -3,7 +3,6 @@ pub mod Groups
 pub mod Onward
 pub mod CallReads
 pub mod ChainReads
-pub mod LentReader
 pub mod Keys
 pub mod Collecting
 pub mod Visiting

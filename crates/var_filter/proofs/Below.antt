@@ -1,7 +1,7 @@
 -- Laws of any_below, count_below and past_last: what one more number adds, and what they say of the numbers below.
 -- Assumes nothing.
 use mathlib.Core.Path.{◌≡◌, refl, sym, ◌∙◌}
-use mathlib.Core.Bool.{Bool, true, false, cond, ◌||◌, or_true}
+use mathlib.Core.Bool.{Bool, true, false, cond, ◌||◌, or-true}
 use Prim.Native.Nat.{ℕ, zero, suc, ◌+◌, ◌-◌, ◌≤◌, ◌<◌}
 use native.Mathlib.Omega.{arith}
 use native.Mathlib.Decide.{ℕ_discrete}
@@ -14,7 +14,7 @@ pub any_one : (n : ℕ) (p : ℕ → Bool) (k : ℕ) → k < n → p k ≡ true 
 unfolding any_below
 any_one zero p k h e = absurd (omega arith)
 any_one (suc n) p k h e = elim (ℕ_discrete k n) [
-  | yes q ↦ rw (← q, e, or_true)
+  | yes q ↦ rw (← q, e, or-true)
   | no q ↦ rw (any_one n p k (omega arith) e)
 ]
 

@@ -2,7 +2,7 @@
 -- goes to the last of these, and else there is none. The count from v is the strong ones below j less those up to v.
 -- Assumes nothing.
 use mathlib.Core.Path.{◌≡◌, refl, sym, ◌∙◌}
-use mathlib.Core.Bool.{Bool, true, false, cond, ◌&&◌, ◌||◌, and_true, and-false, or_false}
+use mathlib.Core.Bool.{Bool, true, false, cond, ◌&&◌, ◌||◌, and-true, and-false, or-false}
 use mathlib.Core.List.{List}
 use Prim.Native.Nat.{ℕ, suc, ◌+◌, ◌-◌, ◌≤◌, ◌<◌}
 use native.Mathlib.Omega.{arith}
@@ -43,7 +43,7 @@ module _ (case : Case) (quals : List Float) (limits : Limits) (v e : ℕ) (reach
 
   counted_near : (m : ℕ) → v < m → m < e → counted case quals limits v m ≡ p m
   unfolding counted
-  counted_near m h l = rw (lt-ltb v m h, le-leb _ _ (reach.near m (omega arith) l)) (and_true _)
+  counted_near m h l = rw (lt-ltb v m h, le-leb _ _ (reach.near m (omega arith) l)) (and-true _)
 
   counted_far : (m : ℕ) → e ≤ m → m < length case.variants → counted case quals limits v m ≡ false
   unfolding counted
@@ -130,12 +130,12 @@ module _ (case : Case) (quals : List Float) (limits : Limits) (v e : ℕ) (reach
         go : (b : Bool) → p v ≡ b → (covers case quals limits v m || any_below (length case.variants) (stretch m)) ≡ ltb m after
         go false t =
             let q : after ≡ until = rw (now, t) in
-            rw (before m, marks_none m (λ j l. dense_weak j t), q) (or_false _)
+            rw (before m, marks_none m (λ j l. dense_weak j t), q) (or-false _)
         go true t = elim (dec_lt limits.density_count ahead) [
           | yes h ↦
               let q : after ≡ last = rw (now, t, lt-ltb _ _ h) in
               rw (before m, marks_some t h m, q, is) (farther m until (past_last e p) (rw is at low))
           | no h ↦
               let q : after ≡ until = rw (now, t, le-ltb limits.density_count ahead (omega arith)) in
-              rw (before m, marks_none m (λ j l. dense_few j l (omega arith)), q) (or_false _)
+              rw (before m, marks_none m (λ j l. dense_few j l (omega arith)), q) (or-false _)
         ]

@@ -9,33 +9,30 @@ use Rattle.genotype_probs.specs.Answers.{genotype_priors_outcome}
 use Rattle.genotype_probs.proofs.genotype_priors.Statement.{statement}
 use Rattle.genotype_probs.proofs.genotype_priors.Tie as tie
 
-check_case_requires : tie.Need-check-case-requires
+check_case_requires : tie.Need-check_case-checked-requires
 check_case_requires c κs = search rules
 
-abbrev start : tie.After-check-case → tie.Start
-start c = c.before.before
-
-is_accepted : (c : tie.After-checked2) → check_case_outcome (start c.before.before).args.words.now (start c.before.before).args.bases.now ≡ done c.checked2.given.0.0
+is_accepted : (c : tie.In-Accepted) → check_case_outcome c.args.words.now c.args.bases.now ≡ done c.in-Accepted.s
 unfolding outcome_of
-is_accepted c = sym c.before.before.check-case.ensures ∙ ap outcome_of c.checked2.given.1
+is_accepted c = sym c.check_case-checked.ensures ∙ ap outcome_of c.in-Accepted.is
 
-enum_known_checked : tie.Need-enum-known-checked
+enum_known_checked : tie.Need-enum_known-checked
 enum_known_checked c = search rules
 
-enum_known_checked_2 : tie.Need-enum-known-checked-2
+enum_known_checked_2 : tie.Need-enum_known-checked-in-Accepted-1
 enum_known_checked_2 c = search rules
 
-accepted_priors_requires : tie.Need-accepted-priors-requires
-accepted_priors_requires c κs = is_accepted c.before.before
+accepted_priors_requires : tie.Need-accepted_priors-requires
+accepted_priors_requires c κs = is_accepted c.before
 
-returns : tie.Need-returns
+returns : tie.Need-returns-in-Refused
 unfolding genotype_priors_outcome
-returns c = let d = c.before in refuses _ (case_stops _ _ _ _ (ap outcome_of (sym d.checked.given.1) ∙ d.before.before.check-case.ensures))
+returns c = refuses _ (case_stops _ _ _ _ (ap outcome_of (sym c.in-Refused.is) ∙ c.check_case-checked.ensures))
 
-same_length : tie.Need-same-length
+same_length : tie.Need-shape_of-priors
 same_length c = search rules
 
-returns_2 : tie.Need-returns-2
+returns_2 : tie.Need-returns-in-Accepted
 returns_2 c = search rules
 
 pub genotype_priors_spec : {M : Type 1} → statement M

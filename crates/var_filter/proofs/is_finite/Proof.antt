@@ -22,13 +22,13 @@ not_below_infinity (inf true) h = absurd (subst T h tt)
 not_below_infinity (inf false) h = refl
 not_below_infinity (fin s m e) h = absurd (subst T h tt)
 
-returns : tie.Need-returns
+returns : tie.Need-returns-then-x-top
 unfolding div of_bits neg
-returns c = below_infinity c.before.before.before.args.x.0 c.before.if1.true
+returns c = below_infinity c.before.before.before.args.x.0 c.before.if-x-top.true
 
-returns_2 : tie.Need-returns-2
+returns_2 : tie.Need-returns-else-x-top
 unfolding div of_bits
-returns_2 c = not_below_infinity c.before.before.args.x.0 c.if1.false
+returns_2 c = not_below_infinity c.before.before.args.x.0 c.if-x-top.false
 
 pub is_finite_spec : {M : Type 1} → statement M
 is_finite_spec = tie.close (tie.spec returns returns_2)

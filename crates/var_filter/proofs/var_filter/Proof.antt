@@ -21,99 +21,99 @@ use Rattle.var_filter.proofs.var_filter.Statement.{statement}
 use Rattle.var_filter.proofs.var_filter.Tie as tie
 
 -- ---- the places passed
-abbrev start_of : tie.After-check-case → tie.Start
+abbrev start_of : tie.After-check_case-checked → tie.Start
 start_of c = c.before.before.before.before
 
-abbrev st : tie.After-checked2 → tie.Start
-st c = start_of c.before.before
+abbrev st : tie.In-Accepted → tie.Start
+st c = start_of c.before
 
-abbrev S : tie.After-checked2 → Sizes
-S c = c.checked2.given.0.0
+abbrev S : tie.In-Accepted → Sizes
+S c = c.in-Accepted.s
 
-abbrev case_of : tie.After-earlier → tie.After-checked2
-case_of c = c.before.before.before.before
+abbrev case_of : tie.After-earlier-short → tie.In-Accepted
+case_of c = c.before.before.before
 
-abbrev room : tie.Else2 → tie.Else1
-room c = c.before.before
+abbrev room : tie.Else-not-is_finite → tie.Else-short-ne0
+room c = c.before.before.before
 
 -- ---- what holds there
-accepted : (c : tie.After-checked2) → outcome_of (Accepted (S c)) ≡ check_case_outcome (st c).args.words.now (st c).args.bases.now
-accepted c = ap outcome_of (sym c.checked2.given.1) ∙ c.before.before.check-case.ensures
+accepted : (c : tie.In-Accepted) → outcome_of (Accepted (S c)) ≡ check_case_outcome (st c).args.words.now (st c).args.bases.now
+accepted c = c.in-Accepted.ensures
 
-case : (c : tie.After-checked2) → CaseIn (st c).args.words.now (S c)
+case : (c : tie.In-Accepted) → CaseIn (st c).args.words.now (S c)
 case c = case_in _ _ _ (is_done _ _ _ (accepted c))
 
 -- the slices, each with what it needs
-abbrev slices : tie.After-checked2 → List (ℕ × ℕ)
+abbrev slices : tie.In-Accepted → List (ℕ × ℕ)
 slices c = ((S c).n, length (st c).args.quals.now) ∷ ((S c).n, length (st c).args.filters.now) ∷ []
 
-short : (c : tie.After-earlier) → c.earlier.result ≡ smallest_short (slices (case_of c))
-short c = c.earlier.ensures ∙ short_more _ _ _ _ _ c.before.before.short-of.ensures (short_last _ _ _ c.before.short-of2.ensures)
+short : (c : tie.After-earlier-short) → c.earlier-short.result ≡ smallest_short (slices (case_of c))
+short c = c.earlier-short.ensures ∙ short_more _ _ _ _ _ c.short_of.ensures (short_last _ _ _ c.short_of-in-Accepted.ensures)
 
 -- what is left past the case
-abbrev last_line : tie.After-checked2 → Outcome Unit
+abbrev last_line : tie.In-Accepted → Outcome Unit
 last_line c = unless (is_finite (limits_of (st c).args.density (st c).args.max_depth).density_qual) 11 0 (done tt)
 
-check_case_requires : tie.Need-check-case-requires
+check_case_requires : tie.Need-check_case-checked-requires
 check_case_requires c κs = search rules
 
-enum_known_checked : tie.Need-enum-known-checked
+enum_known_checked : tie.Need-enum_known-checked
 enum_known_checked c = search rules
 
-enum_known_checked_2 : tie.Need-enum-known-checked-2
+enum_known_checked_2 : tie.Need-enum_known-checked-in-Accepted-1
 enum_known_checked_2 c = search rules
 
-short_of_requires : tie.Need-short-of-requires
+short_of_requires : tie.Need-short_of-requires
 short_of_requires c κs = search rules
 
-short_of_requires_2 : tie.Need-short-of-requires-2
+short_of_requires_2 : tie.Need-short_of-requires-in-Accepted
 short_of_requires_2 c κs = search rules
 
-earlier_requires : tie.Need-earlier-requires
+earlier_requires : tie.Need-earlier-short-requires
 earlier_requires c κs = search rules
 
-returns : tie.Need-returns
+returns : tie.Need-returns-then-short-ne0
 unfolding var_filter_outcome
 returns c =
     let e = c.before in
-    refuses _ (ap (refused 10) (short e) ∙ enough_at (slices (case_of e)) (last_line (case_of e)) (λ z. c.if1.true (short e ∙ z)) ∙ case_past _ _ _ _ (accepted (case_of e)))
+    refuses _ (ap (refused 10) (short e) ∙ enough_at (slices (case_of e)) (last_line (case_of e)) (λ z. c.if-short-ne0.true (short e ∙ z)) ∙ case_past _ _ _ _ (accepted (case_of e)))
 
-is_finite_requires : tie.Need-is-finite-requires
+is_finite_requires : tie.Need-is_finite-requires
 is_finite_requires c κs = search rules
 
 -- no slice is too short
-fits : (c : tie.Else1) → smallest_short (slices (case_of c.before)) ≡ 0
-fits c = sym (short c.before) ∙ c.if1.false
+fits : (c : tie.Else-short-ne0) → smallest_short (slices (case_of c.before)) ≡ 0
+fits c = sym (short c.before) ∙ c.if-short-ne0.false
 
-past_short : (c : tie.Else1) → last_line (case_of c.before) ≡ var_filter_outcome (st (case_of c.before)).args.words.now (st (case_of c.before)).args.bases.now (st (case_of c.before)).args.quals.now (limits_of (st (case_of c.before)).args.density (st (case_of c.before)).args.max_depth) (st (case_of c.before)).args.filters.now
+past_short : (c : tie.Else-short-ne0) → last_line (case_of c.before) ≡ var_filter_outcome (st (case_of c.before)).args.words.now (st (case_of c.before)).args.bases.now (st (case_of c.before)).args.quals.now (limits_of (st (case_of c.before)).args.density (st (case_of c.before)).args.max_depth) (st (case_of c.before)).args.filters.now
 unfolding var_filter_outcome
 past_short c = enough_on _ _ (fits c) ∙ case_past _ _ _ _ (accepted (case_of c.before))
 
-returns_2 : tie.Need-returns-2
-returns_2 c = refuses _ (unless_at _ 11 0 _ (sym c.before.is-finite.ensures ∙ c.if2.true) ∙ past_short c.before.before)
+returns_2 : tie.Need-returns-then-not-is_finite
+returns_2 c = refuses _ (unless_at _ 11 0 _ (sym c.is_finite.ensures ∙ c.if-not-is_finite.true) ∙ past_short c.before.before.before)
 
-write_filters_requires : tie.Need-write-filters-requires
+write_filters_requires : tie.Need-write_filters-requires
 write_filters_requires c κs =
     let e = room c.before in
     let f = short_fits _ _ _ (fits e) in
     (case (case_of e.before), (f.0, (short_fits _ _ _ f.1).0))
 
-returns_3 : tie.Need-returns-3
+returns_3 : tie.Need-returns-in-Refused
 unfolding var_filter_outcome
-returns_3 c = refuses _ (case_stops _ _ _ _ (ap outcome_of (sym c.before.checked.given.1) ∙ c.before.before.before.check-case.ensures))
+returns_3 c = refuses _ (case_stops _ _ _ _ c.in-Refused.ensures)
 
-same_length : tie.Need-same-length
+same_length : tie.Need-shape_of-filters
 same_length c = search rules
 
-returns_4 : tie.Need-returns-4
+returns_4 : tie.Need-returns-else-not-is_finite
 unfolding var_filter_written
 returns_4 c =
     let written = c.before.before in
     let finite = written.before.before in
     let e = room finite in
     let k = case_of e.before in
-    does (unless_on _ 11 0 _ (sym finite.before.is-finite.ensures ∙ finite.if2.false) ∙ past_short e)
-    (rw (variants_are (case k) (st k).args.bases.now) (written.write-filters.ensures (st k).args.bases.now))
+    does (unless_on _ 11 0 _ (sym finite.before.is_finite.ensures ∙ finite.if-not-is_finite.false) ∙ past_short e)
+    (rw (variants_are (case k) (st k).args.bases.now) (written.write_filters.ensures (st k).args.bases.now))
 
 pub var_filter_spec : {M : Type 1} → statement M
 var_filter_spec =

@@ -7,23 +7,23 @@ use Rattle.genotype_probs.specs.Priors.{first_letter}
 use Rattle.genotype_probs.proofs.letters.first_letter.Statement.{statement}
 use Rattle.genotype_probs.proofs.letters.first_letter.Tie as tie
 
-shared_slice_read_letter_of : tie.Need-shared-slice-read-letter-of
+shared_slice_read_letter_of : tie.Need-bounds-allele-0
 shared_slice_read_letter_of c = search rules
 
-letter_of_requires : tie.Need-letter-of-requires
+letter_of_requires : tie.Need-letter_of-requires
 letter_of_requires c κs = search rules
 
-returns : tie.Need-returns
+returns : tie.Need-returns-then-allele-reference
 unfolding first_letter letter_number
-returns c = simp (eq-eqb _ _ c.before.before.if1.true) c.letter-of.ensures
+returns c = simp (eq-eqb _ _ c.before.before.if-allele-reference.true) c.letter_of.ensures
 
-returns_2 : tie.Need-returns-2
+returns_2 : tie.Need-returns-then-reference-allele
 unfolding first_letter letter_number
-returns_2 c = simp (ne_eqb _ _ c.before.if1.false, lt-ltb _ _ c.if2.true)
+returns_2 c = simp (ne_eqb _ _ c.before.if-allele-reference.false, lt-ltb _ _ c.if-reference-allele.true)
 
-returns_3 : tie.Need-returns-3
+returns_3 : tie.Need-returns
 unfolding first_letter letter_number
-returns_3 c = simp (ne_eqb _ _ c.before.if1.false, le-ltb _ _ c.if2.false)
+returns_3 c = simp (ne_eqb _ _ c.before.if-allele-reference.false, le-ltb _ _ c.if-reference-allele.false)
 
 pub first_letter_spec : {M : Type 1} → statement M
 first_letter_spec =

@@ -21,19 +21,19 @@ inside s = place_in s.args.i s.args.j s.args.k s.requires.1 s.requires.2
 below_nine : (s : tie.Start) → s.args.i * s.args.k + s.args.j < 9
 below_nine s = omega (arith, inside s, nine s.args.k s.requires.0.k_high)
 
-mul_t6 : tie.Need-overflow-mul-t6
+mul_t6 : tie.Need-overflow_mul-result
 mul_t6 c = omega (arith, below_nine c)
 
-add_t7 : tie.Need-overflow-add-t7
+add_t7 : tie.Need-overflow_add-result
 add_t7 c = omega (arith, below_nine c)
 
-add_t8 : tie.Need-overflow-add-t8
+add_t8 : tie.Need-overflow_add-result-2
 add_t8 c = omega (arith, below_nine c, c.requires.0.inside)
 
-mul_t9 : tie.Need-overflow-mul-t9
+mul_t9 : tie.Need-offset_bounds-post-at
 mul_t9 c = omega (arith, below_nine c, c.requires.0.inside)
 
-shared_slice_copy_out_t11 : tie.Need-shared-slice-copy-out-t11
+shared_slice_copy_out_t11 : tie.Need-bounds-post-at
 shared_slice_copy_out_t11 c = omega (arith, below_nine c, c.requires.0.inside)
 
 returns : tie.Need-returns

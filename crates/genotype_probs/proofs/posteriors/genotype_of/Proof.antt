@@ -11,16 +11,16 @@ use Rattle.genotype_probs.proofs.posteriors.genotype_of.Tie as tie
 inside : (s : tie.Start) → (s.args.p / s.args.k < s.args.k) × (s.args.p % s.args.k < s.args.k)
 inside s = pair_in s.args.k s.args.p s.requires.0 s.requires.2
 
-div_t3 : tie.Need-nonzero-div-t3
+div_t3 : tie.Need-nonzero_div-result
 div_t3 c = search rules
 
-cast_t4 : tie.Need-overflow-cast-t4
+cast_t4 : tie.Need-overflow_cast-result
 cast_t4 c = omega (arith, (inside c).0, c.requires.1)
 
-rem_t5 : tie.Need-nonzero-rem-t5
+rem_t5 : tie.Need-nonzero_rem-result
 rem_t5 c = search rules
 
-cast_t6 : tie.Need-overflow-cast-t6
+cast_t6 : tie.Need-overflow_cast-result-2
 cast_t6 c = omega (arith, (inside c).1, c.requires.1)
 
 returns : tie.Need-returns

@@ -5,16 +5,14 @@ use borrow.Author.Rules.{rules}
 use Rattle.genotype_probs.proofs.posteriors.normalize.Statement.{statement}
 use Rattle.genotype_probs.proofs.posteriors.normalize.Tie as tie
 
-table_sum_requires : tie.Need-table-sum-requires
+table_sum_requires : tie.Need-table_sum-total-requires
 table_sum_requires c κs = search rules
 
 subtract_requires : tie.Need-subtract-requires
 subtract_requires c κs =
-    let s = c.before.before.before in
-    let d = c.before in
-    (s.requires.1, d.table_sum.ensures.0, omega (arith, d.table_sum.ensures.1))
+    (c.requires.1, c.table_sum-total.ensures.0, omega (arith, c.table_sum-total.ensures.1))
 
-same_length : tie.Need-same-length
+same_length : tie.Need-shape_of-post
 same_length c = search rules
 
 returns : tie.Need-returns

@@ -14,21 +14,21 @@ use Rattle.genotype_probs.proofs.posteriors.post_of.Tie as tie
 inside : (s : tie.Start) → (s.args.p / s.args.k < s.args.k) × (s.args.p % s.args.k < s.args.k)
 inside s = pair_in s.args.k s.args.p s.requires.1.k_low s.requires.2
 
-div_i : tie.Need-nonzero-div-i
+div_i : tie.Need-nonzero_div-i
 div_i c = search rules
 
-rem_j : tie.Need-nonzero-rem-j
+rem_j : tie.Need-nonzero_rem-j
 rem_j c = search rules
 
-entry_requires : tie.Need-entry-requires
+entry_requires : tie.Need-entry-x-requires
 entry_requires c κs = (c.requires.1, (inside c).0, (inside c).1)
 
-returns : tie.Need-returns
+returns : tie.Need-returns-then-phased-i
 unfolding post_at post_of
 returns c =
-    rw c.if1.true c.before.entry.ensures.0
+    rw c.if-phased-i.true c.before.entry-x.ensures.0
 
-entry_requires_2 : tie.Need-entry-requires-2
+entry_requires_2 : tie.Need-entry-requires
 entry_requires_2 c κs =
     let s = c.before.before in
     let q = inside s in (s.requires.1, omega (arith, q.0, q.1), omega (arith, q.0, q.1))
@@ -37,20 +37,20 @@ entry_requires_2 c κs =
 entry_size : (z : ℤ) → nat_abs z ≤ 2 ^ 40 → size (log_of z) ≤ 2 ^ 61
 entry_size z h = omega (arith, size_small z (omega arith))
 
-ln_add_exp_requires : tie.Need-ln-add-exp-requires
+ln_add_exp_requires : tie.Need-ln_add_exp-requires
 ln_add_exp_requires c κs =
     let d = c.before.before in
-    (d.before.requires.0, entry_size d.entry.result.0 d.entry.ensures.1, entry_size c.entry2.result.0 c.entry2.ensures.1)
+    (d.before.requires.0, entry_size d.entry-x.result.0 d.entry-x.ensures.1, entry_size c.entry.result.0 c.entry.ensures.1)
 
-returns_2 : tie.Need-returns-2
+returns_2 : tie.Need-returns
 unfolding post_at post_of
 returns_2 c =
     let d = c.before in
     let f = d.before.before in
-    let x = f.entry.ensures.1 in
-    let y = d.entry2.ensures.1 in
-    let e = add_is f.entry.result.0 d.entry2.result.0 c.ln-add-exp.result.0 (omega arith) (omega arith) c.ln-add-exp.ensures in
-    rw d.before.if1.false (cc (e, f.entry.ensures.0, d.entry2.ensures.0))
+    let x = f.entry-x.ensures.1 in
+    let y = d.entry.ensures.1 in
+    let e = add_is f.entry-x.result.0 d.entry.result.0 c.ln_add_exp.result.0 (omega arith) (omega arith) c.ln_add_exp.ensures in
+    rw d.before.if-phased-i.false (cc (e, f.entry-x.ensures.0, d.entry.ensures.0))
 
 pub post_of_spec : {M : Type 1} → statement M
 post_of_spec =

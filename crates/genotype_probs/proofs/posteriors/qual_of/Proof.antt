@@ -18,10 +18,10 @@ use borrow.Author.Rules.{rules}
 use Rattle.genotype_probs.proofs.posteriors.qual_of.Statement.{statement}
 use Rattle.genotype_probs.proofs.posteriors.qual_of.Tie as tie
 
-mul_t3 : tie.Need-overflow-mul-t3
+mul_t3 : tie.Need-offset_bounds-post-at
 mul_t3 c = search rules
 
-shared_slice_copy_out_t5 : tie.Need-shared-slice-copy-out-t5
+shared_slice_copy_out_t5 : tie.Need-bounds-post-at
 shared_slice_copy_out_t5 c = search rules
 
 abbrev first : tie.Start → ℤ
@@ -30,7 +30,7 @@ first s = get_or s.args.post.now s.args.at (pos 0)
 finite : (s : tie.Start) → log_of (to_z w64 (of_z w64 (first s))) ≡ steps (first s)
 finite s = let h = s.requires.1 in ap log_of (read_small w64 (first s) (omega arith)) ∙ of_small (first s) (omega arith)
 
-capped_phred_requires : tie.Need-capped-phred-requires
+capped_phred_requires : tie.Need-capped_phred-requires
 capped_phred_requires c κs = let s = c.before in let h = s.requires.1 in omega (arith, ap size (finite s), size_steps (first s))
 
 returns : tie.Need-returns
@@ -39,7 +39,7 @@ returns c =
     let s = c.before.before in
     let z : s.args.at + 0 ≡ s.args.at = omega arith in
     let d : get_or (drop s.args.at s.args.post.now) 0 (pos 0) ≡ first s = get_or-drop s.args.at s.args.post.now 0 (pos 0) ∙ ap (λ (i : ℕ). get_or s.args.post.now i (pos 0)) z in
-    c.capped-phred.ensures ∙ ap (λ (x : Log). capped (phred_of x)) (finite s ∙ ap steps (sym d))
+    c.capped_phred.ensures ∙ ap (λ (x : Log). capped (phred_of x)) (finite s ∙ ap steps (sym d))
 
 pub qual_of_spec : {M : Type 1} → statement M
 qual_of_spec = tie.close (tie.spec mul_t3 shared_slice_copy_out_t5 capped_phred_requires returns)

@@ -26,25 +26,25 @@ row_end s =
 within : (s : tie.Start) → s.args.at + s.args.i * s.args.k + s.args.k ≤ length s.args.post.now
 within s = omega (arith, row_end s, s.requires.1.inside)
 
-mul_a : tie.Need-overflow-mul-a
+mul_a : tie.Need-overflow_mul-a
 mul_a c = omega (arith, row_end c)
 
-add_a : tie.Need-overflow-add-a
+add_a : tie.Need-overflow_add-a
 add_a c = omega (arith, row_end c, c.requires.1.inside)
 
-add_e : tie.Need-overflow-add-e
+add_e : tie.Need-overflow_add-e
 add_e c = omega (arith, row_end c, c.requires.1.inside)
 
-mul_ln_sum_exp : tie.Need-overflow-mul-ln-sum-exp
+mul_ln_sum_exp : tie.Need-offset_bounds-post-a
 mul_ln_sum_exp c = omega (arith, row_end c, c.requires.1.inside)
 
-sub_ln_sum_exp : tie.Need-overflow-sub-ln-sum-exp
+sub_ln_sum_exp : tie.Need-slice_bounds-ln_sum_exp-count
 sub_ln_sum_exp c = search rules
 
-part_ln_sum_exp_start : tie.Need-slice-bounds-ln-sum-exp-start
+part_ln_sum_exp_start : tie.Need-slice_bounds-ln_sum_exp-start
 part_ln_sum_exp_start c = search rules
 
-part_ln_sum_exp_end : tie.Need-slice-bounds-ln-sum-exp-end
+part_ln_sum_exp_end : tie.Need-slice_bounds-ln_sum_exp-end
 part_ln_sum_exp_end c = within c
 
 -- what is summed
@@ -65,7 +65,7 @@ small s j h =
     let e = tabulate_at k (row s) j (pos 0) l ∙ get_or-drop s.args.at s.args.post.now (i * k + j) (pos 0) in
     omega (arith, ap nat_abs e, s.requires.1.small (i * k + j) (place_in i j k s.requires.2 l))
 
-ln_sum_exp_requires : tie.Need-ln-sum-exp-requires
+ln_sum_exp_requires : tie.Need-ln_sum_exp-requires
 ln_sum_exp_requires c κs =
     let s = c.before in
     rw (row_is s)
@@ -79,7 +79,7 @@ returns c =
     let n = tabulate_length k (row s) in
     let low = s.requires.1.k_low in
     let top = s.requires.1.k_high in
-    let r = sum_is (2 ^ 40) (tabulate k (row s)) c.ln-sum-exp.result.0 (omega arith) (omega arith) (small s) (rw (row_is s) at c.ln-sum-exp.ensures) in
+    let r = sum_is (2 ^ 40) (tabulate k (row s)) c.ln_sum_exp.result.0 (omega arith) (omega arith) (small s) (rw (row_is s) at c.ln_sum_exp.ensures) in
     (r.0, omega (arith, r.1))
 
 pub row_sum_spec : {M : Type 1} → statement M

@@ -12,67 +12,67 @@ use Rattle.genotype_probs.proofs.TableSums.{Summing, summing_start, summing_more
 use Rattle.genotype_probs.proofs.posteriors.table_sum.Statement.{statement}
 use Rattle.genotype_probs.proofs.posteriors.table_sum.Tie as tie
 
-abbrev invariant_loop : tie.invariant_loop
+abbrev invariant_loop : tie.invariant-loop-i
 invariant_loop t post at k sum₀ i₀ sum i = Summing (2 ^ 40 + 12288) (row_sum (drop at post) k) k sum.0 i
 
-abbrev decreases_loop : tie.decreases_loop
+abbrev decreases_loop : tie.decreases-loop-i
 decreases_loop t post at k sum₀ i₀ sum i = k - i
 
 -- the rows' sums
 abbrev row : tie.Start invariant_loop decreases_loop → ℕ → ℤ
 row s = row_sum (drop s.args.at s.args.post.now) s.args.k
 
-row_sum_requires : tie.Need-row-sum-requires invariant_loop decreases_loop
+row_sum_requires : tie.Need-row_sum-sum-requires invariant_loop decreases_loop
 row_sum_requires c κs = (c.requires.0, c.requires.1, omega (arith, c.requires.1.k_low))
 
-loop_holds : tie.Need-loop-init invariant_loop decreases_loop
+loop_holds : tie.Need-loop-i-init invariant_loop decreases_loop
 loop_holds c =
     let s = c.before in
-    let e = c.row-sum.ensures.0 in
-    summing_start (2 ^ 40 + 12288) (row s) s.args.k _ s.requires.1.k_low e (omega (arith, ap nat_abs e, c.row-sum.ensures.1))
+    let e = c.row_sum-sum.ensures.0 in
+    summing_start (2 ^ 40 + 12288) (row s) s.args.k _ s.requires.1.k_low e (omega (arith, ap nat_abs e, c.row_sum-sum.ensures.1))
 
-row_sum_requires_2 : tie.Need-row-sum-requires-2 invariant_loop decreases_loop
-row_sum_requires_2 c κs = let s = c.before.before.before in (s.requires.0, s.requires.1, c.loop-test.true)
+row_sum_requires_2 : tie.Need-row_sum-requires invariant_loop decreases_loop
+row_sum_requires_2 c κs = let s = c.before.before.before in (s.requires.0, s.requires.1, c.loop-i-test.true)
 
 -- what is added
-small : (c : tie.After-row-sum2 invariant_loop decreases_loop) → nat_abs (row c.before.before.before.before c.before.before.loop.i) ≤ (2 ^ 40 + 12288)
-small c = omega (arith, ap nat_abs c.row-sum2.ensures.0, c.row-sum2.ensures.1)
+small : (c : tie.After-row_sum invariant_loop decreases_loop) → nat_abs (row c.before.before.before.before c.before.before.loop-i.i) ≤ (2 ^ 40 + 12288)
+small c = omega (arith, ap nat_abs c.row_sum.ensures.0, c.row_sum.ensures.1)
 
 -- and what it is added to
-sum_small : (c : tie.After-row-sum2 invariant_loop decreases_loop) → nat_abs c.before.before.loop.sum.0 ≤ 2 ^ 40 + 24576
+sum_small : (c : tie.After-row_sum invariant_loop decreases_loop) → nat_abs c.before.before.loop-i.sum.0 ≤ 2 ^ 40 + 24576
 sum_small c =
     let l = c.before.before in
-    omega (arith, l.loop.invariant.small, l.loop.invariant.inside, l.before.before.requires.1.k_high)
+    omega (arith, l.loop-i.invariant.small, l.loop-i.invariant.inside, l.before.before.requires.1.k_high)
 
-ln_add_exp_requires : tie.Need-ln-add-exp-requires invariant_loop decreases_loop
+ln_add_exp_requires : tie.Need-ln_add_exp-sum-requires invariant_loop decreases_loop
 ln_add_exp_requires c κs =
     let l = c.before.before in
     let s = l.before.before in
-    let a = l.loop.sum.0 in
-    let x = c.row-sum2.result.0 in
+    let a = l.loop-i.sum.0 in
+    let x = c.row_sum.result.0 in
     let h = sum_small c in
-    let k = c.row-sum2.ensures.1 in
+    let k = c.row_sum.ensures.1 in
     (s.requires.0, omega (arith, size_small a (omega arith)), omega (arith, size_small x (omega arith)))
 
-add_i : tie.Need-overflow-add-i invariant_loop decreases_loop
+add_i : tie.Need-overflow_add-i invariant_loop decreases_loop
 add_i c =
-    let l = c.before.before.before in omega (arith, l.loop.invariant.inside, l.before.before.requires.1.k_high)
+    let l = c.before.before.before in omega (arith, l.loop-i.invariant.inside, l.before.before.requires.1.k_high)
 
-loop_less : tie.Need-loop-smaller invariant_loop decreases_loop
-loop_less c = omega (arith, c.before.before.loop-test.true)
+loop_less : tie.Need-loop-i-smaller invariant_loop decreases_loop
+loop_less c = omega (arith, c.before.before.loop-i-test.true)
 
-loop_again : tie.Need-loop-preserved invariant_loop decreases_loop
+loop_again : tie.Need-loop-i-preserved invariant_loop decreases_loop
 loop_again c =
     let d = c.before in
     let l = d.before.before in
     let s = l.before.before in
-    let sum = l.loop.sum.0 in
-    let x = d.row-sum2.result.0 in
+    let sum = l.loop-i.sum.0 in
+    let x = d.row_sum.result.0 in
     let h = sum_small d in
-    let k = d.row-sum2.ensures.1 in
-    let e = add_is sum x c.ln-add-exp.result.0 (omega arith) (omega arith) c.ln-add-exp.ensures in
-    summing_more (2 ^ 40 + 12288) (row s) s.args.k sum _ l.loop.i l.loop.invariant d.before.loop-test.true
-    (e ∙ ap (add_exp sum) d.row-sum2.ensures.0)
+    let k = d.row_sum.ensures.1 in
+    let e = add_is sum x c.ln_add_exp-sum.result.0 (omega arith) (omega arith) c.ln_add_exp-sum.ensures in
+    summing_more (2 ^ 40 + 12288) (row s) s.args.k sum _ l.loop-i.i l.loop-i.invariant d.before.loop-i-test.true
+    (e ∙ ap (add_exp sum) d.row_sum.ensures.0)
     (small d)
 
 returns : tie.Need-returns invariant_loop decreases_loop
@@ -80,7 +80,7 @@ unfolding table_sum
 returns c =
     let l = c.before in
     let s = l.before.before in
-    let r = summing_end (2 ^ 40 + 12288) (row s) s.args.k l.loop.sum.0 l.loop.i l.loop.invariant c.loop-test.false in
+    let r = summing_end (2 ^ 40 + 12288) (row s) s.args.k l.loop-i.sum.0 l.loop-i.i l.loop-i.invariant c.loop-i-test.false in
     (r.0, omega (arith, r.1, s.requires.1.k_high))
 
 pub table_sum_spec : {M : Type 1} → statement M

@@ -15,29 +15,29 @@ use Rattle.genotype_probs.specs.Inner.PriorTable.{table_value}
 use Rattle.genotype_probs.proofs.priors.table_value.Statement.{statement}
 use Rattle.genotype_probs.proofs.priors.table_value.Tie as tie
 
-mul_i : tie.Need-overflow-mul-i
+mul_i : tie.Need-overflow_mul-i
 mul_i c = search rules
 
-mul_i_2 : tie.Need-overflow-mul-i-2
+mul_i_2 : tie.Need-overflow_mul-i-2
 mul_i_2 c = search rules
 
-add_i : tie.Need-overflow-add-i
+add_i : tie.Need-overflow_add-i
 add_i c = search rules
 
-add_i_2 : tie.Need-overflow-add-i-2
+add_i_2 : tie.Need-overflow_add-i-2
 add_i_2 c = search rules
 
-mul_t6 : tie.Need-overflow-mul-t6
+mul_t6 : tie.Need-offset_bounds-table-i
 mul_t6 c = search rules
 
-shared_slice_copy_out_t10 : tie.Need-shared-slice-copy-out-t10
+shared_slice_copy_out_t10 : tie.Need-bounds-table-i
 shared_slice_copy_out_t10 c = search rules
 
-letters_share_requires : tie.Need-letters-share-requires
+letters_share_requires : tie.Need-letters_share-requires
 letters_share_requires c κs = search rules
 
 -- the entry
-abbrev entry : tie.After-letters-share → ℤ
+abbrev entry : tie.After-letters_share → ℤ
 entry c =
     let s = c.before.before in
     get_or s.args.table.now (36 * s.args.base + 6 * s.args.first + s.args.second) (pos 0)
@@ -46,20 +46,20 @@ share_small : (t : Bool) → nat_abs (cond t (pos 0) ln_half) ≤ 4096
 share_small true = omega arith
 share_small false = omega arith
 
-small : (c : tie.After-letters-share) → nat_abs (entry c) + nat_abs c.letters-share.result.0 < 2 ^ 63
+small : (c : tie.After-letters_share) → nat_abs (entry c) + nat_abs c.letters_share.result.0 < 2 ^ 63
 small c =
     let s = c.before.before in
     let h = s.requires.0.small (36 * s.args.base + 6 * s.args.first + s.args.second) (omega arith) in
-    omega (arith, h, ap nat_abs c.letters-share.ensures, share_small (eqb s.args.first s.args.second))
+    omega (arith, h, ap nat_abs c.letters_share.ensures, share_small (eqb s.args.first s.args.second))
 
-add_t12 : tie.Need-overflow-add-t12
-add_t12 c = let d = c.before.before in plus_fits w64 (entry d) d.letters-share.result.0 (small d)
+add_t12 : tie.Need-overflow_add-result
+add_t12 c = let d = c.before.before in plus_fits w64 (entry d) d.letters_share.result.0 (small d)
 
 returns : tie.Need-returns
 unfolding table_value
 returns c =
     let d = c.before.before in
-    plus_read w64 (entry d) d.letters-share.result.0 (small d) ∙ ap (λ (z : ℤ). entry d +ℤ z) d.letters-share.ensures
+    plus_read w64 (entry d) d.letters_share.result.0 (small d) ∙ ap (λ (z : ℤ). entry d +ℤ z) d.letters_share.ensures
 
 pub table_value_spec : {M : Type 1} → statement M
 table_value_spec =

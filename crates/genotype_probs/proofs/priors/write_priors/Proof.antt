@@ -17,79 +17,79 @@ use Rattle.genotype_probs.proofs.AlleleLaws.{start_top, element_is}
 use Rattle.genotype_probs.proofs.priors.write_priors.Statement.{statement}
 use Rattle.genotype_probs.proofs.priors.write_priors.Tie as tie
 
-abbrev invariant_loop : tie.invariant_loop
+abbrev invariant_loop : tie.invariant-loop-v
 invariant_loop words s bases table priors₀ n at₀ v₀ priors at v =
     (v ≤ s.n) × (at ≡ alleles_start words v) × (priors ≡ written (table_prior_at table (decode words bases)) (9 * v) priors₀)
 
-abbrev decreases_loop : tie.decreases_loop
+abbrev decreases_loop : tie.decreases-loop-v
 decreases_loop words s bases table priors₀ n at₀ v₀ priors at v = s.n - v
 
-loop_holds : tie.Need-loop-init invariant_loop decreases_loop
+loop_holds : tie.Need-loop-v-init invariant_loop decreases_loop
 unfolding written alleles_start
 loop_holds c = (omega arith, refl, refl)
 
 -- the places are as many as they were
-as_long : (l : tie.At-loop invariant_loop decreases_loop) → length l.loop.priors ≡ length l.before.before.args.priors.now
+as_long : (l : tie.At-loop-v invariant_loop decreases_loop) → length l.loop-v.priors ≡ length l.before.before.args.priors.now
 as_long l =
     let s = l.before.before in
-    ap length l.loop.invariant.2 ∙ written_length (table_prior_at s.args.table.now (decode s.args.words.now s.args.bases.now)) (9 * l.loop.v) s.args.priors.now
+    ap length l.loop-v.invariant.2 ∙ written_length (table_prior_at s.args.table.now (decode s.args.words.now s.args.bases.now)) (9 * l.loop-v.v) s.args.priors.now
 
-get_all_priors_requires : tie.Need-get-all-priors-requires invariant_loop decreases_loop
+get_all_priors_requires : tie.Need-get_all_priors-requires invariant_loop decreases_loop
 get_all_priors_requires c κs =
     let l = c.before.before in
     let s = l.before.before in
-    let h : l.loop.v < s.args.s.n = c.before.loop-test.true in
-    ((s.requires.0, s.requires.1), (h, l.loop.invariant.1, omega (arith, as_long l, s.requires.3)))
+    let h : l.loop-v.v < s.args.s.n = c.before.loop-v-test.true in
+    ((s.requires.0, s.requires.1), (h, l.loop-v.invariant.1, omega (arith, as_long l, s.requires.3)))
 
-alleles_length_requires : tie.Need-alleles-length-requires invariant_loop decreases_loop
+alleles_length_requires : tie.Need-alleles_length-at-requires invariant_loop decreases_loop
 alleles_length_requires c κs =
     let s = c.before.before.before.before.before.before in
-    (s.requires.0.sized, (s.requires.0.variants, c.before.before.before.loop-test.true))
+    (s.requires.0.sized, (s.requires.0.variants, c.before.before.before.loop-v-test.true))
 
-add_at : tie.Need-overflow-add-at invariant_loop decreases_loop
+add_at : tie.Need-overflow_add-at invariant_loop decreases_loop
 add_at c =
     let l = c.before.before.before.before.before in
     let s = l.before.before in
-    let t = start_top s.args.words.now s.args.bases.now s.args.s s.requires.0 l.loop.v l.loop.invariant.0 in
-    omega (arith, l.loop.invariant.1, c.alleles-length.ensures.1)
+    let t = start_top s.args.words.now s.args.bases.now s.args.s s.requires.0 l.loop-v.v l.loop-v.invariant.0 in
+    omega (arith, l.loop-v.invariant.1, c.alleles_length-at.ensures.1)
 
-add_v : tie.Need-overflow-add-v invariant_loop decreases_loop
+add_v : tie.Need-overflow_add-v invariant_loop decreases_loop
 add_v c =
-    let l = c.before.before.before.before.before in omega (arith, l.before.before.requires.0.sized.n_top, l.loop.invariant.0)
+    let l = c.before.before.before.before.before in omega (arith, l.before.before.requires.0.sized.n_top, l.loop-v.invariant.0)
 
-loop_less : tie.Need-loop-smaller invariant_loop decreases_loop
-loop_less c = omega (arith, c.before.before.before.before.loop-test.true)
+loop_less : tie.Need-loop-v-smaller invariant_loop decreases_loop
+loop_less c = omega (arith, c.before.before.before.before.loop-v-test.true)
 
-loop_again : tie.Need-loop-preserved invariant_loop decreases_loop
+loop_again : tie.Need-loop-v-preserved invariant_loop decreases_loop
 loop_again c =
     let l = c.before.before.before.before.before in
     let s = l.before.before in
     let w = s.args.words.now in
     let b = s.args.bases.now in
-    let v = l.loop.v in
-    let h : v < s.args.s.n = c.before.before.before.before.loop-test.true in
+    let v = l.loop-v.v in
+    let h : v < s.args.s.n = c.before.before.before.before.loop-v-test.true in
     let g = table_prior_at s.args.table.now (decode w b) in
     let o = s.args.priors.now in
     let n : v < (sizes_of w).n = omega (arith, ap (λ (z : Sizes). z.n) s.requires.2) in
     let m : 9 * v + 9 ≡ 9 * (v + 1) = omega arith in (
       omega arith,
-      omega (arith, l.loop.invariant.1, c.alleles-length.ensures.0, off_on w v),
-      c.before.before.get-all-priors.ensures
-          ∙ ap (written_from (table_priors s.args.table.now (variant_from w b v)) (9 * v) 9) l.loop.invariant.2
+      omega (arith, l.loop-v.invariant.1, c.alleles_length-at.ensures.0, off_on w v),
+      c.before.before.get_all_priors.ensures
+          ∙ ap (written_from (table_priors s.args.table.now (variant_from w b v)) (9 * v) 9) l.loop-v.invariant.2
           ∙ from_after g (table_priors s.args.table.now (variant_from w b v)) (9 * v) 9 o (λ p k. element_is s.args.table.now w b v p n k)
           ∙ ap (λ (k : ℕ). written g k o) m,
     )
 
-same_length : tie.Need-same-length invariant_loop decreases_loop
+same_length : tie.Need-shape_of-priors invariant_loop decreases_loop
 same_length c = as_long c.before
 
 returns : tie.Need-returns invariant_loop decreases_loop
 returns c =
     let l = c.before in
     let s = l.before.before in
-    let e : l.loop.v ≡ s.args.s.n = omega arith in
+    let e : l.loop-v.v ≡ s.args.s.n = omega arith in
     let g = table_prior_at s.args.table.now (decode s.args.words.now s.args.bases.now) in
-    l.loop.invariant.2 ∙ ap (λ (n : ℕ). written g (9 * n) s.args.priors.now) e
+    l.loop-v.invariant.2 ∙ ap (λ (n : ℕ). written g (9 * n) s.args.priors.now) e
 
 pub write_priors_spec : {M : Type 1} → statement M
 write_priors_spec =

@@ -5,16 +5,16 @@ use borrow.Author.Tests.{eq-eqb, ne_eqb}
 use Rattle.genotype_probs.proofs.table.change.Statement.{statement}
 use Rattle.genotype_probs.proofs.table.change.Tie as tie
 
-add_if1 : tie.Need-overflow-add-if1
+add_if1 : tie.Need-overflow_add-base
 add_if1 c = search rules
 
-returns : tie.Need-returns
+returns : tie.Need-returns-then-letter-base
 returns c =
-    simp (eq-eqb _ _ c.before.if1.true)
+    simp (eq-eqb _ _ c.before.if-letter-base.true)
 
-returns_2 : tie.Need-returns-2
+returns_2 : tie.Need-returns
 returns_2 c =
-    simp (ne_eqb _ _ c.before.if1.false)
+    simp (ne_eqb _ _ c.before.if-letter-base.false)
 
 pub change_spec : {M : Type 1} → statement M
 change_spec = tie.close (tie.spec add_if1 returns returns_2)

@@ -14,19 +14,19 @@ use Rattle.genotype_probs.proofs.Entries.{gap_value, same_value, other_value}
 use Rattle.genotype_probs.proofs.table.letter_value.Statement.{statement}
 use Rattle.genotype_probs.proofs.table.letter_value.Tie as tie
 
-indel_value_requires : tie.Need-indel-value-requires
+indel_value_requires : tie.Need-indel_value-requires
 indel_value_requires c κs = c.before.requires.2
 
-returns : tie.Need-returns
+returns : tie.Need-returns-then-letter-ge-DELETION
 returns c =
     let s = c.before.before in
-    c.indel-value.ensures
-    ∙ gap_value s.args.rates s.args.same.0 s.args.snv.0 s.args.indel.0 s.args.base s.args.letter c.before.if1.true
+    c.indel_value.ensures
+    ∙ gap_value s.args.rates s.args.same.0 s.args.snv.0 s.args.indel.0 s.args.base s.args.letter c.before.if-letter-ge-DELETION.true
 
-returns_2 : tie.Need-returns-2
+returns_2 : tie.Need-returns-then-letter-base
 returns_2 c =
     let s = c.before.before in
-    same_value s.args.rates s.args.same.0 s.args.snv.0 s.args.indel.0 s.args.base s.args.letter s.requires.3 c.if2.true
+    same_value s.args.rates s.args.same.0 s.args.snv.0 s.args.indel.0 s.args.base s.args.letter s.requires.3 c.if-letter-base.true
 
 change_requires : tie.Need-change-requires
 change_requires c κs = search rules
@@ -37,18 +37,18 @@ small c =
     let d = change_down s.args.rates (rates_in s.args.rates s.requires.0) (eqb s.args.letter ((s.args.base + 2) % 4)) in
     rw c.change.ensures (omega (arith, d.most, s.requires.1))
 
-add_t9 : tie.Need-overflow-add-t9
+add_t9 : tie.Need-overflow_add-result
 add_t9 c =
     let d = c.before.before.before.before in
     plus_fits w64 d.before.before.before.args.snv.0 d.change.result.0 (small d)
 
-returns_3 : tie.Need-returns-3
+returns_3 : tie.Need-returns
 returns_3 c =
     let d = c.before.before.before.before in
     let s = d.before.before.before in
     plus_read w64 s.args.snv.0 d.change.result.0 (small d)
     ∙ ap (λ (z : ℤ). s.args.snv.0 +ℤ z) d.change.ensures
-    ∙ other_value s.args.rates s.args.same.0 s.args.snv.0 s.args.indel.0 s.args.base s.args.letter s.requires.3 (omega (arith, d.before.before.if1.false)) d.before.if2.false
+    ∙ other_value s.args.rates s.args.same.0 s.args.snv.0 s.args.indel.0 s.args.base s.args.letter s.requires.3 (omega (arith, d.before.before.if-letter-ge-DELETION.false)) d.before.if-letter-base.false
 
 pub letter_value_spec : {M : Type 1} → statement M
 letter_value_spec =

@@ -11,12 +11,12 @@ use Rattle.genotype_probs.proofs.table.ln_half.Tie as tie
 half_requires : tie.Need-half-requires
 half_requires c κs = search rules
 
-from_prob_requires : tie.Need-from-prob-requires
+from_prob_requires : tie.Need-from_prob-requires
 from_prob_requires c κs = inl c.half.ensures
 
 returns : tie.Need-returns
 returns c =
-    c.from-prob.ensures ∙ ap ln_of c.before.half.ensures ∙ ln_half_lem
+    c.from_prob.ensures ∙ ap ln_of c.before.half.ensures ∙ ln_half_lem
 
 pub ln_half_spec : {M : Type 1} → statement M
 ln_half_spec = tie.close (tie.spec half_requires from_prob_requires returns)

@@ -19,7 +19,7 @@ small p h = let e = size_of p (no_mark p (omega arith)) in omega arith
 not_above : (p : ℤ) → lt_z p (pos 0) ≡ true → le_z p (pos 0) ≡ true
 not_above p t = omega zlin
 
-ln_one_minus_exp_requires : tie.Need-ln-one-minus-exp-requires
+ln_one_minus_exp_requires : tie.Need-ln_one_minus_exp-requires
 ln_one_minus_exp_requires c κs =
     (c.requires.0, small c.args.p.0 c.requires.1, not_above c.args.p.0 c.requires.2)
 
@@ -27,7 +27,7 @@ returns : tie.Need-returns
 returns c =
     let s = c.before in
     let h = s.requires.1 in
-    one_minus_is s.args.p.0 c.ln-one-minus-exp.result.0 (omega arith) s.requires.2 c.ln-one-minus-exp.ensures
+    one_minus_is s.args.p.0 c.ln_one_minus_exp.result.0 (omega arith) s.requires.2 c.ln_one_minus_exp.ensures
 
 pub one_minus_exp_spec : {M : Type 1} → statement M
 one_minus_exp_spec = tie.close (tie.spec ln_one_minus_exp_requires returns)

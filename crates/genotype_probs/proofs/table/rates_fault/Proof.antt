@@ -17,150 +17,150 @@ use Rattle.genotype_probs.proofs.table.rates_fault.Statement.{statement}
 use Rattle.genotype_probs.proofs.table.rates_fault.Tie as tie
 
 -- ---- past each test: the place before it, the rates, that the rate is in range, and what is left
-abbrev rates1 : tie.Else1 → Rates
-rates1 c = c.before.before.args.rates
+abbrev rates1 : tie.Else-not-rate_ok → Rates
+rates1 c = c.args.rates
 
-ok1 : (c : tie.Else1) → rate_ok (hom_snv_rate (rates1 c)) ≡ true
-ok1 c = sym c.before.rate-ok.ensures ∙ c.if1.false
+ok1 : (c : tie.Else-not-rate_ok) → rate_ok (hom_snv_rate (rates1 c)) ≡ true
+ok1 c = sym c.before.rate_ok.ensures ∙ c.if-not-rate_ok.false
 
-left1 : (c : tie.Else1) → rates_fault (rates1 c) ≡ fault_from (rates1 c) 1
+left1 : (c : tie.Else-not-rate_ok) → rates_fault (rates1 c) ≡ fault_from (rates1 c) 1
 unfolding rate_tests
 left1 c = fault_from_lem (rates1 c) ∙ fault_past (rates1 c) 0 (omega arith) (ok1 c)
 
-abbrev past1 : tie.Else2 → tie.Else1
-past1 c = c.before.before
+abbrev past1 : tie.Else-not-rate_ok-2 → tie.Else-not-rate_ok
+past1 c = c.before.before.before
 
-abbrev rates2 : tie.Else2 → Rates
+abbrev rates2 : tie.Else-not-rate_ok-2 → Rates
 rates2 c = rates1 (past1 c)
 
-ok2 : (c : tie.Else2) → rate_ok (het_snv_rate (rates2 c)) ≡ true
-ok2 c = sym c.before.rate-ok2.ensures ∙ c.if2.false
+ok2 : (c : tie.Else-not-rate_ok-2) → rate_ok (het_snv_rate (rates2 c)) ≡ true
+ok2 c = sym c.before.rate_ok-2.ensures ∙ c.if-not-rate_ok-2.false
 
-left2 : (c : tie.Else2) → rates_fault (rates2 c) ≡ fault_from (rates2 c) 2
+left2 : (c : tie.Else-not-rate_ok-2) → rates_fault (rates2 c) ≡ fault_from (rates2 c) 2
 unfolding rate_tests
 left2 c = left1 (past1 c) ∙ fault_past (rates2 c) 1 (omega arith) (ok2 c)
 
-abbrev past2 : tie.Else3 → tie.Else2
-past2 c = c.before.before
+abbrev past2 : tie.Else-not-rate_ok-3 → tie.Else-not-rate_ok-2
+past2 c = c.before.before.before
 
-abbrev rates3 : tie.Else3 → Rates
+abbrev rates3 : tie.Else-not-rate_ok-3 → Rates
 rates3 c = rates2 (past2 c)
 
-ok3 : (c : tie.Else3) → rate_ok (hom_indel_rate (rates3 c)) ≡ true
-ok3 c = sym c.before.rate-ok3.ensures ∙ c.if3.false
+ok3 : (c : tie.Else-not-rate_ok-3) → rate_ok (hom_indel_rate (rates3 c)) ≡ true
+ok3 c = sym c.before.rate_ok-3.ensures ∙ c.if-not-rate_ok-3.false
 
-left3 : (c : tie.Else3) → rates_fault (rates3 c) ≡ fault_from (rates3 c) 3
+left3 : (c : tie.Else-not-rate_ok-3) → rates_fault (rates3 c) ≡ fault_from (rates3 c) 3
 unfolding rate_tests
 left3 c = left2 (past2 c) ∙ fault_past (rates3 c) 2 (omega arith) (ok3 c)
 
-abbrev past3 : tie.Else4 → tie.Else3
-past3 c = c.before.before
+abbrev past3 : tie.Else-not-rate_ok-4 → tie.Else-not-rate_ok-3
+past3 c = c.before.before.before
 
-abbrev rates4 : tie.Else4 → Rates
+abbrev rates4 : tie.Else-not-rate_ok-4 → Rates
 rates4 c = rates3 (past3 c)
 
-ok4 : (c : tie.Else4) → rate_ok (het_indel_rate (rates4 c)) ≡ true
-ok4 c = sym c.before.rate-ok4.ensures ∙ c.if4.false
+ok4 : (c : tie.Else-not-rate_ok-4) → rate_ok (het_indel_rate (rates4 c)) ≡ true
+ok4 c = sym c.before.rate_ok-4.ensures ∙ c.if-not-rate_ok-4.false
 
-left4 : (c : tie.Else4) → rates_fault (rates4 c) ≡ fault_from (rates4 c) 4
+left4 : (c : tie.Else-not-rate_ok-4) → rates_fault (rates4 c) ≡ fault_from (rates4 c) 4
 unfolding rate_tests
 left4 c = left3 (past3 c) ∙ fault_past (rates4 c) 3 (omega arith) (ok4 c)
 
-abbrev past4 : tie.Else5 → tie.Else4
-past4 c = c.before.before
+abbrev past4 : tie.Else-not-rate_ok-5 → tie.Else-not-rate_ok-4
+past4 c = c.before.before.before
 
-abbrev rates5 : tie.Else5 → Rates
+abbrev rates5 : tie.Else-not-rate_ok-5 → Rates
 rates5 c = rates4 (past4 c)
 
-ok5 : (c : tie.Else5) → rate_ok (ts_rate (rates5 c)) ≡ true
-ok5 c = sym c.before.rate-ok5.ensures ∙ c.if5.false
+ok5 : (c : tie.Else-not-rate_ok-5) → rate_ok (ts_rate (rates5 c)) ≡ true
+ok5 c = sym c.before.rate_ok-5.ensures ∙ c.if-not-rate_ok-5.false
 
-left5 : (c : tie.Else5) → rates_fault (rates5 c) ≡ fault_from (rates5 c) 5
+left5 : (c : tie.Else-not-rate_ok-5) → rates_fault (rates5 c) ≡ fault_from (rates5 c) 5
 unfolding rate_tests
 left5 c = left4 (past4 c) ∙ fault_past (rates5 c) 4 (omega arith) (ok5 c)
 
-abbrev past5 : tie.Else6 → tie.Else5
-past5 c = c.before.before
+abbrev past5 : tie.Else-not-rate_ok-6 → tie.Else-not-rate_ok-5
+past5 c = c.before.before.before
 
-abbrev rates6 : tie.Else6 → Rates
+abbrev rates6 : tie.Else-not-rate_ok-6 → Rates
 rates6 c = rates5 (past5 c)
 
-ok6 : (c : tie.Else6) → rate_ok (tv_rate (rates6 c)) ≡ true
-ok6 c = sym c.before.rate-ok6.ensures ∙ c.if6.false
+ok6 : (c : tie.Else-not-rate_ok-6) → rate_ok (tv_rate (rates6 c)) ≡ true
+ok6 c = sym c.before.rate_ok-6.ensures ∙ c.if-not-rate_ok-6.false
 
-left6 : (c : tie.Else6) → rates_fault (rates6 c) ≡ fault_from (rates6 c) 6
+left6 : (c : tie.Else-not-rate_ok-6) → rates_fault (rates6 c) ≡ fault_from (rates6 c) 6
 unfolding rate_tests
 left6 c = left5 (past5 c) ∙ fault_past (rates6 c) 5 (omega arith) (ok6 c)
 
 -- ---- the needs
-rate_ok_requires : tie.Need-rate-ok-requires
+rate_ok_requires : tie.Need-rate_ok-requires
 rate_ok_requires c κs = search rules
 
-returns : tie.Need-returns
+returns : tie.Need-returns-then-not-rate_ok
 unfolding rate_tests
-returns c = sym (fault_from_lem c.before.before.args.rates ∙ fault_here c.before.before.args.rates 0 (omega arith) (sym c.before.rate-ok.ensures ∙ c.if1.true))
+returns c = sym (fault_from_lem c.args.rates ∙ fault_here c.args.rates 0 (omega arith) (sym c.before.rate_ok.ensures ∙ c.if-not-rate_ok.true))
 
-rate_ok_requires_2 : tie.Need-rate-ok-requires-2
+rate_ok_requires_2 : tie.Need-rate_ok-requires-2
 rate_ok_requires_2 c κs = search rules
 
-returns_2 : tie.Need-returns-2
+returns_2 : tie.Need-returns-then-not-rate_ok-2
 unfolding rate_tests
-returns_2 c = sym (left1 c.before.before ∙ fault_here (rates1 c.before.before) 1 (omega arith) (sym c.before.rate-ok2.ensures ∙ c.if2.true))
+returns_2 c = sym (left1 c.before.before.before ∙ fault_here (rates1 c.before.before.before) 1 (omega arith) (sym c.before.rate_ok-2.ensures ∙ c.if-not-rate_ok-2.true))
 
-rate_ok_requires_3 : tie.Need-rate-ok-requires-3
+rate_ok_requires_3 : tie.Need-rate_ok-requires-3
 rate_ok_requires_3 c κs = search rules
 
-returns_3 : tie.Need-returns-3
+returns_3 : tie.Need-returns-then-not-rate_ok-3
 unfolding rate_tests
-returns_3 c = sym (left2 c.before.before ∙ fault_here (rates2 c.before.before) 2 (omega arith) (sym c.before.rate-ok3.ensures ∙ c.if3.true))
+returns_3 c = sym (left2 c.before.before.before ∙ fault_here (rates2 c.before.before.before) 2 (omega arith) (sym c.before.rate_ok-3.ensures ∙ c.if-not-rate_ok-3.true))
 
-rate_ok_requires_4 : tie.Need-rate-ok-requires-4
+rate_ok_requires_4 : tie.Need-rate_ok-requires-4
 rate_ok_requires_4 c κs = search rules
 
-returns_4 : tie.Need-returns-4
+returns_4 : tie.Need-returns-then-not-rate_ok-4
 unfolding rate_tests
-returns_4 c = sym (left3 c.before.before ∙ fault_here (rates3 c.before.before) 3 (omega arith) (sym c.before.rate-ok4.ensures ∙ c.if4.true))
+returns_4 c = sym (left3 c.before.before.before ∙ fault_here (rates3 c.before.before.before) 3 (omega arith) (sym c.before.rate_ok-4.ensures ∙ c.if-not-rate_ok-4.true))
 
-rate_ok_requires_5 : tie.Need-rate-ok-requires-5
+rate_ok_requires_5 : tie.Need-rate_ok-requires-5
 rate_ok_requires_5 c κs = search rules
 
-returns_5 : tie.Need-returns-5
+returns_5 : tie.Need-returns-then-not-rate_ok-5
 unfolding rate_tests
-returns_5 c = sym (left4 c.before.before ∙ fault_here (rates4 c.before.before) 4 (omega arith) (sym c.before.rate-ok5.ensures ∙ c.if5.true))
+returns_5 c = sym (left4 c.before.before.before ∙ fault_here (rates4 c.before.before.before) 4 (omega arith) (sym c.before.rate_ok-5.ensures ∙ c.if-not-rate_ok-5.true))
 
-rate_ok_requires_6 : tie.Need-rate-ok-requires-6
+rate_ok_requires_6 : tie.Need-rate_ok-requires-6
 rate_ok_requires_6 c κs = search rules
 
-returns_6 : tie.Need-returns-6
+returns_6 : tie.Need-returns-then-not-rate_ok-6
 unfolding rate_tests
-returns_6 c = sym (left5 c.before.before ∙ fault_here (rates5 c.before.before) 5 (omega arith) (sym c.before.rate-ok6.ensures ∙ c.if6.true))
+returns_6 c = sym (left5 c.before.before.before ∙ fault_here (rates5 c.before.before.before) 5 (omega arith) (sym c.before.rate_ok-6.ensures ∙ c.if-not-rate_ok-6.true))
 
-rate_sum_requires : tie.Need-rate-sum-requires
+rate_sum_requires : tie.Need-rate_sum-requires
 rate_sum_requires c κs =
     let c4 = past4 (past5 c) in
     let c3 = past3 c4 in
     let c2 = past2 c3 in
     let c1 = past1 c2 in
-    (c1.before.before.pre, ok1 c1, ok2 c2, ok3 c3, ok4 c4)
+    (c1.requires, ok1 c1, ok2 c2, ok3 c3, ok4 c4)
 
 -- the sum, read back
-sum_is : (c : tie.After-rate-sum) → to_z w64 (of_z w64 c.rate_sum.result.0) ≡ rate_sum (rates6 c.before)
+sum_is : (c : tie.After-rate_sum) → to_z w64 (of_z w64 c.rate_sum.result.0) ≡ rate_sum (rates6 c.before)
 sum_is c =
     let e : to_z w64 (of_z w64 c.rate_sum.result.0) ≡ c.rate_sum.result.0 = search rules in e ∙ c.rate_sum.ensures
 
-below : (c : tie.Then7) → lt_z (rate_sum (rates6 c.before.before.before.before)) (pos 0) ≡ true
-below c = rw (sum_is c.before.before.before) at c.if7.true
+below : (c : tie.Then-rate_sum-lt0) → lt_z (rate_sum (rates6 c.before.before.before.before)) (pos 0) ≡ true
+below c = rw (sum_is c.before.before.before) at c.if-rate_sum-lt0.true
 
-not_below : (c : tie.Else7) → lt_z (rate_sum (rates6 c.before.before.before.before)) (pos 0) ≡ false
-not_below c = rw (sum_is c.before.before.before) at c.if7.false
+not_below : (c : tie.Else-rate_sum-lt0) → lt_z (rate_sum (rates6 c.before.before.before.before)) (pos 0) ≡ false
+not_below c = rw (sum_is c.before.before.before) at c.if-rate_sum-lt0.false
 
-returns_7 : tie.Need-returns-7
+returns_7 : tie.Need-returns-then-rate_sum-lt0
 unfolding rate_tests
 returns_7 c =
     let d = c.before.before.before.before in
     sym (left6 d ∙ fault_past (rates6 d) 6 (omega arith) (below c) ∙ fault_none (rates6 d))
 
-returns_8 : tie.Need-returns-8
+returns_8 : tie.Need-returns
 unfolding rate_tests
 returns_8 c = let d = c.before.before.before.before in sym (left6 d ∙ fault_here (rates6 d) 6 (omega arith) (not_below c))
 

@@ -24,12 +24,12 @@ small s =
 sum_is : (s : tie.Start) → to_z w64 (of_z w64 (to_z w64 (of_z w64 (het_snv_rate s.args.rates)) +ℤ to_z w64 (of_z w64 (het_indel_rate s.args.rates)))) ≡ het_snv_rate s.args.rates +ℤ het_indel_rate s.args.rates
 sum_is s = let h = small s in plus_read w64 (het_snv_rate s.args.rates) (het_indel_rate s.args.rates) (omega arith)
 
-add_t3 : tie.Need-overflow-add-t3
+add_t3 : tie.Need-overflow_add-rates
 add_t3 c =
     let s = c.before.before in
     let h = small s in plus_fits w64 (het_snv_rate s.args.rates) (het_indel_rate s.args.rates) (omega arith)
 
-one_minus_exp_requires : tie.Need-one-minus-exp-requires
+one_minus_exp_requires : tie.Need-one_minus_exp-requires
 one_minus_exp_requires c κs =
     let s = c.before.before in
     let r = s.args.rates in
@@ -40,7 +40,7 @@ one_minus_exp_requires c κs =
 returns : tie.Need-returns
 returns c =
     let s = c.before.before.before in
-    c.one-minus-exp.ensures ∙ ap one_minus_exp (sum_is s)
+    c.one_minus_exp.ensures ∙ ap one_minus_exp (sum_is s)
 
 pub reference_haploid_spec : {M : Type 1} → statement M
 reference_haploid_spec = tie.close (tie.spec add_t3 one_minus_exp_requires returns)

@@ -21,7 +21,7 @@ qual_read c = to_z_pos w64 (omega (arith, c.requires.0))
 small : (c : tie.Start) → nat_abs (pos c.args.gap -ℤ pos (262144 + c.args.qual)) < 2 ^ 63
 small c = omega (arith, minus_abs (pos c.args.gap) (pos (262144 + c.args.qual)), c.requires.0, c.requires.1)
 
-sub_t6 : tie.Need-overflow-sub-t6
+sub_t6 : tie.Need-overflow_sub-result
 sub_t6 c = rw (gap_read c, qual_read c) (sfits w64 _ (small c))
 
 returns : tie.Need-returns

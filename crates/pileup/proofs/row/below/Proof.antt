@@ -6,7 +6,7 @@ use Rattle.variants_and_fragments.proofs.Readings.{minus_fits, minus_back}
 use Rattle.pileup.proofs.row.below.Statement.{statement}
 use Rattle.pileup.proofs.row.below.Tie as tie
 
-sub_t3 : tie.Need-overflow-sub-t3
+sub_t3 : tie.Need-overflow_sub-result
 sub_t3 c = minus_fits c.args.debt (omega (arith, c.requires))
 
 returns : tie.Need-returns

@@ -13,24 +13,24 @@ use Rattle.pileup.proofs.Packing.{down_debt, minus_down}
 use Rattle.pileup.proofs.row.debt.Statement.{statement}
 use Rattle.pileup.proofs.row.debt.Tie as tie
 
-abbrev qual : tie.After-struct-told → ℤ
+abbrev qual : tie.After-struct_told-1 → ℤ
 qual c = c.before.before.args.qual.0
 
-low : (c : tie.After-struct-told) → debt_of (qual c) ≤ 262144
+low : (c : tie.After-struct_told-1) → debt_of (qual c) ≤ 262144
 low c = down_debt (qual c) c.before.before.requires
 
-minus : (c : tie.After-struct-told) → pos 0 -ℤ to_z w64 (of_z w64 (qual c)) ≡ pos (debt_of (qual c))
+minus : (c : tie.After-struct_told-1) → pos 0 -ℤ to_z w64 (of_z w64 (qual c)) ≡ pos (debt_of (qual c))
 minus c =
     let e : to_z w64 (of_z w64 (qual c)) ≡ qual c = search rules in
     rw e (minus_down (qual c) c.before.before.requires)
 
-sub_result : tie.Need-overflow-sub-result
+sub_result : tie.Need-overflow_sub-result
 sub_result c = rw (minus c) (record { sfits = omega (arith, low c) })
 
-back : (c : tie.After-struct-told) → to_z w64 (of_z w64 (pos 0 -ℤ to_z w64 (of_z w64 (qual c)))) ≡ pos (debt_of (qual c))
+back : (c : tie.After-struct_told-1) → to_z w64 (of_z w64 (pos 0 -ℤ to_z w64 (of_z w64 (qual c)))) ≡ pos (debt_of (qual c))
 back c = rw (minus c) (to_z_pos w64 (omega (arith, low c)))
 
-cast_result : tie.Need-overflow-cast-result
+cast_result : tie.Need-overflow_cast-result
 cast_result c = rw (back c) (tt, record { fits = omega (arith, low c) })
 
 returns : tie.Need-returns

@@ -8,7 +8,7 @@ use Rattle.pileup.proofs.row.pack.Tie as tie
 
 returns : tie.Need-returns
 unfolding packed
-returns c = rw (c.before.debt.ensures.0, c.debt2.ensures.0) refl
+returns c = rw (c.before.debt-qual.ensures.0, c.debt-other.ensures.0) refl
 
 pub pack_spec : {M : Type 1} → statement M
 pack_spec =

@@ -4,31 +4,31 @@ use Rattle.shuffle.specs.Orders.{swapped}
 use Rattle.shuffle.proofs.fisher_yates.swap.Statement.{statement}
 use Rattle.shuffle.proofs.fisher_yates.swap.Tie as tie
 
-mul_a : tie.Need-overflow-mul-a
+mul_a : tie.Need-offset_bounds-order-i
 mul_a c = search rules
 
-slice_read_a : tie.Need-slice-read-a
+slice_read_a : tie.Need-bounds-order-i
 slice_read_a c = search rules
 
-mul_b : tie.Need-overflow-mul-b
+mul_b : tie.Need-offset_bounds-order-j
 mul_b c = search rules
 
-slice_read_b : tie.Need-slice-read-b
+slice_read_b : tie.Need-bounds-order-j
 slice_read_b c = search rules
 
-mul_order : tie.Need-overflow-mul-order
+mul_order : tie.Need-offset_bounds-order-i-2
 mul_order c = search rules
 
-slice_write_order : tie.Need-slice-write-order
+slice_write_order : tie.Need-bounds-order-i-2
 slice_write_order c = search rules
 
-mul_order_2 : tie.Need-overflow-mul-order-2
+mul_order_2 : tie.Need-offset_bounds-order-j-2
 mul_order_2 c = search rules
 
-slice_write_order_2 : tie.Need-slice-write-order-2
+slice_write_order_2 : tie.Need-bounds-order-j-2
 slice_write_order_2 c = search rules
 
-same_length : tie.Need-same-length
+same_length : tie.Need-shape_of-order
 same_length c = search rules
 
 returns : tie.Need-returns

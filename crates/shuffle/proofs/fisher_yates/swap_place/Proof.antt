@@ -6,10 +6,10 @@ use Rattle.shuffle.proofs.fisher_yates.swap_place.Tie as tie
 mix_requires : tie.Need-mix-requires
 mix_requires c κs = search rules
 
-add_result : tie.Need-overflow-add-result
+add_result : tie.Need-overflow_add-result
 add_result c = search rules
 
-rem_result : tie.Need-nonzero-rem-result
+rem_result : tie.Need-nonzero_rem-result
 rem_result c = search rules
 
 returns : tie.Need-returns

@@ -6,46 +6,46 @@ use Rattle.shuffle.proofs.Ascending.{ascending_more, ascending_all}
 use Rattle.shuffle.proofs.fisher_yates.write_ascending.Statement.{statement}
 use Rattle.shuffle.proofs.fisher_yates.write_ascending.Tie as tie
 
-abbrev invariant_loop : tie.invariant_loop
+abbrev invariant_loop : tie.invariant-loop-i
 invariant_loop order₀ i₀ order i = (i ≤ length order₀) × (length order ≡ length order₀) × (order ≡ ascending i ++ drop i order₀)
 
-abbrev decreases_loop : tie.decreases_loop
+abbrev decreases_loop : tie.decreases-loop-i
 decreases_loop order₀ i₀ order i = length order₀ - i
 
-loop_holds : tie.Need-loop-init invariant_loop decreases_loop
+loop_holds : tie.Need-loop-i-init invariant_loop decreases_loop
 unfolding ascending
 loop_holds c = (zero-le, refl, refl)
 
-cast_order : tie.Need-overflow-cast-order invariant_loop decreases_loop
+cast_order : tie.Need-overflow_cast-order invariant_loop decreases_loop
 cast_order c = omega arith
 
-mul_order : tie.Need-overflow-mul-order invariant_loop decreases_loop
+mul_order : tie.Need-offset_bounds-order-i invariant_loop decreases_loop
 mul_order c = omega arith
 
-slice_write_order : tie.Need-slice-write-order invariant_loop decreases_loop
+slice_write_order : tie.Need-bounds-order-i invariant_loop decreases_loop
 slice_write_order c = omega arith
 
-add_i : tie.Need-overflow-add-i invariant_loop decreases_loop
+add_i : tie.Need-overflow_add-i invariant_loop decreases_loop
 add_i c = omega arith
 
-loop_less : tie.Need-loop-smaller invariant_loop decreases_loop
+loop_less : tie.Need-loop-i-smaller invariant_loop decreases_loop
 loop_less c = omega arith
 
-loop_again : tie.Need-loop-preserved invariant_loop decreases_loop
+loop_again : tie.Need-loop-i-preserved invariant_loop decreases_loop
 loop_again c =
     let l = c.before in
     let o = l.before.args.order.now in
-    (omega arith, length-set l.loop.order l.loop.i l.loop.i ∙ l.loop.invariant.1, ap (λ (t : List ℕ). set t l.loop.i l.loop.i) l.loop.invariant.2 ∙ ascending_more o l.loop.i (omega arith))
+    (omega arith, length-set l.loop-i.order l.loop-i.i l.loop-i.i ∙ l.loop-i.invariant.1, ap (λ (t : List ℕ). set t l.loop-i.i l.loop-i.i) l.loop-i.invariant.2 ∙ ascending_more o l.loop-i.i (omega arith))
 
-same_length : tie.Need-same-length invariant_loop decreases_loop
-same_length c = c.before.loop.invariant.1
+same_length : tie.Need-shape_of-order invariant_loop decreases_loop
+same_length c = c.before.loop-i.invariant.1
 
 returns : tie.Need-returns invariant_loop decreases_loop
 returns c =
     let l = c.before in
     let o = l.before.args.order.now in
-    let e : l.loop.i ≡ length o = omega arith in
-    l.loop.invariant.2 ∙ ap (λ (k : ℕ). ascending k ++ drop k o) e ∙ ascending_all o
+    let e : l.loop-i.i ≡ length o = omega arith in
+    l.loop-i.invariant.2 ∙ ap (λ (k : ℕ). ascending k ++ drop k o) e ∙ ascending_all o
 
 pub write_ascending_spec : {M : Type 1} → statement M
 write_ascending_spec =

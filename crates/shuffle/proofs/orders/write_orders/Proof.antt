@@ -7,78 +7,78 @@ use Rattle.shuffle.proofs.Slices.{order_end, part_length, write_start, write_mor
 use Rattle.shuffle.proofs.orders.write_orders.Statement.{statement}
 use Rattle.shuffle.proofs.orders.write_orders.Tie as tie
 
-abbrev invariant_loop : tie.invariant_loop
+abbrev invariant_loop : tie.invariant-loop-o
 invariant_loop orders₀ n m seed state₀ o₀ orders state o =
     (o ≤ m) × (length orders ≡ length orders₀) × (take (o * n) orders ++ orders_from n (m - o) state ≡ orders_from n m seed)
 
-abbrev decreases_loop : tie.decreases_loop
+abbrev decreases_loop : tie.decreases-loop-o
 decreases_loop orders₀ n m seed state₀ o₀ orders state o = m - o
 
 -- from a turn of the loop: the start, where order o begins, and how many entries are lent
-abbrev st : tie.In-loop invariant_loop decreases_loop → tie.Start invariant_loop decreases_loop
+abbrev st : tie.In-loop-o invariant_loop decreases_loop → tie.Start invariant_loop decreases_loop
 st c = c.before.before.before
 
-abbrev begins : tie.In-loop invariant_loop decreases_loop → ℕ
-begins c = c.before.loop.o * (st c).args.n
+abbrev begins : tie.In-loop-o invariant_loop decreases_loop → ℕ
+begins c = c.before.loop-o.o * (st c).args.n
 
-abbrev lent : tie.In-loop invariant_loop decreases_loop → ℕ
+abbrev lent : tie.In-loop-o invariant_loop decreases_loop → ℕ
 lent c = begins c + (st c).args.n - begins c
 
-filled : (c : tie.In-loop invariant_loop decreases_loop) → (st c).args.m * (st c).args.n ≡ length c.before.loop.orders
-filled c = (st c).requires.1 ∙ sym c.before.loop.invariant.1
+filled : (c : tie.In-loop-o invariant_loop decreases_loop) → (st c).args.m * (st c).args.n ≡ length c.before.loop-o.orders
+filled c = (st c).requires.1 ∙ sym c.before.loop-o.invariant.1
 
 -- order o ends within the slice
-ends : (c : tie.In-loop invariant_loop decreases_loop) → begins c + (st c).args.n ≤ length c.before.loop.orders
-ends c = order_end _ _ _ _ (filled c) c.loop-test.true
+ends : (c : tie.In-loop-o invariant_loop decreases_loop) → begins c + (st c).args.n ≤ length c.before.loop-o.orders
+ends c = order_end _ _ _ _ (filled c) c.loop-o-test.true
 
-lent_length : (c : tie.In-loop invariant_loop decreases_loop) → length (take (lent c) (drop (begins c) c.before.loop.orders)) ≡ (st c).args.n
-lent_length c = part_length _ _ _ _ (filled c) c.loop-test.true
+lent_length : (c : tie.In-loop-o invariant_loop decreases_loop) → length (take (lent c) (drop (begins c) c.before.loop-o.orders)) ≡ (st c).args.n
+lent_length c = part_length _ _ _ _ (filled c) c.loop-o-test.true
 
-loop_holds : tie.Need-loop-init invariant_loop decreases_loop
+loop_holds : tie.Need-loop-o-init invariant_loop decreases_loop
 loop_holds c = (omega arith, refl, write_start _ _ _ _)
 
-mul_start : tie.Need-overflow-mul-start invariant_loop decreases_loop
+mul_start : tie.Need-overflow_mul-start invariant_loop decreases_loop
 mul_start c = omega (arith, ends c)
 
-add_end : tie.Need-overflow-add-end invariant_loop decreases_loop
+add_end : tie.Need-overflow_add-end invariant_loop decreases_loop
 add_end c = omega (arith, ends c)
 
-add_o : tie.Need-overflow-add-o invariant_loop decreases_loop
+add_o : tie.Need-overflow_add-o invariant_loop decreases_loop
 add_o c = search rules
 
-mul_shuffle_order : tie.Need-overflow-mul-shuffle-order invariant_loop decreases_loop
-mul_shuffle_order c = omega (arith, ends c, (st c).well-formed)
+mul_shuffle_order : tie.Need-offset_bounds-orders-start invariant_loop decreases_loop
+mul_shuffle_order c = omega (arith, ends c, (st c).well_formed)
 
-sub_shuffle_order : tie.Need-overflow-sub-shuffle-order invariant_loop decreases_loop
+sub_shuffle_order : tie.Need-slice_bounds-shuffle_order-count invariant_loop decreases_loop
 sub_shuffle_order c = search rules
 
-part_shuffle_order_start : tie.Need-slice-bounds-shuffle-order-start invariant_loop decreases_loop
+part_shuffle_order_start : tie.Need-slice_bounds-shuffle_order-start invariant_loop decreases_loop
 part_shuffle_order_start c = search rules
 
-part_shuffle_order_end : tie.Need-slice-bounds-shuffle-order-end invariant_loop decreases_loop
+part_shuffle_order_end : tie.Need-slice_bounds-shuffle_order-end invariant_loop decreases_loop
 part_shuffle_order_end c = omega (arith, ends c)
 
-shuffle_order_requires : tie.Need-shuffle-order-requires invariant_loop decreases_loop
+shuffle_order_requires : tie.Need-shuffle_order-state-requires invariant_loop decreases_loop
 shuffle_order_requires c κs = omega (arith, lent_length c.before)
 
-loop_less : tie.Need-loop-smaller invariant_loop decreases_loop
+loop_less : tie.Need-loop-o-smaller invariant_loop decreases_loop
 loop_less c = search rules
 
-loop_again : tie.Need-loop-preserved invariant_loop decreases_loop
+loop_again : tie.Need-loop-o-preserved invariant_loop decreases_loop
 loop_again c =
     let turn = c.before.before.before.before in
-    let l = turn.before.loop in
-    let d = c.before.before.shuffle-order in (
+    let l = turn.before.loop-o in
+    let d = c.before.before.shuffle_order-state in (
       omega arith,
-      same_len_mid (begins turn) (lent turn) l.orders d.new.0 d.auto.0 ∙ l.invariant.1,
-      write_more _ _ _ _ _ _ _ (filled turn) turn.loop-test.true _ d.ensures.0 d.ensures.1 l.invariant.2,
+      same_len_mid (begins turn) (lent turn) l.orders d.new.order d.auto.order ∙ l.invariant.1,
+      write_more _ _ _ _ _ _ _ (filled turn) turn.loop-o-test.true _ d.ensures.0 d.ensures.1 l.invariant.2,
     )
 
-same_length : tie.Need-same-length invariant_loop decreases_loop
+same_length : tie.Need-shape_of-orders invariant_loop decreases_loop
 same_length c = search rules
 
 returns : tie.Need-returns invariant_loop decreases_loop
-returns c = write_end _ _ _ _ _ _ (c.before.before.before.requires.1 ∙ sym c.before.loop.invariant.1) (omega arith) c.before.loop.invariant.2
+returns c = write_end _ _ _ _ _ _ (c.before.before.before.requires.1 ∙ sym c.before.loop-o.invariant.1) (omega arith) c.before.loop-o.invariant.2
 
 pub write_orders_spec : {M : Type 1} → statement M
 write_orders_spec =
