@@ -1,5 +1,6 @@
 // The program: reads requests on standard input and writes an answer to each on standard output.
 #![tactic(auto)]
+
 mod answers;
 mod arrays;
 mod check;
