@@ -1,4 +1,5 @@
-// The program: reads requests on standard input and writes an answer to each on standard output.
+// The program: reads requests on standard input and writes an answer to each on standard output. It ends with an error where a
+// read or a write failed.
 #![tactic(auto)]
 
 mod answers;
@@ -16,11 +17,14 @@ mod requests;
 mod run;
 
 use protocol::{Sink, Source};
+use std::io;
 
-fn main(rt: HostRuntime) {
+fn main(rt: HostRuntime) -> io::Result<()> {
     let mut input = Source::new(rt.stdin());
     let mut output = Sink::new(rt.stdout());
     let mut words = arrays::words();
     let mut bases = arrays::bases();
     requests::answer_all(&mut input, &mut output, &mut words, &mut bases);
+    input.finish()?;
+    output.finish()
 }

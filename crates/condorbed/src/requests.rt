@@ -82,11 +82,11 @@ fn named(word: u64) -> Asked
     }
 }
 
-// The answer to every request of the input. A proved loop has to end: at most 2^64 − 1 requests.
+// The answer to every request of the input, until a write fails. A proved loop has to end: at most 2^64 − 1 requests.
 pub fn answer_all(input: &mut Source, output: &mut Sink, words: &mut [i32], bases: &mut [u8]) {
     let mut reader = Reader::new();
     let mut left: u64 = 18446744073709551615;
-    while reader.ok {
+    while reader.ok & output.is_whole() {
         if left == 0 {
             break;
         }
