@@ -11,7 +11,7 @@ use lib.IntN.{ℤ}
 use lib.ListN.{length}
 use Rattle.steps.proofs.Signed.{by_test}
 use Rattle.genotype_probs.specs.declared.letters.Compared.{Compared}
-use Rattle.genotype_probs.specs.Letters.{base, D, I, base_number, letter_number, same_letter}
+use Rattle.genotype_probs.specs.Letters.{D, I, base_number, letter_number, same_letter}
 use Rattle.genotype_probs.specs.Priors.{base_at, first_letter, stop_at, Comparison, compared}
 use Rattle.genotype_probs.specs.Inner.PriorTable.{numbered_base, numbered, table_value, lookup}
 use Rattle.genotype_probs.proofs.Numbers.{base_low, letter_low, base_there, base_back}

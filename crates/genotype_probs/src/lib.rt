@@ -1,5 +1,6 @@
 // Priors and posteriors of genotypes, and the qualities of a call: document 01, sections 3, 4 (as amended by request 4) and 7.
 #![tactic(auto)]
+
 ghost use Rattle.std.specs.Prelude.{◌≡◌};
 ghost use Rattle.variants_and_fragments.specs.Refusals.{done, outcome_of};
 ghost use Rattle.variants_and_fragments.specs.Check.{check_case_outcome};

@@ -1,5 +1,4 @@
-// Reading a fragment's chain, one call at a time. `ChainReader` holds a reference, so `new`, `next` and `read_call` are
-// proved by walks of their MIR, by hand; `read_record`, which does the work, and whoever calls `read_call` are covered.
+// Reading a fragment's chain, one call at a time: `ChainReader` holds the lent words and where it stands; `read_record` does the work.
 ghost use Rattle.std.specs.Prelude.{◌≡◌, ◌≤◌};
 ghost use Rattle.variants_and_fragments.specs.Inner.Layout.{Sized};
 ghost use Rattle.pileup.specs.Inner.Reader.{read_at, step_at, reader_at, moved_on};
@@ -58,7 +57,7 @@ impl<'a> ChainReader<'a> {
     }
 }
 
-// The step from record r, by a reader. Its parameters are plain, so whoever calls it needs no walk by hand.
+// The step from record r, by a reader. Its parameters are plain.
 pub fn read_call(words: &[i32], s: Sizes, r: usize) -> CallStep
     requires { Sized words.now s × (r ≤ s.c) }
     ensures { result ≡ step_at words.now s r }

@@ -71,7 +71,7 @@ module _ (C : SweepCase) (g : GoodSweepCase C) (o : ℕ → List ℕ) (ok : (s :
           record {
             good = b.good;
             mono = omega (zlin, b.mono, sw.mono);
-            measure = omega (zlin, r.one_more, ap (phased_total C) r.same_haps, ap (places C) r.same_haps, total_cong C h h' q.agree, places_cong C h h' q.agree);
+            measure = omega (zlin, r.one_more, ap (phased_total C) r.same_haps_lem, ap (places C) r.same_haps_lem, total_cong C h h' q.agree, places_cong C h h' q.agree);
           }
 
   -- (c)

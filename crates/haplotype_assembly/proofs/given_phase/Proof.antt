@@ -21,25 +21,25 @@ use Rattle.haplotype_assembly.proofs.given_phase.Statement.{statement}
 use Rattle.haplotype_assembly.proofs.given_phase.Tie as tie
 
 -- ---- the start, the sizes and the places past the tests
-abbrev st : tie.After-checked2 → tie.Start
+abbrev st : tie.In-Accepted-2 → tie.Start
 st c = c.before.before.before.before.before.before.before.before
 
-abbrev sizes : tie.After-checked2 → Sizes
-sizes c = c.checked2.given.0.0
+abbrev sizes : tie.In-Accepted-2 → Sizes
+sizes c = c.checked-in-Accepted-1.given.0.0
 
-abbrev from1 : tie.Else1 → tie.After-checked2
+abbrev from1 : tie.Else-fault-n → tie.In-Accepted-2
 from1 c = c.before.before.before
 
-abbrev from2 : tie.Else2 → tie.Else1
+abbrev from2 : tie.Else-short-ne0 → tie.Else-fault-n
 from2 c = c.before.before
 
-checked : (c : tie.After-checked2) → outcome_of (Accepted (sizes c)) ≡ check_case_outcome (st c).args.words.now (st c).args.bases.now
-checked c = ap outcome_of (sym c.checked2.given.1) ∙ c.before.before.check-case.ensures
+checked : (c : tie.In-Accepted-2) → outcome_of (Accepted (sizes c)) ≡ check_case_outcome (st c).args.words.now (st c).args.bases.now
+checked c = ap outcome_of (sym c.checked-in-Accepted-1.given.1) ∙ c.before.before.check_case-checked.ensures
 
-accepted : (c : tie.After-checked2) → check_case_outcome (st c).args.words.now (st c).args.bases.now ≡ done (sizes c)
+accepted : (c : tie.In-Accepted-2) → check_case_outcome (st c).args.words.now (st c).args.bases.now ≡ done (sizes c)
 accepted c = is_done _ _ _ (checked c)
 
-inside : (c : tie.After-checked2) → CaseIn (st c).args.words.now (sizes c)
+inside : (c : tie.In-Accepted-2) → CaseIn (st c).args.words.now (sizes c)
 inside c = accepted_in _ _ _ (accepted c)
 
 -- ---- the outcome, and what is left of it past the case and past 7
@@ -49,66 +49,66 @@ lent c = phase_slices c.args.haplotypes.now c.args.phased.now c.args.names.now
 abbrev outcome : tie.Start → Outcome Unit
 outcome c = given_phase_outcome c.args.words.now c.args.bases.now c.args.phase.now c.args.sets.now (lent c)
 
-abbrev slices : tie.After-checked2 → List (ℕ × ℕ)
+abbrev slices : tie.In-Accepted-2 → List (ℕ × ℕ)
 slices c = (2 * (sizes c).n, length (st c).args.haplotypes.now) ∷ ((sizes c).n, length (st c).args.phased.now) ∷ ((sizes c).n, length (st c).args.names.now) ∷ []
 
-past_case : (c : tie.After-checked2) → phase_tests (sizes c).n (st c).args.phase.now (st c).args.sets.now (long_enough (slices c) (done tt)) ≡ outcome (st c)
+past_case : (c : tie.In-Accepted-2) → phase_tests (sizes c).n (st c).args.phase.now (st c).args.sets.now (long_enough (slices c) (done tt)) ≡ outcome (st c)
 unfolding given_phase_outcome
 past_case c = case_past _ _ _ _ (checked c)
 
-clean : (c : tie.Else1) → (sizes (from1 c)).n < phase_fault (sizes (from1 c)).n (st (from1 c)).args.phase.now (st (from1 c)).args.sets.now
-clean c = rw c.before.phase-fault.ensures at c.if1.false
+clean : (c : tie.Else-fault-n) → (sizes (from1 c)).n < phase_fault (sizes (from1 c)).n (st (from1 c)).args.phase.now (st (from1 c)).args.sets.now
+clean c = rw c.before.phase_fault-fault.ensures at c.if-fault-n.false
 
-right : (c : tie.Else1) → Faultless (sizes (from1 c)).n (st (from1 c)).args.phase.now (st (from1 c)).args.sets.now
+right : (c : tie.Else-fault-n) → Faultless (sizes (from1 c)).n (st (from1 c)).args.phase.now (st (from1 c)).args.sets.now
 right c = faultless _ _ _ (clean c)
 
-past_phase : (c : tie.Else1) → long_enough (slices (from1 c)) (done tt) ≡ outcome (st (from1 c))
+past_phase : (c : tie.Else-fault-n) → long_enough (slices (from1 c)) (done tt) ≡ outcome (st (from1 c))
 past_phase c = phase_on _ _ _ _ (clean c) ∙ past_case (from1 c)
 
 -- no slice is too short
-none_short : (c : tie.Else2) → smallest_short (slices (from1 (from2 c))) ≡ 0
-none_short c = sym c.before.phase-short.ensures ∙ c.if2.false
+none_short : (c : tie.Else-short-ne0) → smallest_short (slices (from1 (from2 c))) ≡ 0
+none_short c = sym c.before.phase_short-short.ensures ∙ c.if-short-ne0.false
 
 -- what is written before the names
-abbrev wrote : tie.After-name-sets-arg → tie.After-write-phase
+abbrev wrote : tie.After-name_sets-arg-1 → tie.After-write_phase
 wrote c = c.before.before.before.before.before
 
-abbrev fits : tie.After-write-phase → tie.Else2
+abbrev fits : tie.After-write_phase → tie.Else-short-ne0
 fits c = c.before.before.before
 
-check_case_requires : tie.Need-check-case-requires
+check_case_requires : tie.Need-check_case-checked-requires
 check_case_requires c κs = search rules
 
-enum_known_checked : tie.Need-enum-known-checked
+enum_known_checked : tie.Need-enum_known-checked
 enum_known_checked c = search rules
 
-enum_known_checked_2 : tie.Need-enum-known-checked-2
+enum_known_checked_2 : tie.Need-enum_known-checked-in-Accepted-1
 enum_known_checked_2 c = search rules
 
-phase_fault_requires : tie.Need-phase-fault-requires
+phase_fault_requires : tie.Need-phase_fault-fault-requires
 phase_fault_requires c κs = (inside c.before).sized.n_top
 
-returns : tie.Need-returns
+returns : tie.Need-returns-then-fault-n
 returns c =
-    let p = c.before.phase-fault.ensures in
-    refuses _ (ap (refused 7) p ∙ phase_at _ _ _ _ (rw p at c.if1.true) ∙ past_case c.before.before.before)
+    let p = c.before.phase_fault-fault.ensures in
+    refuses _ (ap (refused 7) p ∙ phase_at _ _ _ _ (rw p at c.if-fault-n.true) ∙ past_case c.before.before.before)
 
-phase_short_requires : tie.Need-phase-short-requires
+phase_short_requires : tie.Need-phase_short-short-requires
 phase_short_requires c κs = (inside (from1 c)).sized.n_top
 
-returns_2 : tie.Need-returns-2
+returns_2 : tie.Need-returns-then-short-ne0
 returns_2 c =
     let e1 = c.before.before in
-    let p = c.before.phase-short.ensures in
-    refuses _ (ap (refused 10) p ∙ enough_at (slices (from1 e1)) (done tt) (λ z. c.if2.true (p ∙ z)) ∙ past_phase e1)
+    let p = c.before.phase_short-short.ensures in
+    refuses _ (ap (refused 10) p ∙ enough_at (slices (from1 e1)) (done tt) (λ z. c.if-short-ne0.true (p ∙ z)) ∙ past_phase e1)
 
-write_phase_requires : tie.Need-write-phase-requires
+write_phase_requires : tie.Need-write_phase-requires
 write_phase_requires c κs =
     let e2 = c.before.before in
     let h = short_fits _ _ _ (none_short e2) in
     (inside (from1 (from2 e2)), (omega (arith, (right (from2 e2)).bytes_long), (h.0, (short_fits _ _ _ h.1).0)))
 
-name_sets_requires : tie.Need-name-sets-requires
+name_sets_requires : tie.Need-name_sets-requires
 name_sets_requires c κs =
     let e2 = fits (wrote c) in
     let h = short_fits _ _ _ (none_short e2) in
@@ -116,27 +116,27 @@ name_sets_requires c κs =
     let f = right (from2 e2) in
     (inside (from1 (from2 e2)), ((omega (arith, f.bytes_long), (omega (arith, f.sets_long), (short_fits _ _ _ p.1).0)), f.sets_ok))
 
-returns_3 : tie.Need-returns-3
+returns_3 : tie.Need-returns-in-Refused
 unfolding given_phase_outcome
-returns_3 c = refuses _ (case_stops _ _ _ _ (ap outcome_of (sym c.before.checked.given.1) ∙ c.before.before.before.check-case.ensures))
+returns_3 c = refuses _ (case_stops _ _ _ _ (ap outcome_of (sym c.before.checked-1.given.1) ∙ c.before.before.before.check_case-checked.ensures))
 
-same_length : tie.Need-same-length
+same_length : tie.Need-shape_of-haplotypes
 same_length c = search rules
 
-same_length_2 : tie.Need-same-length-2
+same_length_2 : tie.Need-shape_of-phased
 same_length_2 c = search rules
 
-same_length_3 : tie.Need-same-length-3
+same_length_3 : tie.Need-shape_of-names
 same_length_3 c = search rules
 
-returns_4 : tie.Need-returns-4
+returns_4 : tie.Need-returns-else-short-ne0
 returns_4 c =
     let named = c.before.before in
     let w = wrote named.before in
     let e2 = fits w in
     does
     (enough_on (slices (from1 (from2 e2))) (done tt) (none_short e2) ∙ past_phase (from2 e2))
-    (phase_written _ _ _ (accepted (from1 (from2 e2))) _ _ (lent (st (from1 (from2 e2)))) _ _ _ w.write-phase.ensures.0 w.write-phase.ensures.1 named.name-sets.ensures)
+    (phase_written _ _ _ (accepted (from1 (from2 e2))) _ _ (lent (st (from1 (from2 e2)))) _ _ _ w.write_phase.ensures.0 w.write_phase.ensures.1 named.name_sets.ensures)
 
 pub given_phase_spec : {M : Type 1} → statement M
 given_phase_spec =

@@ -19,128 +19,128 @@ use Rattle.no_haplotypes.proofs.call_variant.Statement.{statement}
 use Rattle.no_haplotypes.proofs.call_variant.Tie as tie
 
 -- ---- the places, each from the one before it
-abbrev st : tie.After-write-posteriors → tie.Start
+abbrev st : tie.After-write_posteriors → tie.Start
 st y = y.before.before.before.before.before.before
 
-abbrev v_of : tie.After-write-posteriors → ℕ
+abbrev v_of : tie.After-write_posteriors → ℕ
 v_of y = (st y).args.v
 
-abbrev k_of : tie.After-write-posteriors → ℕ
+abbrev k_of : tie.After-write_posteriors → ℕ
 k_of y = allele_count_at (st y).args.words.now (v_of y)
 
-abbrev held : (y : tie.After-write-posteriors) → PileHeld (st y).args.words.now (st y).args.s (st y).args.piles.now (v_of y) (st y).args.pile
+abbrev held : (y : tie.After-write_posteriors) → PileHeld (st y).args.words.now (st y).args.s (st y).args.piles.now (v_of y) (st y).args.pile
 held y = (st y).requires.0.1
 
-abbrev made : tie.After-max-genotype → tie.After-write-posteriors
+abbrev made : tie.After-max_genotype-p → tie.After-write_posteriors
 made r = r.before.before.before.before
 
-abbrev maximum : tie.After-qual-of → tie.After-max-genotype
+abbrev maximum : tie.After-qual_of → tie.After-max_genotype-p
 maximum q = q.before.before
 
-abbrev gq_from : tie.After-gq-of → tie.After-qual-of
+abbrev gq_from : tie.After-gq_of → tie.After-qual_of
 gq_from g = g.before.before
 
 -- ---- the posteriors
-write_posteriors_requires : tie.Need-write-posteriors-requires
+write_posteriors_requires : tie.Need-write_posteriors-requires
 write_posteriors_requires c κs = search rules
 
-mul_at : tie.Need-overflow-mul-at
+mul_at : tie.Need-overflow_mul-at
 mul_at c = search rules
 
-allele_count_requires : tie.Need-allele-count-requires
+allele_count_requires : tie.Need-allele_count-k-requires
 allele_count_requires c κs = search rules
 
 -- its nine places afterwards
-abbrev after : tie.After-write-posteriors → List ℤ
-after y = y.write-posteriors.new.1.1.1.1.1.1.0
+abbrev after : tie.After-write_posteriors → List ℤ
+after y = y.write_posteriors.new.post
 
-room : (y : tie.After-write-posteriors) → 9 * v_of y + 9 ≤ length (after y)
+room : (y : tie.After-write_posteriors) → 9 * v_of y + 9 ≤ length (after y)
 room y = omega (arith, (st y).requires.0.2.room)
 
-table : (y : tie.After-write-posteriors) → TableAt (after y) (9 * v_of y) (k_of y)
-table y = made_table (held y) y.write-posteriors.ensures (room y)
+table : (y : tie.After-write_posteriors) → TableAt (after y) (9 * v_of y) (k_of y)
+table y = made_table (held y) y.write_posteriors.ensures (room y)
 
-max_genotype_requires : tie.Need-max-genotype-requires
+max_genotype_requires : tie.Need-max_genotype-p-requires
 max_genotype_requires c κs =
     let y = c.before.before.before in
-    ((st y).requires.0.0, rw c.before.allele-count.ensures (table y))
+    ((st y).requires.0.0, rw c.before.allele_count-k.ensures (table y))
 
 -- the called pair
-called : (r : tie.After-max-genotype) → r.max-genotype.result ≡ max_genotype false (drop (9 * v_of (made r)) (after (made r))) (k_of (made r))
-called r = rw r.before.before.allele-count.ensures at r.max-genotype.ensures
+called : (r : tie.After-max_genotype-p) → r.max_genotype-p.result ≡ max_genotype false (drop (9 * v_of (made r)) (after (made r))) (k_of (made r))
+called r = rw r.before.before.allele_count-k.ensures at r.max_genotype-p.ensures
 
-inside : (r : tie.After-max-genotype) → r.max-genotype.result < k_of (made r) * k_of (made r)
+inside : (r : tie.After-max_genotype-p) → r.max_genotype-p.result < k_of (made r) * k_of (made r)
 inside r = omega (arith, called r, (genotype_maximum false (drop (9 * v_of (made r)) (after (made r))) (k_of (made r)) (table (made r)).k_low).inside)
 
 -- ---- the qualities
-qual_of_requires : tie.Need-qual-of-requires
+qual_of_requires : tie.Need-qual_of-requires
 qual_of_requires c κs = first_small (table (made c.before))
 
-index_fits : (y : tie.After-write-posteriors) → v_of y < 1024
+index_fits : (y : tie.After-write_posteriors) → v_of y < 1024
 index_fits y = omega (arith, (held y).case_in.sized.n_top, (held y).variant_in)
 
-mul_quals : tie.Need-overflow-mul-quals
+mul_quals : tie.Need-offset_bounds-quals-v
 mul_quals c = omega (arith, index_fits (made (maximum c)))
 
-slice_write_quals : tie.Need-slice-write-quals
+slice_write_quals : tie.Need-bounds-quals-v
 slice_write_quals c = search rules
 
-gq_of_requires : tie.Need-gq-of-requires
+gq_of_requires : tie.Need-gq_of-requires
 gq_of_requires c κs =
     let r = maximum c.before in
-    rw r.before.before.allele-count.ensures ((st (made r)).requires.0.0, table (made r), omega (arith, inside r))
+    rw r.before.before.allele_count-k.ensures ((st (made r)).requires.0.0, table (made r), omega (arith, inside r))
 
-mul_gqs : tie.Need-overflow-mul-gqs
+mul_gqs : tie.Need-offset_bounds-gqs-v
 mul_gqs c = omega (arith, index_fits (made (maximum (gq_from c))))
 
-slice_write_gqs : tie.Need-slice-write-gqs
+slice_write_gqs : tie.Need-bounds-gqs-v
 slice_write_gqs c = (st (made (maximum (gq_from c)))).requires.1.2
 
 -- ---- the words
-sub_depth_after : tie.Need-overflow-sub-depth-after
+sub_depth_after : tie.Need-overflow_sub-pile
 sub_depth_after c = (held (made (maximum (gq_from c.before)))).pile_in.rises
 
-few_calls : (y : tie.After-write-posteriors) → (st y).args.pile.end + (st y).args.pile.ambiguous ≤ 32768
+few_calls : (y : tie.After-write_posteriors) → (st y).args.pile.end + (st y).args.pile.ambiguous ≤ 32768
 few_calls y = omega (arith, (held y).pile_in.rows_in.few, (held y).ambiguous_few)
 
-add_depth_after : tie.Need-overflow-add-depth-after
+add_depth_after : tie.Need-overflow_add-pile
 add_depth_after c = let y = made (maximum (gq_from c.before.before)) in omega (arith, few_calls y)
 
-depth_after_requires : tie.Need-depth-after-requires
+depth_after_requires : tie.Need-depth_after-depth-requires
 depth_after_requires c κs =
     let y = made (maximum (gq_from c.before.before)) in
     ((held y).case_in, (held y).variant_in, omega (arith, few_calls y))
 
 -- the genotype and the depth, from the words
-abbrev paired : tie.After-write-answer-arg → tie.After-genotype-of
+abbrev paired : tie.After-write_answer-arg-1 → tie.After-genotype_of-g
 paired c = c.before.before
 
-abbrev deep : tie.After-write-answer-arg → tie.After-depth-after
+abbrev deep : tie.After-write_answer-arg-1 → tie.After-depth_after-depth
 deep c = (paired c).before
 
-abbrev gq_before : tie.After-depth-after → tie.After-gq-of
+abbrev gq_before : tie.After-depth_after-depth → tie.After-gq_of
 gq_before d = d.before.before.before
 
-genotype_of_requires : tie.Need-genotype-of-requires
+genotype_of_requires : tie.Need-genotype_of-g-requires
 genotype_of_requires c κs =
     let r = maximum (gq_from (gq_before c)) in
-    rw r.before.before.allele-count.ensures ((table (made r)).k_low, (table (made r)).k_high, inside r)
+    rw r.before.before.allele_count-k.ensures ((table (made r)).k_low, (table (made r)).k_high, inside r)
 
-write_answer_requires : tie.Need-write-answer-requires
+write_answer_requires : tie.Need-write_answer-requires
 write_answer_requires c κs =
     let y = made (maximum (gq_from (gq_before (deep c)))) in
-    (record { counts_in = y.write-posteriors.ensures.counts_in; ambiguous_few = (held y).ambiguous_few; depth_top = (deep c).depth-after.ensures.1 }, index_fits y, (st y).pre.1.0)
+    (record { counts_in = y.write_posteriors.ensures.counts_in; ambiguous_few = (held y).ambiguous_few; depth_top = (deep c).depth_after-depth.ensures.1 }, index_fits y, (st y).requires.1.0)
 
-same_length : tie.Need-same-length
+same_length : tie.Need-shape_of-post
 same_length c = search rules
 
-same_length_2 : tie.Need-same-length-2
+same_length_2 : tie.Need-shape_of-variants
 same_length_2 c = search rules
 
-same_length_3 : tie.Need-same-length-3
+same_length_3 : tie.Need-shape_of-quals
 same_length_3 c = search rules
 
-same_length_4 : tie.Need-same-length-4
+same_length_4 : tie.Need-shape_of-gqs
 same_length_4 c = search rules
 
 returns : tie.Need-returns
@@ -151,11 +151,11 @@ returns c =
     let q = gq_from g in
     let r = maximum q in
     let y = made r in
-    let p = r.max-genotype.result in
-    let k = r.before.before.allele-count.ensures in
-    variant_called (held y) y.write-posteriors.ensures (room y) p _ _ _ _ (called r)
-    ((paired a.before).genotype-of.ensures ∙ ap (λ (k : ℕ). genotype_of k p) k) d.depth-after.ensures.0 a.write-answer.ensures
-    q.qual-of.ensures (g.gq-of.ensures ∙ ap (λ (k : ℕ). gq_of (drop (9 * v_of y) (after y)) k p) k)
+    let p = r.max_genotype-p.result in
+    let k = r.before.before.allele_count-k.ensures in
+    variant_called (held y) y.write_posteriors.ensures (room y) p _ _ _ _ (called r)
+    ((paired a.before).genotype_of-g.ensures ∙ ap (λ (k : ℕ). genotype_of k p) k) d.depth_after-depth.ensures.0 a.write_answer.ensures
+    q.qual_of.ensures (g.gq_of.ensures ∙ ap (λ (k : ℕ). gq_of (drop (9 * v_of y) (after y)) k p) k)
 
 pub call_variant_spec : {M : Type 1} → statement M
 call_variant_spec =

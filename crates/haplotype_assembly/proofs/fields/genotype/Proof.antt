@@ -6,11 +6,11 @@ use Rattle.haplotype_assembly.proofs.Ranges.{genotype_top}
 use Rattle.haplotype_assembly.proofs.fields.genotype.Statement.{statement}
 use Rattle.haplotype_assembly.proofs.fields.genotype.Tie as tie
 
-genotype_of_requires : tie.Need-genotype-of-requires
+genotype_of_requires : tie.Need-genotype_of-requires
 genotype_of_requires c κs = (c.requires.0.sized, c.requires.1.0, c.requires.1.1)
 
-cast_result : tie.Need-overflow-cast-result
-cast_result c = record { fits = omega (arith, c.genotype-of.ensures, genotype_top c.before.requires.0 c.before.args.v c.before.args.i c.before.requires.1.0 c.before.requires.1.1) }
+cast_result : tie.Need-overflow_cast-result
+cast_result c = record { fits = omega (arith, c.genotype_of.ensures, genotype_top c.before.requires.0 c.before.args.v c.before.args.i c.before.requires.1.0 c.before.requires.1.1) }
 
 returns : tie.Need-returns
 returns c = search rules

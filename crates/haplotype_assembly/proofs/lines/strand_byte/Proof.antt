@@ -6,13 +6,13 @@ use Rattle.haplotype_assembly.specs.Lines.{strand_byte}
 use Rattle.haplotype_assembly.proofs.lines.strand_byte.Statement.{statement}
 use Rattle.haplotype_assembly.proofs.lines.strand_byte.Tie as tie
 
-returns : tie.Need-returns
+returns : tie.Need-returns-then-direction_of-eq0
 unfolding strand_byte
-returns c = simp (← c.before.direction-of.ensures, eq-eqb _ _ c.if1.true)
+returns c = simp (← c.before.direction_of.ensures, eq-eqb _ _ c.if-direction_of-eq0.true)
 
-returns_2 : tie.Need-returns-2
+returns_2 : tie.Need-returns
 unfolding strand_byte
-returns_2 c = simp (← c.before.direction-of.ensures, ne_eqb _ _ c.if1.false)
+returns_2 c = simp (← c.before.direction_of.ensures, ne_eqb _ _ c.if-direction_of-eq0.false)
 
 pub strand_byte_spec : {M : Type 1} → statement M
 strand_byte_spec = tie.close (tie.spec (λ c κs. search rules) returns returns_2)

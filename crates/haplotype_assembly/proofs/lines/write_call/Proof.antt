@@ -14,34 +14,34 @@ use Rattle.haplotype_assembly.proofs.lines.write_call.Tie as tie
 fits : (c : tie.Start) → c.args.at + (length (block_start c.args.next c.args.v) + 1) ≤ length c.args.buffer.now
 fits c = omega (arith, c.requires.1, length-append (block_start c.args.next c.args.v) (digit c.args.allele ∷ []))
 
-abbrev opened : tie.After-slice-known2 → tie.After-open-block
+abbrev opened : tie.After-slice_known-2-1 → tie.After-open_block-start
 opened c = c.before.before
 
-abbrev st : tie.After-slice-known2 → tie.Start
+abbrev st : tie.After-slice_known-2-1 → tie.Start
 st c = (opened c).before.before.before
 
-open_block_requires : tie.Need-open-block-requires
+open_block_requires : tie.Need-open_block-start-requires
 open_block_requires c κs = (c.before.before.requires.0.0, omega (arith, fits c.before.before))
 
-cast_buffer : tie.Need-overflow-cast-buffer
+cast_buffer : tie.Need-overflow_cast-buffer
 cast_buffer c = search rules
 
-add_buffer : tie.Need-overflow-add-buffer
+add_buffer : tie.Need-overflow_add-buffer
 add_buffer c = search rules
 
-slice_write_buffer : tie.Need-slice-write-buffer
-slice_write_buffer c = let p = (opened c).open_block.ensures in
+slice_write_buffer : tie.Need-bounds-buffer-start
+slice_write_buffer c = let p = (opened c).open_block-start.ensures in
     omega (arith, fits (st c), p.end_is, put_length p)
 
-add_result : tie.Need-overflow-add-result
-add_result c = let p = (opened c).open_block.ensures in
+add_result : tie.Need-overflow_add-result
+add_result c = let p = (opened c).open_block-start.ensures in
     omega (arith, fits (st c), p.end_is)
 
-same_length : tie.Need-same-length
+same_length : tie.Need-shape_of-buffer
 same_length c = search rules
 
 returns : tie.Need-returns
-returns c = put_on (opened c).open_block.ensures (put_one _ _ _)
+returns c = put_on (opened c).open_block-start.ensures (put_one _ _ _)
 
 pub write_call_spec : {M : Type 1} → statement M
 write_call_spec =

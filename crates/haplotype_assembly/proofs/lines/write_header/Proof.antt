@@ -11,59 +11,59 @@ use Rattle.haplotype_assembly.proofs.Stores.{put_end, put_one, put_on, put_lengt
 use Rattle.haplotype_assembly.proofs.lines.write_header.Statement.{statement}
 use Rattle.haplotype_assembly.proofs.lines.write_header.Tie as tie
 
-abbrev st : tie.After-write-number → tie.Start
+abbrev st : tie.After-write_number-end → tie.Start
 st c = c.before.before.before
 
-abbrev one : tie.After-slice-known3 → tie.After-write-number
+abbrev one : tie.After-slice_known-3-1 → tie.After-write_number-end
 one c = c.before.before.before.before.before.before
 
-write_number_requires : tie.Need-write-number-requires
+write_number_requires : tie.Need-write_number-end-requires
 write_number_requires c κs = omega (arith, header_length c.before.before.args.head)
 
-slice_write_buffer : tie.Need-slice-write-buffer
+slice_write_buffer : tie.Need-bounds-buffer-end
 slice_write_buffer c = let n = c.before.before in
-    omega (arith, n.write-number.ensures.end_is, put_length n.write-number.ensures, header_length (st n).args.head)
+    omega (arith, n.write_number-end.ensures.end_is, put_length n.write_number-end.ensures, header_length (st n).args.head)
 
-add_write_number : tie.Need-overflow-add-write-number
+add_write_number : tie.Need-overflow_add-end
 add_write_number c = let n = c.before.before.before in
-    omega (arith, n.write-number.ensures.end_is, header_length (st n).args.head)
+    omega (arith, n.write_number-end.ensures.end_is, header_length (st n).args.head)
 
-write_number_requires_2 : tie.Need-write-number-requires-2
+write_number_requires_2 : tie.Need-write_number-end2-requires
 write_number_requires_2 c κs = let n = c.before.before.before in
-    simp length-set (omega (arith, n.write-number.ensures.end_is, put_length n.write-number.ensures, header_length (st n).args.head))
+    simp length-set (omega (arith, n.write_number-end.ensures.end_is, put_length n.write_number-end.ensures, header_length (st n).args.head))
 
-slice_write_buffer_2 : tie.Need-slice-write-buffer-2
-slice_write_buffer_2 c = let m = c.before.before.write-number2.ensures in
+slice_write_buffer_2 : tie.Need-bounds-buffer-end2
+slice_write_buffer_2 c = let m = c.before.before.write_number-end2.ensures in
     let n = one c in
-    omega (arith, m.end_is, simp length-set at (put_length m), n.write-number.ensures.end_is, put_length n.write-number.ensures, header_length (st n).args.head)
+    omega (arith, m.end_is, simp length-set at (put_length m), n.write_number-end.ensures.end_is, put_length n.write_number-end.ensures, header_length (st n).args.head)
 
-strand_byte_requires : tie.Need-strand-byte-requires
+strand_byte_requires : tie.Need-strand_byte-requires
 strand_byte_requires c κs = search rules
 
-add_buffer : tie.Need-overflow-add-buffer
-add_buffer c = let m = c.before.before.before.write-number2.ensures in
+add_buffer : tie.Need-overflow_add-buffer
+add_buffer c = let m = c.before.before.before.write_number-end2.ensures in
     let n = one c.before in
-    omega (arith, m.end_is, n.write-number.ensures.end_is, header_length (st n).args.head)
+    omega (arith, m.end_is, n.write_number-end.ensures.end_is, header_length (st n).args.head)
 
-slice_write_buffer_3 : tie.Need-slice-write-buffer-3
-slice_write_buffer_3 c = let m = c.before.before.before.write-number2.ensures in
+slice_write_buffer_3 : tie.Need-bounds-buffer-end2-2
+slice_write_buffer_3 c = let m = c.before.before.before.write_number-end2.ensures in
     let n = one c.before in
-    simp length-set (omega (arith, m.end_is, simp length-set at (put_length m), n.write-number.ensures.end_is, put_length n.write-number.ensures, header_length (st n).args.head))
+    simp length-set (omega (arith, m.end_is, simp length-set at (put_length m), n.write_number-end.ensures.end_is, put_length n.write_number-end.ensures, header_length (st n).args.head))
 
-add_result : tie.Need-overflow-add-result
-add_result c = let m = c.before.before.before.write-number2.ensures in
+add_result : tie.Need-overflow_add-result
+add_result c = let m = c.before.before.before.write_number-end2.ensures in
     let n = one c.before in
-    omega (arith, m.end_is, n.write-number.ensures.end_is, header_length (st n).args.head)
+    omega (arith, m.end_is, n.write_number-end.ensures.end_is, header_length (st n).args.head)
 
-same_length : tie.Need-same-length
-same_length c = let m = c.before.before.before.write-number2.ensures in
-    simp length-set (simp length-set at (put_length m) ∙ put_length (one c.before).write-number.ensures)
+same_length : tie.Need-shape_of-buffer
+same_length c = let m = c.before.before.before.write_number-end2.ensures in
+    simp length-set (simp length-set at (put_length m) ∙ put_length (one c.before).write_number-end.ensures)
 
 returns : tie.Need-returns
 unfolding header_of
-returns c = let m = c.before.before.before.write-number2.ensures in
-    let e : c.before.before.before.write-number2.result + 1 + 1 ≡ c.before.before.before.write-number2.result + 2 = omega arith in
-    rw (← c.strand-byte.ensures) (put_end e (put_on (one c.before).write-number.ensures (put_on (put_one _ _ _) (put_on m (put_on (put_one _ _ _) (put_one _ _ _))))))
+returns c = let m = c.before.before.before.write_number-end2.ensures in
+    let e : c.before.before.before.write_number-end2.result + 1 + 1 ≡ c.before.before.before.write_number-end2.result + 2 = omega arith in
+    rw (← c.strand_byte.ensures) (put_end e (put_on (one c.before).write_number-end.ensures (put_on (put_one _ _ _) (put_on m (put_on (put_one _ _ _) (put_one _ _ _))))))
 
 pub write_header_spec : {M : Type 1} → statement M
 write_header_spec =

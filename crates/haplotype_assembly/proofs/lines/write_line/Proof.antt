@@ -23,63 +23,63 @@ fits c = omega (arith, line_length c.args.s.n c.args.head (calls c), c.requires.
 long : (c : tie.Start) → length c.args.buffer.now < 2 ^ 64
 long c = omega arith
 
-abbrev start : tie.After-write-header → tie.Start
+abbrev start : tie.After-write_header-alleles → tie.Start
 start h = h.before.before.before.before
 
-abbrev from : tie.After-write-alleles → tie.After-write-header
+abbrev from : tie.After-write_alleles-space → tie.After-write_header-alleles
 from a = a.before.before.before.before
 
-abbrev past : tie.After-write-qualities → tie.After-write-alleles
+abbrev past : tie.After-write_qualities-last → tie.After-write_alleles-space
 past q = q.before.before.before.before
 
-write_header_requires : tie.Need-write-header-requires
+write_header_requires : tie.Need-write_header-alleles-requires
 write_header_requires c κs = omega (arith, fits c.before.before.before)
 
-write_alleles_requires : tie.Need-write-alleles-requires
+write_alleles_requires : tie.Need-write_alleles-space-requires
 write_alleles_requires c κs = let h = c.before.before.before in
     let i = start h in
-    (i.pre.0, (i.pre.1.0, omega (arith, fits (start h), h.write-header.ensures.end_is, put_length h.write-header.ensures)))
+    (i.requires.0, (i.requires.1.0, omega (arith, fits (start h), h.write_header-alleles.ensures.end_is, put_length h.write_header-alleles.ensures)))
 
-slice_write_buffer : tie.Need-slice-write-buffer
+slice_write_buffer : tie.Need-bounds-buffer-space
 slice_write_buffer c = let a = c.before.before in
     let h = from a in
-    omega (arith, fits (start h), h.write-header.ensures.end_is, put_length h.write-header.ensures, a.write-alleles.ensures.end_is, put_length a.write-alleles.ensures)
+    omega (arith, fits (start h), h.write_header-alleles.ensures.end_is, put_length h.write_header-alleles.ensures, a.write_alleles-space.ensures.end_is, put_length a.write_alleles-space.ensures)
 
-add_write_qualities : tie.Need-overflow-add-write-qualities
+add_write_qualities : tie.Need-overflow_add-space
 add_write_qualities c = let a = c.before.before.before in
     let h = from a in
-    omega (arith, long (start h), fits (start h), h.write-header.ensures.end_is, put_length h.write-header.ensures, a.write-alleles.ensures.end_is)
+    omega (arith, long (start h), fits (start h), h.write_header-alleles.ensures.end_is, put_length h.write_header-alleles.ensures, a.write_alleles-space.ensures.end_is)
 
-write_qualities_requires : tie.Need-write-qualities-requires
+write_qualities_requires : tie.Need-write_qualities-last-requires
 write_qualities_requires c κs = let a = c.before.before.before in
     let h = from a in
     let i = start h in
-    (i.pre.0, (i.pre.1.0, simp length-set (omega (arith, fits (start h), h.write-header.ensures.end_is, put_length h.write-header.ensures, a.write-alleles.ensures.end_is, put_length a.write-alleles.ensures))))
+    (i.requires.0, (i.requires.1.0, simp length-set (omega (arith, fits (start h), h.write_header-alleles.ensures.end_is, put_length h.write_header-alleles.ensures, a.write_alleles-space.ensures.end_is, put_length a.write_alleles-space.ensures))))
 
-slice_write_buffer_2 : tie.Need-slice-write-buffer-2
+slice_write_buffer_2 : tie.Need-bounds-buffer-last
 slice_write_buffer_2 c = let q = c.before.before in
     let a = past q in
     let h = from a in
-    omega (arith, fits (start h), h.write-header.ensures.end_is, put_length h.write-header.ensures, a.write-alleles.ensures.end_is, put_length a.write-alleles.ensures, q.write-qualities.ensures.end_is, simp length-set at (put_length q.write-qualities.ensures))
+    omega (arith, fits (start h), h.write_header-alleles.ensures.end_is, put_length h.write_header-alleles.ensures, a.write_alleles-space.ensures.end_is, put_length a.write_alleles-space.ensures, q.write_qualities-last.ensures.end_is, simp length-set at (put_length q.write_qualities-last.ensures))
 
-add_result : tie.Need-overflow-add-result
+add_result : tie.Need-overflow_add-result
 add_result c = let q = c.before.before in
     let a = past q in
     let h = from a in
-    omega (arith, long (start h), fits (start h), h.write-header.ensures.end_is, put_length h.write-header.ensures, a.write-alleles.ensures.end_is, q.write-qualities.ensures.end_is)
+    omega (arith, long (start h), fits (start h), h.write_header-alleles.ensures.end_is, put_length h.write_header-alleles.ensures, a.write_alleles-space.ensures.end_is, q.write_qualities-last.ensures.end_is)
 
-same_length : tie.Need-same-length
+same_length : tie.Need-shape_of-buffer
 same_length c = let q = c.before.before in
     let a = past q in
     let h = from a in
-    simp length-set (simp length-set at (put_length q.write-qualities.ensures) ∙ put_length a.write-alleles.ensures ∙ put_length h.write-header.ensures)
+    simp length-set (simp length-set at (put_length q.write_qualities-last.ensures) ∙ put_length a.write_alleles-space.ensures ∙ put_length h.write_header-alleles.ensures)
 
 returns : tie.Need-returns
 unfolding line_with
 returns c = let q = c.before.before in
     let a = past q in
     let h = from a in
-    put_on h.write-header.ensures (put_on a.write-alleles.ensures (put_on (put_one _ _ _) (put_on q.write-qualities.ensures (put_one _ _ _))))
+    put_on h.write_header-alleles.ensures (put_on a.write_alleles-space.ensures (put_on (put_one _ _ _) (put_on q.write_qualities-last.ensures (put_one _ _ _))))
 
 pub write_line_spec : {M : Type 1} → statement M
 write_line_spec =

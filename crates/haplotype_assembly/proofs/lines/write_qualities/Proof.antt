@@ -18,92 +18,92 @@ use Rattle.haplotype_assembly.proofs.Stores.{put_one}
 use Rattle.haplotype_assembly.proofs.lines.write_qualities.Statement.{statement}
 use Rattle.haplotype_assembly.proofs.lines.write_qualities.Tie as tie
 
-abbrev invariant_loop : tie.invariant_loop
+abbrev invariant_loop : tie.invariant-loop-p
 invariant_loop words s rows a e buffer₀ at end₀ p₀ buffer end p = (a ≤ p) × Gathered (map call_quality (shown_at words rows a e)) (map call_quality (shown_at words rows p e)) buffer₀ buffer at end
 
-abbrev decreases_loop : tie.decreases_loop
+abbrev decreases_loop : tie.decreases-loop-p
 decreases_loop words s rows a e buffer₀ at end₀ p₀ buffer end p = e - p
 
-abbrev head : tie.In-loop invariant_loop decreases_loop → tie.At-loop invariant_loop decreases_loop
+abbrev head : tie.In-loop-p invariant_loop decreases_loop → tie.At-loop-p invariant_loop decreases_loop
 head c = c.before
 
-abbrev st : tie.In-loop invariant_loop decreases_loop → tie.Start invariant_loop decreases_loop
+abbrev st : tie.In-loop-p invariant_loop decreases_loop → tie.Start invariant_loop decreases_loop
 st c = c.before.before.before.before
 
 -- the turn in which a row is read
-abbrev turn : tie.After-unpack invariant_loop decreases_loop → tie.In-loop invariant_loop decreases_loop
+abbrev turn : tie.After-unpack-row invariant_loop decreases_loop → tie.In-loop-p invariant_loop decreases_loop
 turn c = c.before.before
 
-row_in : (c : tie.After-unpack invariant_loop decreases_loop) → RowIn (st (turn c)).args.s.n (st (turn c)).args.s.f (row_from c.unpack.result)
-row_in c = read_in _ _ _ c.unpack.ensures (st (turn c)).pre.1.0 (head (turn c)).loop.invariant.0 (turn c).loop-test.true
+row_in : (c : tie.After-unpack-row invariant_loop decreases_loop) → RowIn (st (turn c)).args.s.n (st (turn c)).args.s.f (row_from c.unpack-row.result)
+row_in c = read_in _ _ _ c.unpack-row.ensures (st (turn c)).requires.1.0 (head (turn c)).loop-p.invariant.0 (turn c).loop-p-test.true
 
 -- where the row is shown, its byte and those of the rows after it are left
-abbrev piece : tie.After-unpack invariant_loop decreases_loop → List ℕ
-piece c = call_quality (row_from c.unpack.result).call ∷ []
+abbrev piece : tie.After-unpack-row invariant_loop decreases_loop → List ℕ
+piece c = call_quality (row_from c.unpack-row.result).call ∷ []
 
-abbrev from : tie.After-unpack invariant_loop decreases_loop → ℕ → List Call
+abbrev from : tie.After-unpack-row invariant_loop decreases_loop → ℕ → List Call
 from c p = shown_at (st (turn c)).args.words.now (st (turn c)).args.rows.now p (st (turn c)).args.e
 
-left_is : (c : tie.After-phased-rule invariant_loop decreases_loop) → c.phased-rule.result ≡ true
-    → map call_quality (from c.before (head (turn c.before)).loop.p) ≡ piece c.before ++ map call_quality (from c.before ((head (turn c.before)).loop.p + 1))
+left_is : (c : tie.After-phased_rule invariant_loop decreases_loop) → c.phased_rule.result ≡ true
+    → map call_quality (from c.before (head (turn c.before)).loop-p.p) ≡ piece c.before ++ map call_quality (from c.before ((head (turn c.before)).loop-p.p + 1))
 left_is c t = let u = c.before in
-    ap (map call_quality) (shown_on (st (turn u)).args.rows.now _ _ u.unpack.ensures _ _ (turn u).loop-test.true _ c.phased-rule.ensures t)
+    ap (map call_quality) (shown_on (st (turn u)).args.rows.now _ _ u.unpack-row.ensures _ _ (turn u).loop-p-test.true _ c.phased_rule.ensures t)
 
 -- there is room for its byte
-room : (c : tie.Then1 invariant_loop decreases_loop) → (head (turn c.before.before)).loop.end + 1 ≤ length (head (turn c.before.before)).loop.buffer
+room : (c : tie.Then-phased_rule invariant_loop decreases_loop) → (head (turn c.before.before)).loop-p.end + 1 ≤ length (head (turn c.before.before)).loop-p.buffer
 room c = let u = c.before.before in
-    gather_room (head (turn u)).loop.invariant.1 (piece u) _ (left_is c.before c.if1.true) (st (turn u)).pre.1.1
+    gather_room (head (turn u)).loop-p.invariant.1 (piece u) _ (left_is c.before c.if-phased_rule.true) (st (turn u)).requires.1.1
 
-loop_holds : tie.Need-loop-init invariant_loop decreases_loop
+loop_holds : tie.Need-loop-p-init invariant_loop decreases_loop
 loop_holds c = (omega arith, gather_start _ _ _)
 
-mul_unpack : tie.Need-overflow-mul-unpack invariant_loop decreases_loop
+mul_unpack : tie.Need-offset_bounds-rows-p invariant_loop decreases_loop
 mul_unpack c = omega (arith, (st c).requires.1.0.few)
 
-shared_slice_read_unpack : tie.Need-shared-slice-read-unpack invariant_loop decreases_loop
-shared_slice_read_unpack c = omega (arith, (st c.before).pre.1.0.long)
+shared_slice_read_unpack : tie.Need-bounds-rows-p invariant_loop decreases_loop
+shared_slice_read_unpack c = omega (arith, (st c.before).requires.1.0.long)
 
-unpack_requires : tie.Need-unpack-requires invariant_loop decreases_loop
+unpack_requires : tie.Need-unpack-row-requires invariant_loop decreases_loop
 unpack_requires c κs = search rules
 
-phased_rule_requires : tie.Need-phased-rule-requires invariant_loop decreases_loop
-phased_rule_requires c κs = ((st (turn c)).pre.0, (row_in c).variant_in)
+phased_rule_requires : tie.Need-phased_rule-requires invariant_loop decreases_loop
+phased_rule_requires c κs = ((st (turn c)).requires.0, (row_in c).variant_in)
 
-quality_of_requires : tie.Need-quality-of-requires invariant_loop decreases_loop
+quality_of_requires : tie.Need-quality_of-quality-requires invariant_loop decreases_loop
 quality_of_requires c κs = (row_in c.before.before).qual_in
 
-slice_write_buffer : tie.Need-slice-write-buffer invariant_loop decreases_loop
+slice_write_buffer : tie.Need-bounds-buffer-end invariant_loop decreases_loop
 slice_write_buffer c = omega (arith, room c.before)
 
-add_end : tie.Need-overflow-add-end invariant_loop decreases_loop
-add_end c = omega (arith, room c.before, gather_length (head (turn c.before.before.before)).loop.invariant.1)
+add_end : tie.Need-overflow_add-end invariant_loop decreases_loop
+add_end c = omega (arith, room c.before, gather_length (head (turn c.before.before.before)).loop-p.invariant.1)
 
-add_p : tie.Need-overflow-add-p invariant_loop decreases_loop
-add_p c = omega (arith, (st (turn c.before.before)).pre.1.0.few)
+add_p : tie.Need-overflow_add-p invariant_loop decreases_loop
+add_p c = omega (arith, (st (turn c.before.before)).requires.1.0.few)
 
-loop_less : tie.Need-loop-smaller invariant_loop decreases_loop
+loop_less : tie.Need-loop-p-smaller invariant_loop decreases_loop
 loop_less c = omega arith
 
-loop_again : tie.Need-loop-preserved invariant_loop decreases_loop
+loop_again : tie.Need-loop-p-preserved invariant_loop decreases_loop
 loop_again c =
     let r = c.before in
     let u = r.before in
-    let i = (head (turn u)).loop.invariant in
-    let more = (turn u).loop-test.true in (
+    let i = (head (turn u)).loop-p.invariant in
+    let more = (turn u).loop-p-test.true in (
       omega (arith, i.0),
       ⊎_elim
-          (λ x. rw (x.2, x.3, x.1.ensures) (gather_on i.1 (piece u) _ (left_is r x.0.taken) (put_one _ _ _)))
-          (λ x. rw (x.1, x.2) (gather_as i.1 (ap (map call_quality) (shown_skip (st (turn u)).args.rows.now _ _ u.unpack.ensures _ _ more _ r.phased-rule.ensures x.0.left))))
-          c.if1.branch,
+          (λ x. rw (x.2, x.3, x.1.ensures) (gather_on i.1 (piece u) _ (left_is r x.0.true) (put_one _ _ _)))
+          (λ x. rw (x.1, x.2) (gather_as i.1 (ap (map call_quality) (shown_skip (st (turn u)).args.rows.now _ _ u.unpack-row.ensures _ _ more _ r.phased_rule.ensures x.0.left))))
+          c.if-phased_rule.branch-raw,
     )
 
-same_length : tie.Need-same-length invariant_loop decreases_loop
-same_length c = gather_length c.before.loop.invariant.1
+same_length : tie.Need-shape_of-buffer invariant_loop decreases_loop
+same_length c = gather_length c.before.loop-p.invariant.1
 
 returns : tie.Need-returns invariant_loop decreases_loop
-returns c = let l = c.before.loop in
+returns c = let l = c.before.loop-p in
     let args = c.before.before.before.before.args in
-    gather_end l.invariant.1 (ap (map call_quality) (shown_end args.words.now args.rows.now l.p args.e c.loop-test.false))
+    gather_end l.invariant.1 (ap (map call_quality) (shown_end args.words.now args.rows.now l.p args.e c.loop-p-test.false))
 
 pub write_qualities_spec : {M : Type 1} → statement M
 write_qualities_spec =

@@ -9,26 +9,26 @@ use Rattle.haplotype_assembly.proofs.Decimals.{large_length, small_length}
 use Rattle.haplotype_assembly.proofs.numbers.digit_count.Statement.{statement}
 use Rattle.haplotype_assembly.proofs.numbers.digit_count.Tie as tie
 
-abbrev invariant_loop : tie.invariant_loop
+abbrev invariant_loop : tie.invariant-loop-m
 invariant_loop n m₀ k₀ m k = (1 ≤ k) × ((k + m ≤ n + 1) × (k + length (decimal m) ≡ length (decimal n) + 1))
 
-abbrev decreases_loop : tie.decreases_loop
+abbrev decreases_loop : tie.decreases-loop-m
 decreases_loop n m₀ k₀ m k = m
 
-loop_holds : tie.Need-loop-init invariant_loop decreases_loop
+loop_holds : tie.Need-loop-m-init invariant_loop decreases_loop
 loop_holds c = (omega arith, (omega arith, omega arith))
 
-add_k : tie.Need-overflow-add-k invariant_loop decreases_loop
+add_k : tie.Need-overflow_add-k invariant_loop decreases_loop
 add_k c = omega arith
 
-loop_less : tie.Need-loop-smaller invariant_loop decreases_loop
+loop_less : tie.Need-loop-m-smaller invariant_loop decreases_loop
 loop_less c = omega arith
 
-loop_again : tie.Need-loop-preserved invariant_loop decreases_loop
-loop_again c = (omega arith, (omega arith, omega (arith, large_length _ c.loop-test.true)))
+loop_again : tie.Need-loop-m-preserved invariant_loop decreases_loop
+loop_again c = (omega arith, (omega arith, omega (arith, large_length _ c.loop-m-test.true)))
 
 returns : tie.Need-returns invariant_loop decreases_loop
-returns c = omega (arith, small_length _ c.loop-test.false)
+returns c = omega (arith, small_length _ c.loop-m-test.false)
 
 pub digit_count_spec : {M : Type 1} → statement M
 digit_count_spec =

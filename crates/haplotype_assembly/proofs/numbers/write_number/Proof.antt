@@ -7,56 +7,56 @@ use Rattle.haplotype_assembly.proofs.Decimals.{Left, left_all, left_on, left_end
 use Rattle.haplotype_assembly.proofs.numbers.write_number.Statement.{statement}
 use Rattle.haplotype_assembly.proofs.numbers.write_number.Tie as tie
 
-abbrev invariant_loop : tie.invariant_loop
+abbrev invariant_loop : tie.invariant-loop-m
 invariant_loop buffer₀ at n count i₀ m₀ buffer i m = Left n at buffer₀ buffer i m
 
-abbrev decreases_loop : tie.decreases_loop
+abbrev decreases_loop : tie.decreases-loop-m
 decreases_loop buffer₀ at n count i₀ m₀ buffer i m = m
 
-digit_count_requires : tie.Need-digit-count-requires invariant_loop decreases_loop
+digit_count_requires : tie.Need-digit_count-count-requires invariant_loop decreases_loop
 digit_count_requires c κs = search rules
 
-loop_holds : tie.Need-loop-init invariant_loop decreases_loop
-loop_holds c = left_all _ _ _ _ c.digit-count.ensures
+loop_holds : tie.Need-loop-m-init invariant_loop decreases_loop
+loop_holds c = left_all _ _ _ _ c.digit_count-count.ensures
 
-sub_i : tie.Need-overflow-sub-i invariant_loop decreases_loop
-sub_i c = omega (arith, left_some c.before.loop.invariant)
+sub_i : tie.Need-overflow_sub-i invariant_loop decreases_loop
+sub_i c = omega (arith, left_some c.before.loop-m.invariant)
 
-cast_buffer : tie.Need-overflow-cast-buffer invariant_loop decreases_loop
+cast_buffer : tie.Need-overflow_cast-buffer invariant_loop decreases_loop
 cast_buffer c = record { fits = omega arith }
 
-add_buffer : tie.Need-overflow-add-buffer invariant_loop decreases_loop
+add_buffer : tie.Need-overflow_add-buffer invariant_loop decreases_loop
 add_buffer c = omega arith
 
-add_buffer_2 : tie.Need-overflow-add-buffer-2 invariant_loop decreases_loop
-add_buffer_2 c = omega (arith, left_top c.before.loop.invariant)
+add_buffer_2 : tie.Need-overflow_add-buffer-in-loop-m invariant_loop decreases_loop
+add_buffer_2 c = omega (arith, left_top c.before.loop-m.invariant)
 
-slice_write_buffer : tie.Need-slice-write-buffer invariant_loop decreases_loop
-slice_write_buffer c = omega (arith, left_some c.before.loop.invariant, left_top c.before.loop.invariant, left_length c.before.loop.invariant)
+slice_write_buffer : tie.Need-bounds-buffer-at invariant_loop decreases_loop
+slice_write_buffer c = omega (arith, left_some c.before.loop-m.invariant, left_top c.before.loop-m.invariant, left_length c.before.loop-m.invariant)
 
-loop_less : tie.Need-loop-smaller invariant_loop decreases_loop
+loop_less : tie.Need-loop-m-smaller invariant_loop decreases_loop
 loop_less c = omega arith
 
-loop_again : tie.Need-loop-preserved invariant_loop decreases_loop
-loop_again c = left_on c.before.loop.invariant c.loop-test.true
+loop_again : tie.Need-loop-m-preserved invariant_loop decreases_loop
+loop_again c = left_on c.before.loop-m.invariant c.loop-m-test.true
 
-cast_buffer_2 : tie.Need-overflow-cast-buffer-2 invariant_loop decreases_loop
+cast_buffer_2 : tie.Need-overflow_cast-buffer-2 invariant_loop decreases_loop
 cast_buffer_2 c = record { fits = omega arith }
 
-add_buffer_3 : tie.Need-overflow-add-buffer-3 invariant_loop decreases_loop
+add_buffer_3 : tie.Need-overflow_add-buffer-2 invariant_loop decreases_loop
 add_buffer_3 c = omega arith
 
-slice_write_buffer_2 : tie.Need-slice-write-buffer-2 invariant_loop decreases_loop
-slice_write_buffer_2 c = omega (arith, left_some c.before.loop.invariant, left_top c.before.loop.invariant, left_length c.before.loop.invariant)
+slice_write_buffer_2 : tie.Need-bounds-buffer-at-2 invariant_loop decreases_loop
+slice_write_buffer_2 c = omega (arith, left_some c.before.loop-m.invariant, left_top c.before.loop-m.invariant, left_length c.before.loop-m.invariant)
 
-add_result : tie.Need-overflow-add-result invariant_loop decreases_loop
-add_result c = omega (arith, c.before.before.digit-count.ensures)
+add_result : tie.Need-overflow_add-result invariant_loop decreases_loop
+add_result c = omega (arith, c.before.before.digit_count-count.ensures)
 
-same_length : tie.Need-same-length invariant_loop decreases_loop
-same_length c = simp length-set (left_length c.before.loop.invariant)
+same_length : tie.Need-shape_of-buffer invariant_loop decreases_loop
+same_length c = simp length-set (left_length c.before.loop-m.invariant)
 
 returns : tie.Need-returns invariant_loop decreases_loop
-returns c = record { stored = left_end c.before.loop.invariant c.loop-test.false; end_is = omega (arith, c.before.before.digit-count.ensures) }
+returns c = record { stored = left_end c.before.loop-m.invariant c.loop-m-test.false; end_is = omega (arith, c.before.before.digit_count-count.ensures) }
 
 pub write_number_spec : {M : Type 1} → statement M
 write_number_spec =

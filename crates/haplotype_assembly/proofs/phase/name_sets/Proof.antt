@@ -5,20 +5,20 @@ use Rattle.haplotype_assembly.proofs.Names.{no_names}
 use Rattle.haplotype_assembly.proofs.phase.name_sets.Statement.{statement}
 use Rattle.haplotype_assembly.proofs.phase.name_sets.Tie as tie
 
-slice_aggregate_least_names : tie.Need-slice-aggregate-least-names
+slice_aggregate_least_names : tie.Need-slice_bounds-least_names-end
 slice_aggregate_least_names c = search rules
 
-least_names_requires : tie.Need-least-names-requires
+least_names_requires : tie.Need-least_names-requires
 least_names_requires c κs = let st = c.before.before.before in
     (st.requires.0, (st.requires.1.0.1.0, no_names _ _ _ st.requires.0.sized.n_top))
 
-slice_aggregate_write_names : tie.Need-slice-aggregate-write-names
+slice_aggregate_write_names : tie.Need-slice_bounds-write_names-end
 slice_aggregate_write_names c = search rules
 
-write_names_requires : tie.Need-write-names-requires
+write_names_requires : tie.Need-write_names-requires
 write_names_requires c κs = search rules
 
-same_length : tie.Need-same-length
+same_length : tie.Need-shape_of-names
 same_length c = search rules
 
 returns : tie.Need-returns

@@ -10,20 +10,20 @@ use Rattle.haplotype_assembly.proofs.phase.ordered_first.Tie as tie
 low_requires : tie.Need-low-requires
 low_requires c κs = search rules
 
-returns : tie.Need-returns
+returns : tie.Need-returns-then-byte-eq48
 unfolding ordered_first
-returns c = c.low.ensures ∙ simp (eq-eqb _ _ c.before.if1.true)
+returns c = c.low.ensures ∙ simp (eq-eqb _ _ c.before.if-byte-eq48.true)
 
 high_requires : tie.Need-high-requires
 high_requires c κs = search rules
 
-returns_2 : tie.Need-returns-2
+returns_2 : tie.Need-returns-then-byte-eq49
 unfolding ordered_first
-returns_2 c = c.high.ensures ∙ simp (ne_eqb _ _ c.before.before.if1.false, eq-eqb _ _ c.before.if2.true)
+returns_2 c = c.high.ensures ∙ simp (ne_eqb _ _ c.before.before.if-byte-eq48.false, eq-eqb _ _ c.before.if-byte-eq49.true)
 
-returns_3 : tie.Need-returns-3
+returns_3 : tie.Need-returns
 unfolding ordered_first
-returns_3 c = simp (ne_eqb _ _ c.before.if1.false, ne_eqb _ _ c.if2.false)
+returns_3 c = simp (ne_eqb _ _ c.before.if-byte-eq48.false, ne_eqb _ _ c.if-byte-eq49.false)
 
 pub ordered_first_spec : {M : Type 1} → statement M
 ordered_first_spec = tie.close (tie.spec low_requires returns high_requires returns_2 returns_3)

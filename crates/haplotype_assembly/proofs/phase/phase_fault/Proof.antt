@@ -6,25 +6,25 @@ use Rattle.haplotype_assembly.proofs.Ranges.{fault_bytes, fault_sets, fault_set,
 use Rattle.haplotype_assembly.proofs.phase.phase_fault.Statement.{statement}
 use Rattle.haplotype_assembly.proofs.phase.phase_fault.Tie as tie
 
-returns : tie.Need-returns
-returns c = fault_bytes _ _ _ _ c.if1.true
+returns : tie.Need-returns-then-phase-n
+returns c = fault_bytes _ _ _ _ c.if-phase-n.true
 
-returns_2 : tie.Need-returns-2
-returns_2 c = fault_sets _ _ _ _ c.before.if1.false c.if2.true
+returns_2 : tie.Need-returns-then-sets-n
+returns_2 c = fault_sets _ _ _ _ c.before.if-phase-n.false c.if-sets-n.true
 
-first_bad_set_requires : tie.Need-first-bad-set-requires
+first_bad_set_requires : tie.Need-first_bad_set-v-requires
 first_bad_set_requires c κs = search rules
 
-returns_3 : tie.Need-returns-3
-returns_3 c = let f = c.before.first-bad-set.ensures in
-    f ∙ fault_set _ _ _ _ c.before.before.before.if1.false c.before.before.if2.false (rw f at c.if3.true)
+returns_3 : tie.Need-returns-then-v-n
+returns_3 c = let f = c.before.first_bad_set-v.ensures in
+    f ∙ fault_set _ _ _ _ c.before.before.before.if-phase-n.false c.before.before.if-sets-n.false (rw f at c.if-v-n.true)
 
-add_result : tie.Need-overflow-add-result
+add_result : tie.Need-overflow_add-result
 add_result c = search rules
 
-returns_4 : tie.Need-returns-4
-returns_4 c = let f = c.before.first-bad-set.ensures in
-    fault_none _ _ _ _ c.before.before.before.if1.false c.before.before.if2.false (rw f at c.if3.false)
+returns_4 : tie.Need-returns
+returns_4 c = let f = c.before.first_bad_set-v.ensures in
+    fault_none _ _ _ _ c.before.before.before.if-phase-n.false c.before.before.if-sets-n.false (rw f at c.if-v-n.false)
 
 pub phase_fault_spec : {M : Type 1} → statement M
 phase_fault_spec =

@@ -5,19 +5,19 @@ use Rattle.haplotype_assembly.specs.Inner.PhaseRead.{phased_at}
 use Rattle.haplotype_assembly.proofs.phase.phased_flag.Statement.{statement}
 use Rattle.haplotype_assembly.proofs.phase.phased_flag.Tie as tie
 
-shared_slice_read_byte : tie.Need-shared-slice-read-byte
+shared_slice_read_byte : tie.Need-bounds-phase-v
 shared_slice_read_byte c = search rules
 
-phased_rule_requires : tie.Need-phased-rule-requires
+phased_rule_requires : tie.Need-phased_rule-rule-requires
 phased_rule_requires c κs = search rules
 
-returns : tie.Need-returns
+returns : tie.Need-returns-then-rule-byte
 unfolding phased_at
-returns c = rw (← c.before.phased-rule.ensures, c.if1.true)
+returns c = rw (← c.before.phased_rule-rule.ensures, c.if-rule-byte.true)
 
-returns_2 : tie.Need-returns-2
+returns_2 : tie.Need-returns
 unfolding phased_at
-returns_2 c = rw (← c.before.phased-rule.ensures, c.if1.false)
+returns_2 c = rw (← c.before.phased_rule-rule.ensures, c.if-rule-byte.false)
 
 pub phased_flag_spec : {M : Type 1} → statement M
 phased_flag_spec =

@@ -6,19 +6,19 @@ use Rattle.haplotype_assembly.specs.Inner.PhaseRead.{rule_at}
 use Rattle.haplotype_assembly.proofs.phase.phased_rule.Statement.{statement}
 use Rattle.haplotype_assembly.proofs.phase.phased_rule.Tie as tie
 
-allele_count_requires : tie.Need-allele-count-requires
+allele_count_requires : tie.Need-allele_count-k-requires
 allele_count_requires c κs = search rules
 
-genotype_requires : tie.Need-genotype-requires
+genotype_requires : tie.Need-genotype-a-requires
 genotype_requires c κs = search rules
 
-genotype_requires_2 : tie.Need-genotype-requires-2
+genotype_requires_2 : tie.Need-genotype-b-requires
 genotype_requires_2 c κs = search rules
 
-allele_length_requires : tie.Need-allele-length-requires
+allele_length_requires : tie.Need-allele_length-l0-requires
 allele_length_requires c κs = search rules
 
-allele_length_requires_2 : tie.Need-allele-length-requires-2
+allele_length_requires_2 : tie.Need-allele_length-l1-requires
 allele_length_requires_2 c κs = search rules
 
 returns : tie.Need-returns

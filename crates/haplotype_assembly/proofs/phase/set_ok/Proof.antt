@@ -11,20 +11,20 @@ use Rattle.haplotype_assembly.proofs.Ranges.{set_read}
 use Rattle.haplotype_assembly.proofs.phase.set_ok.Statement.{statement}
 use Rattle.haplotype_assembly.proofs.phase.set_ok.Tie as tie
 
-mul_nat_of : tie.Need-overflow-mul-nat-of
+mul_nat_of : tie.Need-offset_bounds-sets-v
 mul_nat_of c = search rules
 
-shared_slice_copy_out_nat_of : tie.Need-shared-slice-copy-out-nat-of
+shared_slice_copy_out_nat_of : tie.Need-bounds-sets-v
 shared_slice_copy_out_nat_of c = search rules
 
-nat_of_requires : tie.Need-nat-of-requires
+nat_of_requires : tie.Need-nat_of-t-requires
 nat_of_requires c κs = search rules
 
 returns : tie.Need-returns
 unfolding sets_ok
 returns c = let st = c.before.before in
     let f : SFits w32 (get_or st.args.sets.now st.args.v (pos 0)) = search rules in
-    set_read _ _ _ f (rw (to_z-of_z f) at c.nat-of.ensures)
+    set_read _ _ _ f (rw (to_z-of_z f) at c.nat_of-t.ensures)
 
 pub set_ok_spec : {M : Type 1} → statement M
 set_ok_spec = tie.close (tie.spec mul_nat_of shared_slice_copy_out_nat_of nat_of_requires returns)

@@ -12,77 +12,77 @@ use Rattle.haplotype_assembly.proofs.Pieces.{line_none, one_none, line_some, one
 use Rattle.haplotype_assembly.proofs.tally.count_fragment.Statement.{statement}
 use Rattle.haplotype_assembly.proofs.tally.count_fragment.Tie as tie
 
-abbrev grouped : tie.After-tally-rows → tie.After-group-start
+abbrev grouped : tie.After-tally_rows-t → tie.After-group_start-a
 grouped c = c.before.before
 
-abbrev st : tie.After-group-start → tie.Start
+abbrev st : tie.After-group_start-a → tie.Start
 st c = c.before.before.before
 
 abbrev fragment : tie.Start → Fragment
 fragment c = shown_fragment c.args.words.now c.args.s c.args.rows.now c.args.ends.now c.args.f
 
-tallied : (c : tie.After-tally-rows) → Tallied (st (grouped c)).args.s.n (fragment (st (grouped c))).calls c.tally-rows.result
-tallied c = rw (← (grouped c).group-start.ensures) c.tally-rows.ensures.0
+tallied : (c : tie.After-tally_rows-t) → Tallied (st (grouped c)).args.s.n (fragment (st (grouped c))).calls c.tally_rows-t.result
+tallied c = rw (← (grouped c).group_start-a.ensures) c.tally_rows-t.ensures.0
 
 -- the line of a fragment that has one
-abbrev tally : tie.After-line-bytes → tie.After-tally-rows
+abbrev tally : tie.After-line_bytes-more → tie.After-tally_rows-t
 tally c = c.before.before.before
 
-abbrev from : tie.After-line-bytes → tie.Start
+abbrev from : tie.After-line_bytes-more → tie.Start
 from c = st (grouped (tally c))
 
-more_is : (c : tie.After-line-bytes) → c.line-bytes.result ≡ length (line_with (from c).args.s.n (head_at (from c).args.s.n (from c).args.c.lines (fragment (from c))) (fragment (from c)).calls)
-more_is c = c.line-bytes.ensures ∙ sym (line_count _ (from c).args.single (from c).args.c.lines (fragment (from c)) _ (tallied (tally c)))
+more_is : (c : tie.After-line_bytes-more) → c.line_bytes-more.result ≡ length (line_with (from c).args.s.n (head_at (from c).args.s.n (from c).args.c.lines (fragment (from c))) (fragment (from c)).calls)
+more_is c = c.line_bytes-more.ensures ∙ sym (line_count _ (from c).args.single (from c).args.c.lines (fragment (from c)) _ (tallied (tally c)))
 
-more_top : (c : tie.After-line-bytes) → c.line-bytes.result ≤ 33554432
+more_top : (c : tie.After-line_bytes-more) → c.line_bytes-more.result ≤ 33554432
 more_top c =
     let i = from c in
-    omega (arith, more_is c, line_top _ i.args.single i.args.c.lines (fragment i) _ (tallied (tally c)) (omega (arith, i.pre.1, i.pre.0.case_in.sized.f_top)) (tally c).tally-rows.ensures.1)
+    omega (arith, more_is c, line_top _ i.args.single i.args.c.lines (fragment i) _ (tallied (tally c)) (omega (arith, i.requires.1, i.requires.0.case_in.sized.f_top)) (tally c).tally_rows-t.ensures.1)
 
-group_start_requires : tie.Need-group-start-requires
+group_start_requires : tie.Need-group_start-a-requires
 group_start_requires c κs = search rules
 
-mul_e : tie.Need-overflow-mul-e
+mul_e : tie.Need-offset_bounds-ends-f
 mul_e c = search rules
 
-shared_slice_read_e : tie.Need-shared-slice-read-e
+shared_slice_read_e : tie.Need-bounds-ends-f
 shared_slice_read_e c = search rules
 
-tally_rows_requires : tie.Need-tally-rows-requires
+tally_rows_requires : tie.Need-tally_rows-t-requires
 tally_rows_requires c κs = let g = c.before in
     let i = st g in
-    (i.pre.0.case_in, rw g.group-start.ensures (i.pre.0.rows_in i.args.f i.pre.1.0))
+    (i.requires.0.case_in, rw g.group_start-a.ensures (i.requires.0.rows_in i.args.f i.requires.1.0))
 
-has_line_requires : tie.Need-has-line-requires
+has_line_requires : tie.Need-has_line-requires
 has_line_requires c κs = search rules
 
-returns : tie.Need-returns
+returns : tie.Need-returns-then-not-has_line
 returns c =
     let t = c.before.before in
     let i = st (grouped t) in
-    let none = sym c.before.has-line.ensures ∙ c.if1.true in
+    let none = sym c.before.has_line.ensures ∙ c.if-not-has_line.true in
     record {
       bytes_are = omega (arith, ap length (line_none _ _ i.args.c.lines (fragment i) _ (tallied t) none));
       lines_are = omega (arith, one_none _ _ 0 (fragment i) _ (tallied t) none);
       bytes_top = omega arith;
     }
 
-line_bytes_requires : tie.Need-line-bytes-requires
+line_bytes_requires : tie.Need-line_bytes-more-requires
 line_bytes_requires c κs = search rules
 
-add_t12 : tie.Need-overflow-add-t12
+add_t12 : tie.Need-overflow_add-result
 add_t12 c = let l = c.before in
     omega (arith, more_top l, (from l).requires.1, (from l).requires.0.case_in.sized.f_top)
 
-add_t14 : tie.Need-overflow-add-t14
+add_t14 : tie.Need-overflow_add-result-2
 add_t14 c = search rules
 
-returns_2 : tie.Need-returns-2
+returns_2 : tie.Need-returns
 returns_2 c =
     let l = c.before.before in
     let t = tally l in
     let i = from l in
-    let some = sym l.before.before.has-line.ensures ∙ l.before.if1.false in
+    let some = sym l.before.before.has_line.ensures ∙ l.before.if-not-has_line.false in
     record {
       bytes_are = omega (arith, more_is l, ap length (line_some _ _ i.args.c.lines (fragment i) _ (tallied t) some));
       lines_are = omega (arith, one_some _ _ 0 (fragment i) _ (tallied t) some);

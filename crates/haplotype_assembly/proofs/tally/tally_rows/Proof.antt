@@ -11,66 +11,66 @@ use Rattle.haplotype_assembly.proofs.Tallies.{Tallying, tallying_start, tallying
 use Rattle.haplotype_assembly.proofs.tally.tally_rows.Statement.{statement}
 use Rattle.haplotype_assembly.proofs.tally.tally_rows.Tie as tie
 
-abbrev invariant_loop : tie.invariant_loop
+abbrev invariant_loop : tie.invariant-loop-p
 invariant_loop words s rows a e t₀ p₀ t p = Tallying words s.n rows a e t p
 
-abbrev decreases_loop : tie.decreases_loop
+abbrev decreases_loop : tie.decreases-loop-p
 decreases_loop words s rows a e t₀ p₀ t p = e - p
 
-abbrev head : tie.In-loop invariant_loop decreases_loop → tie.At-loop invariant_loop decreases_loop
+abbrev head : tie.In-loop-p invariant_loop decreases_loop → tie.At-loop-p invariant_loop decreases_loop
 head c = c.before
 
-abbrev st : tie.In-loop invariant_loop decreases_loop → tie.Start invariant_loop decreases_loop
+abbrev st : tie.In-loop-p invariant_loop decreases_loop → tie.Start invariant_loop decreases_loop
 st c = c.before.before.before
 
 -- the turn in which a row is read
-abbrev turn : tie.After-unpack invariant_loop decreases_loop → tie.In-loop invariant_loop decreases_loop
+abbrev turn : tie.After-unpack-row invariant_loop decreases_loop → tie.In-loop-p invariant_loop decreases_loop
 turn c = c.before.before
 
-row_in : (c : tie.After-unpack invariant_loop decreases_loop) → RowIn (st (turn c)).args.s.n (st (turn c)).args.s.f (row_from c.unpack.result)
-row_in c = read_in _ _ _ c.unpack.ensures (st (turn c)).pre.1 (head (turn c)).loop.invariant.from (turn c).loop-test.true
+row_in : (c : tie.After-unpack-row invariant_loop decreases_loop) → RowIn (st (turn c)).args.s.n (st (turn c)).args.s.f (row_from c.unpack-row.result)
+row_in c = read_in _ _ _ c.unpack-row.ensures (st (turn c)).requires.1 (head (turn c)).loop-p.invariant.from (turn c).loop-p-test.true
 
-low : (c : tie.After-unpack invariant_loop decreases_loop) → c.unpack.result.variant < 1024
-low c = omega (arith, (row_in c).variant_in, (st (turn c)).pre.0.sized.n_top)
+low : (c : tie.After-unpack-row invariant_loop decreases_loop) → c.unpack-row.result.variant < 1024
+low c = omega (arith, (row_in c).variant_in, (st (turn c)).requires.0.sized.n_top)
 
-loop_holds : tie.Need-loop-init invariant_loop decreases_loop
+loop_holds : tie.Need-loop-p-init invariant_loop decreases_loop
 loop_holds c = tallying_start _ _ _ _ _
 
-mul_unpack : tie.Need-overflow-mul-unpack invariant_loop decreases_loop
+mul_unpack : tie.Need-offset_bounds-rows-p invariant_loop decreases_loop
 mul_unpack c = omega (arith, (st c).requires.1.few)
 
-shared_slice_read_unpack : tie.Need-shared-slice-read-unpack invariant_loop decreases_loop
-shared_slice_read_unpack c = omega (arith, (st c.before).pre.1.long)
+shared_slice_read_unpack : tie.Need-bounds-rows-p invariant_loop decreases_loop
+shared_slice_read_unpack c = omega (arith, (st c.before).requires.1.long)
 
-unpack_requires : tie.Need-unpack-requires invariant_loop decreases_loop
+unpack_requires : tie.Need-unpack-row-requires invariant_loop decreases_loop
 unpack_requires c κs = search rules
 
-phased_rule_requires : tie.Need-phased-rule-requires invariant_loop decreases_loop
-phased_rule_requires c κs = ((st (turn c)).pre.0, (row_in c).variant_in)
+phased_rule_requires : tie.Need-phased_rule-requires invariant_loop decreases_loop
+phased_rule_requires c κs = ((st (turn c)).requires.0, (row_in c).variant_in)
 
-tally_call_requires : tie.Need-tally-call-requires invariant_loop decreases_loop
+tally_call_requires : tie.Need-tally_call-t-requires invariant_loop decreases_loop
 tally_call_requires c κs = let u = c.before.before in
-    (low u, tallying_small (head (turn u)).loop.invariant (st (turn u)).pre.1.few)
+    (low u, tallying_small (head (turn u)).loop-p.invariant (st (turn u)).requires.1.few)
 
-add_p : tie.Need-overflow-add-p invariant_loop decreases_loop
-add_p c = omega (arith, (st (turn c.before.before)).pre.1.few)
+add_p : tie.Need-overflow_add-p invariant_loop decreases_loop
+add_p c = omega (arith, (st (turn c.before.before)).requires.1.few)
 
-loop_less : tie.Need-loop-smaller invariant_loop decreases_loop
+loop_less : tie.Need-loop-p-smaller invariant_loop decreases_loop
 loop_less c = omega arith
 
-loop_again : tie.Need-loop-preserved invariant_loop decreases_loop
+loop_again : tie.Need-loop-p-preserved invariant_loop decreases_loop
 loop_again c =
     let u = c.before.before in
-    let i = (head (turn u)).loop.invariant in
-    let more = (turn u).loop-test.true in
+    let i = (head (turn u)).loop-p.invariant in
+    let more = (turn u).loop-p-test.true in
     ⊎_elim
-    (λ x. rw (x.2 ∙ x.1.ensures) (tallying_on i more _ (shown_on (st (turn u)).args.rows.now _ _ u.unpack.ensures _ _ more _ c.before.phased-rule.ensures x.0.taken) (low u)))
-    (λ x. rw x.1 (tallying_skip i more (shown_skip (st (turn u)).args.rows.now _ _ u.unpack.ensures _ _ more _ c.before.phased-rule.ensures x.0.left)))
-    c.if1.branch
+    (λ x. rw (x.2 ∙ x.1.ensures) (tallying_on i more _ (shown_on (st (turn u)).args.rows.now _ _ u.unpack-row.ensures _ _ more _ c.before.phased_rule.ensures x.0.true) (low u)))
+    (λ x. rw x.1 (tallying_skip i more (shown_skip (st (turn u)).args.rows.now _ _ u.unpack-row.ensures _ _ more _ c.before.phased_rule.ensures x.0.left)))
+    c.if-phased_rule.branch-raw
 
 returns : tie.Need-returns invariant_loop decreases_loop
-returns c = let i = c.before.loop.invariant in
-    (tallying_end i c.loop-test.false, tallying_small i c.before.before.before.requires.1.few)
+returns c = let i = c.before.loop-p.invariant in
+    (tallying_end i c.loop-p-test.false, tallying_small i c.before.before.before.requires.1.few)
 
 pub tally_rows_spec : {M : Type 1} → statement M
 tally_rows_spec =

@@ -24,56 +24,56 @@ pair_there s = s.requires.0.pair_there s.args.i (omega arith)
 flag_there : (s : tie.Start) → (call s).variant < length s.args.mask.now
 flag_there s = s.requires.0.flag_there s.args.i (omega arith)
 
-mul_unpack : tie.Need-overflow-mul-unpack
+mul_unpack : tie.Need-offset_bounds-rows-i
 mul_unpack c = search rules
 
-shared_slice_read_unpack : tie.Need-shared-slice-read-unpack
+shared_slice_read_unpack : tie.Need-bounds-rows-i
 shared_slice_read_unpack c = search rules
 
-unpack_requires : tie.Need-unpack-requires
+unpack_requires : tie.Need-unpack-row-requires
 unpack_requires c κs = search rules
 
-abbrev start : tie.After-unpack → tie.Start
+abbrev start : tie.After-unpack-row → tie.Start
 start c = c.before.before.before.before.before
 
-variant_is : (c : tie.After-unpack) → c.unpack.result.variant ≡ (call (start c)).variant
-variant_is c = ap (λ (r : Row). r.variant) c.unpack.ensures
+variant_is : (c : tie.After-unpack-row) → c.unpack-row.result.variant ≡ (call (start c)).variant
+variant_is c = ap (λ (r : Row). r.variant) c.unpack-row.ensures
 
-allele_is : (c : tie.After-unpack) → c.unpack.result.allele ≡ (call (start c)).allele
-allele_is c = ap (λ (r : Row). r.allele) c.unpack.ensures
+allele_is : (c : tie.After-unpack-row) → c.unpack-row.result.allele ≡ (call (start c)).allele
+allele_is c = ap (λ (r : Row). r.allele) c.unpack-row.ensures
 
 small_quals : (s : tie.Start) → (nat_abs (call s).qual ≤ 262144) × (nat_abs (call s).one_minus_qual ≤ 262144)
 small_quals s = (s.requires.0.qual_small s.args.i (omega arith), s.requires.0.one_minus_qual_small s.args.i (omega arith))
 
-shared_slice_read_flag : tie.Need-shared-slice-read-flag
+shared_slice_read_flag : tie.Need-bounds-mask-v
 shared_slice_read_flag c = let u = c.before in rw (variant_is u) (flag_there (start u))
 
-qual_is : (c : tie.After-unpack) → c.unpack.result.qual.0 ≡ (call (start c)).qual
-qual_is c = ap (λ (r : Row). r.qual.0) c.unpack.ensures
+qual_is : (c : tie.After-unpack-row) → c.unpack-row.result.qual.0 ≡ (call (start c)).qual
+qual_is c = ap (λ (r : Row). r.qual.0) c.unpack-row.ensures
 
-other_is : (c : tie.After-unpack) → c.unpack.result.one_minus_qual.0 ≡ (call (start c)).one_minus_qual
-other_is c = ap (λ (r : Row). r.one_minus_qual.0) c.unpack.ensures
+other_is : (c : tie.After-unpack-row) → c.unpack-row.result.one_minus_qual.0 ≡ (call (start c)).one_minus_qual
+other_is c = ap (λ (r : Row). r.one_minus_qual.0) c.unpack-row.ensures
 
-weighed_requires : tie.Need-weighed-requires
-weighed_requires c κs = let u = c.before in rw (qual_is u) (small_quals (start u)).0
+weighed_requires : tie.Need-weighed-qual-requires
+weighed_requires c κs = let u = c.before.before in rw (qual_is u) (small_quals (start u)).0
 
-weighed_requires_2 : tie.Need-weighed-requires-2
-weighed_requires_2 c κs = let u = c.before.before in rw (other_is u) (small_quals (start u)).1
+weighed_requires_2 : tie.Need-weighed-one_minus_qual-requires
+weighed_requires_2 c κs = let u = c.before.before.before.before in rw (other_is u) (small_quals (start u)).1
 
 -- where the row is unpacked
-abbrev unpacking : tie.After-weighed2 → tie.After-unpack
-unpacking c = c.before.before.before
+abbrev unpacking : tie.After-weighed-one_minus_qual → tie.After-unpack-row
+unpacking c = c.before.before.before.before.before
 
-mul_call_term : tie.Need-overflow-mul-call-term
+mul_call_term : tie.Need-overflow_mul-v
 mul_call_term c = let u = unpacking c in omega (arith, variant_is u, pair_there (start u))
 
-add_call_term : tie.Need-overflow-add-call-term
-add_call_term c = let u = unpacking c in omega (arith, variant_is u, pair_there (start u), (start u).pre.1)
+add_call_term : tie.Need-overflow_add-v
+add_call_term c = let u = unpacking c in omega (arith, variant_is u, pair_there (start u), (start u).requires.1)
 
-shared_slice_read_call_term : tie.Need-shared-slice-read-call-term
-shared_slice_read_call_term c = let u = unpacking c.before in omega (arith, variant_is u, pair_there (start u), (start u).pre.1)
+shared_slice_read_call_term : tie.Need-bounds-hap-v
+shared_slice_read_call_term c = let u = unpacking c.before in omega (arith, variant_is u, pair_there (start u), (start u).requires.1)
 
-call_term_requires : tie.Need-call-term-requires
+call_term_requires : tie.Need-call_term-y-requires
 call_term_requires c κs = search rules
 
 -- the term of the call
@@ -84,29 +84,29 @@ small : (s : tie.Start) → nat_abs (term s) ≤ 262144
 small s = term_small 262144 (call s) _ (small_quals s).0 (small_quals s).1
 
 -- the term, where the flag is 1
-result_is : (c : tie.Then1) → let r = c.before in r.call-term.result.0 ≡ term (start (unpacking r.before.before))
+result_is : (c : tie.Then-flag-eq1) → let r = c.before in r.call_term-y.result.0 ≡ term (start (unpacking r.before.before))
 result_is c =
     let r = c.before in
     let w = r.before.before in
     let u = unpacking w in
-    let q = w.before.weighed.ensures c.if1.true ∙ qual_is u in
-    let o = w.weighed2.ensures c.if1.true ∙ other_is u in
-    r.call-term.ensures
+    let q = w.weighed-qual.ensures c.if-flag-eq1.true ∙ qual_is u in
+    let o = w.weighed-one_minus_qual.ensures c.if-flag-eq1.true ∙ other_is u in
+    r.call_term-y.ensures
     ∙ term_of (call (start u)) _ _ _ _ _ (allele_is u) (ap (λ (v : ℕ). allele_on (start u).args.hap.now (start u).args.h v) (variant_is u)) q o
 
-returns : tie.Need-returns
+returns : tie.Need-returns-then-flag-eq1
 returns c =
     let u = unpacking c.before.before.before in
     let s = start u in (
-      result_is c ∙ share_flagged s.args.rows.now s.args.hap.now s.args.mask.now s.args.i s.args.h (rw (variant_is u) at c.if1.true),
+      result_is c ∙ share_flagged s.args.rows.now s.args.hap.now s.args.mask.now s.args.i s.args.h (rw (variant_is u) at c.if-flag-eq1.true),
       rw (result_is c) (small s),
     )
 
-returns_2 : tie.Need-returns-2
+returns_2 : tie.Need-returns-else-flag-eq1
 returns_2 c =
     let u = unpacking c.before.before.before in
     let s = start u in
-    (share_unflagged s.args.rows.now s.args.hap.now s.args.mask.now s.args.i s.args.h (rw (variant_is u) at c.if1.false), omega arith)
+    (share_unflagged s.args.rows.now s.args.hap.now s.args.mask.now s.args.i s.args.h (rw (variant_is u) at c.if-flag-eq1.false), omega arith)
 
 pub call_share_spec : {M : Type 1} → statement M
 call_share_spec =

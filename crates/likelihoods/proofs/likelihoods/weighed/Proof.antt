@@ -24,7 +24,7 @@ small c =
 flag_is : (c : tie.Start) → to_z w64 c.args.flag ≡ pos c.args.flag
 flag_is c = to_z_pos w64 (omega (arith, c.ranges.flag))
 
-mul_t4 : tie.Need-overflow-mul-t4
+mul_t4 : tie.Need-overflow_mul-result
 mul_t4 c =
     let s = c.before.before in
     rw (flag_is s, read_small w64 s.args.x.0 (omega (arith, s.requires))) (sfits w64 (product s) (small s))

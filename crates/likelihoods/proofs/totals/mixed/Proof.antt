@@ -12,7 +12,7 @@ use Rattle.likelihoods.proofs.TotalParts.{mix_small, mixed_over}
 use Rattle.likelihoods.proofs.totals.mixed.Statement.{statement}
 use Rattle.likelihoods.proofs.totals.mixed.Tie as tie
 
-abbrev st : tie.After-struct-told2 → tie.Start
+abbrev st : tie.After-struct_told-2-1 → tie.Start
 st c = c.before.before.before.before
 
 small : (s : tie.Start) → nat_abs s.args.a.0 + nat_abs s.args.b.0 < 2 ^ 63
@@ -23,28 +23,28 @@ second : (s : tie.Start) → to_z w64 (of_z w64 (to_z w64 (of_z w64 s.args.b.0) 
 second s = rw (read_small w64 s.args.b.0 (omega (arith, s.requires.2))) (read_small w64 (s.args.b.0 -ℤ pos 4096) (omega (arith, minus_abs s.args.b.0 (pos 4096), s.requires.2)))
 
 -- what the first adds to it
-rise : (c : tie.After-ln-one-plus-exp) → let s = st c.before in to_z w64 (of_z w64 c.ln-one-plus-exp.result) ≡ add_exp (s.args.a.0 -ℤ s.args.b.0) (pos 0)
+rise : (c : tie.After-ln_one_plus_exp-rise) → let s = st c.before in to_z w64 (of_z w64 c.ln_one_plus_exp-rise.result) ≡ add_exp (s.args.a.0 -ℤ s.args.b.0) (pos 0)
 rise c = let s = st c.before in
-    read_back w64 _ c.ln-one-plus-exp.type_inv ∙ rw (minus_read w64 s.args.a.0 s.args.b.0 (small s)) at c.ln-one-plus-exp.ensures
+    read_back w64 _ c.ln_one_plus_exp-rise.type_inv ∙ rw (minus_read w64 s.args.a.0 s.args.b.0 (small s)) at c.ln_one_plus_exp-rise.ensures
 
 mix_fits : (s : tie.Start) → nat_abs ((s.args.b.0 -ℤ pos 4096) +ℤ add_exp (s.args.a.0 -ℤ s.args.b.0) (pos 0)) ≤ 2 ^ 34 + 8192
 mix_fits s = rw (← mixed_over s.args.a.0 s.args.b.0) (mix_small s.args.a.0 s.args.b.0 (2 ^ 34) s.requires.1 s.requires.2)
 
-sub_ln_one_plus_exp : tie.Need-overflow-sub-ln-one-plus-exp
+sub_ln_one_plus_exp : tie.Need-overflow_sub-a
 sub_ln_one_plus_exp c = let s = st c in minus_fits w64 s.args.a.0 s.args.b.0 (small s)
 
-ln_one_plus_exp_requires : tie.Need-ln-one-plus-exp-requires
-ln_one_plus_exp_requires c κs = let s = st c in (s.pre.0, rw (minus_read w64 s.args.a.0 s.args.b.0 (small s)) (omega (arith, minus_abs s.args.a.0 s.args.b.0, s.pre.1, s.pre.2)))
+ln_one_plus_exp_requires : tie.Need-ln_one_plus_exp-rise-requires
+ln_one_plus_exp_requires c κs = let s = st c in (s.requires.0, rw (minus_read w64 s.args.a.0 s.args.b.0 (small s)) (omega (arith, minus_abs s.args.a.0 s.args.b.0, s.requires.1, s.requires.2)))
 
 -- the first adds so much
-abbrev risen : tie.After-struct-told3 → tie.After-ln-one-plus-exp
+abbrev risen : tie.After-struct_told-3-1 → tie.After-ln_one_plus_exp-rise
 risen c = c.before.before
 
-sub_t5 : tie.Need-overflow-sub-t5
+sub_t5 : tie.Need-overflow_sub-result
 sub_t5 c = let s = st (risen c).before in
-    rw (read_small w64 s.args.b.0 (omega (arith, s.pre.2))) (sfits w64 (s.args.b.0 -ℤ pos 4096) (omega (arith, minus_abs s.args.b.0 (pos 4096), s.pre.2)))
+    rw (read_small w64 s.args.b.0 (omega (arith, s.requires.2))) (sfits w64 (s.args.b.0 -ℤ pos 4096) (omega (arith, minus_abs s.args.b.0 (pos 4096), s.requires.2)))
 
-add_t6 : tie.Need-overflow-add-t6
+add_t6 : tie.Need-overflow_add-result
 add_t6 c = let s = st (risen c).before in
     rw (second s, rise (risen c)) (sfits w64 ((s.args.b.0 -ℤ pos 4096) +ℤ add_exp (s.args.a.0 -ℤ s.args.b.0) (pos 0)) (omega (arith, mix_fits s)))
 

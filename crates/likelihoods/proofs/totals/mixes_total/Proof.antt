@@ -18,56 +18,56 @@ use Rattle.likelihoods.proofs.totals.mixes_total.Tie as tie
 abbrev top : ℕ → ℕ
 top f = (2 ^ 32 + 8192) * f
 
-abbrev invariant_loop : tie.invariant_loop
+abbrev invariant_loop : tie.invariant-loop-f
 invariant_loop t lik n sum₀ f₀ sum f = Running (standing_share lik) top n sum.0 f
 
-abbrev decreases_loop : tie.decreases_loop
+abbrev decreases_loop : tie.decreases-loop-f
 decreases_loop t lik n sum₀ f₀ sum f = n - f
 
-loop_holds : tie.Need-loop-init invariant_loop decreases_loop
+loop_holds : tie.Need-loop-f-init invariant_loop decreases_loop
 loop_holds c = running_start _ top _
 
-few : (c : tie.In-loop invariant_loop decreases_loop) → c.before.loop.f < 4096
-few c = omega (arith, c.loop-test.true, c.before.before.requires.1)
+few : (c : tie.In-loop-f invariant_loop decreases_loop) → c.before.loop-f.f < 4096
+few c = omega (arith, c.loop-f-test.true, c.before.before.requires.1)
 
-mul_t8 : tie.Need-overflow-mul-t8 invariant_loop decreases_loop
+mul_t8 : tie.Need-overflow_mul-f invariant_loop decreases_loop
 mul_t8 c = omega (arith, few c)
 
-mul_t9 : tie.Need-overflow-mul-t9 invariant_loop decreases_loop
+mul_t9 : tie.Need-offset_bounds-lik-f invariant_loop decreases_loop
 mul_t9 c = omega (arith, few c)
 
-shared_slice_copy_out_t11 : tie.Need-shared-slice-copy-out-t11 invariant_loop decreases_loop
-shared_slice_copy_out_t11 c = omega (arith, c.loop-test.true, c.before.before.requires.2)
+shared_slice_copy_out_t11 : tie.Need-bounds-lik-f invariant_loop decreases_loop
+shared_slice_copy_out_t11 c = omega (arith, c.loop-f-test.true, c.before.before.requires.2)
 
-mul_t13 : tie.Need-overflow-mul-t13 invariant_loop decreases_loop
+mul_t13 : tie.Need-overflow_mul-f-in-loop-f invariant_loop decreases_loop
 mul_t13 c = omega (arith, few c.before)
 
-add_t14 : tie.Need-overflow-add-t14 invariant_loop decreases_loop
+add_t14 : tie.Need-overflow_add-f invariant_loop decreases_loop
 add_t14 c = omega (arith, few c.before)
 
-mul_t15 : tie.Need-overflow-mul-t15 invariant_loop decreases_loop
+mul_t15 : tie.Need-offset_bounds-lik-f-in-loop-f invariant_loop decreases_loop
 mul_t15 c = omega (arith, few c.before)
 
-shared_slice_copy_out_t17 : tie.Need-shared-slice-copy-out-t17 invariant_loop decreases_loop
-shared_slice_copy_out_t17 c = omega (arith, c.before.loop-test.true, c.before.before.before.requires.2)
+shared_slice_copy_out_t17 : tie.Need-bounds-lik-f-in-loop-f invariant_loop decreases_loop
+shared_slice_copy_out_t17 c = omega (arith, c.before.loop-f-test.true, c.before.before.before.requires.2)
 
 -- the two likelihoods of fragment f, how far from 0 they are, and both read back
-abbrev first : tie.In-loop invariant_loop decreases_loop → ℤ
-first c = get_or c.before.before.args.lik.now (2 * c.before.loop.f) (pos 0)
+abbrev first : tie.In-loop-f invariant_loop decreases_loop → ℤ
+first c = get_or c.before.before.args.lik.now (2 * c.before.loop-f.f) (pos 0)
 
-abbrev second : tie.In-loop invariant_loop decreases_loop → ℤ
-second c = get_or c.before.before.args.lik.now (2 * c.before.loop.f + 1) (pos 0)
+abbrev second : tie.In-loop-f invariant_loop decreases_loop → ℤ
+second c = get_or c.before.before.args.lik.now (2 * c.before.loop-f.f + 1) (pos 0)
 
-first_small : (c : tie.In-loop invariant_loop decreases_loop) → nat_abs (first c) ≤ 2 ^ 32
-first_small c = c.before.before.requires.3 (2 * c.before.loop.f)
+first_small : (c : tie.In-loop-f invariant_loop decreases_loop) → nat_abs (first c) ≤ 2 ^ 32
+first_small c = c.before.before.requires.3 (2 * c.before.loop-f.f)
 
-second_small : (c : tie.In-loop invariant_loop decreases_loop) → nat_abs (second c) ≤ 2 ^ 32
-second_small c = c.before.before.requires.3 (2 * c.before.loop.f + 1)
+second_small : (c : tie.In-loop-f invariant_loop decreases_loop) → nat_abs (second c) ≤ 2 ^ 32
+second_small c = c.before.before.requires.3 (2 * c.before.loop-f.f + 1)
 
-first_read : (c : tie.In-loop invariant_loop decreases_loop) → to_z w64 (of_z w64 (first c)) ≡ first c
+first_read : (c : tie.In-loop-f invariant_loop decreases_loop) → to_z w64 (of_z w64 (first c)) ≡ first c
 first_read c = read_small w64 (first c) (omega (arith, first_small c))
 
-second_read : (c : tie.In-loop invariant_loop decreases_loop) → to_z w64 (of_z w64 (second c)) ≡ second c
+second_read : (c : tie.In-loop-f invariant_loop decreases_loop) → to_z w64 (of_z w64 (second c)) ≡ second c
 second_read c = read_small w64 (second c) (omega (arith, second_small c))
 
 mixed_requires : tie.Need-mixed-requires invariant_loop decreases_loop
@@ -79,11 +79,11 @@ mixed_requires c κs =
     )
 
 -- this turn, what it adds, and how far from 0 that is
-abbrev turn : tie.After-mixed invariant_loop decreases_loop → tie.In-loop invariant_loop decreases_loop
+abbrev turn : tie.After-mixed invariant_loop decreases_loop → tie.In-loop-f invariant_loop decreases_loop
 turn c = c.before.before.before
 
 abbrev share : tie.After-mixed invariant_loop decreases_loop → ℤ
-share c = standing_share (turn c).before.before.args.lik.now (turn c).before.loop.f
+share c = standing_share (turn c).before.before.args.lik.now (turn c).before.loop-f.f
 
 added : (c : tie.After-mixed invariant_loop decreases_loop) → c.mixed.result.0 ≡ share c
 unfolding standing_share
@@ -93,35 +93,35 @@ small : (c : tie.After-mixed invariant_loop decreases_loop) → nat_abs (share c
 unfolding standing_share
 small c = mix_small (first (turn c)) (second (turn c)) (2 ^ 32) (first_small (turn c)) (second_small (turn c))
 
-fits : (c : tie.After-mixed invariant_loop decreases_loop) → nat_abs (turn c).before.loop.sum.0 + nat_abs (share c) < 2 ^ 63
-fits c = omega (arith, (turn c).before.loop.invariant.small, small c, few (turn c))
+fits : (c : tie.After-mixed invariant_loop decreases_loop) → nat_abs (turn c).before.loop-f.sum.0 + nat_abs (share c) < 2 ^ 63
+fits c = omega (arith, (turn c).before.loop-f.invariant.small, small c, few (turn c))
 
-abbrev mix : tie.After-struct-told2 invariant_loop decreases_loop → tie.After-mixed invariant_loop decreases_loop
+abbrev mix : tie.After-struct_told-in-loop-f-1 invariant_loop decreases_loop → tie.After-mixed invariant_loop decreases_loop
 mix c = c.before.before.before.before
 
-add_sum : tie.Need-overflow-add-sum invariant_loop decreases_loop
-add_sum c = let d = mix c in added_fits (turn d).before.loop.sum.0 d.mixed.result.0 _ (added d) (fits d)
+add_sum : tie.Need-overflow_add-sum invariant_loop decreases_loop
+add_sum c = let d = mix c in added_fits (turn d).before.loop-f.sum.0 d.mixed.result.0 _ (added d) (fits d)
 
-add_f : tie.Need-overflow-add-f invariant_loop decreases_loop
+add_f : tie.Need-overflow_add-f-in-loop-f invariant_loop decreases_loop
 add_f c = omega (arith, few (turn (mix c)))
 
-loop_less : tie.Need-loop-smaller invariant_loop decreases_loop
-loop_less c = omega (arith, (turn (mix c)).loop-test.taken)
+loop_less : tie.Need-loop-f-smaller invariant_loop decreases_loop
+loop_less c = omega (arith, (turn (mix c)).loop-f-test.true)
 
-loop_again : tie.Need-loop-preserved invariant_loop decreases_loop
+loop_again : tie.Need-loop-f-preserved invariant_loop decreases_loop
 loop_again c =
     let d = mix c in
     let i = turn d in
     let l = i.before in
-    running_more (standing_share l.before.args.lik.now) top l.before.args.n l.loop.sum.0 _ l.loop.f l.loop.invariant i.loop-test.taken
-    (added_read l.loop.sum.0 d.mixed.result.0 _ (added d) (fits d))
+    running_more (standing_share l.before.args.lik.now) top l.before.args.n l.loop-f.sum.0 _ l.loop-f.f l.loop-f.invariant i.loop-f-test.true
+    (added_read l.loop-f.sum.0 d.mixed.result.0 _ (added d) (fits d))
     (omega (arith, small d))
 
 returns : tie.Need-returns invariant_loop decreases_loop
 returns c =
     let l = c.before in
     let s = l.before in
-    let r = running_end (standing_share s.args.lik.now) top s.args.n l.loop.sum.0 l.loop.f l.loop.invariant c.loop-test.false in
+    let r = running_end (standing_share s.args.lik.now) top s.args.n l.loop-f.sum.0 l.loop-f.f l.loop-f.invariant c.loop-f-test.false in
     (r.0, omega (arith, r.1, s.requires.1))
 
 pub mixes_total_spec : {M : Type 1} → statement M

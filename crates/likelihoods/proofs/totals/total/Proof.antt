@@ -11,26 +11,26 @@ use Rattle.likelihoods.proofs.TotalParts.{same_sum, total_parts}
 use Rattle.likelihoods.proofs.totals.total.Statement.{statement}
 use Rattle.likelihoods.proofs.totals.total.Tie as tie
 
-priors_total_requires : tie.Need-priors-total-requires
+priors_total_requires : tie.Need-priors_total-x-requires
 priors_total_requires c κs = search rules
 
-fragments_total_requires : tie.Need-fragments-total-requires
+fragments_total_requires : tie.Need-fragments_total-y-requires
 fragments_total_requires c κs = search rules
 
 -- the parts
-abbrev x : tie.After-fragments-total → ℤ
-x c = c.before.priors-total.result.0
+abbrev x : tie.After-fragments_total-y → ℤ
+x c = c.before.priors_total-x.result.0
 
-abbrev y : tie.After-fragments-total → ℤ
-y c = c.fragments-total.result.0
+abbrev y : tie.After-fragments_total-y → ℤ
+y c = c.fragments_total-y.result.0
 
-small : (c : tie.After-fragments-total) → nat_abs (x c) + nat_abs (y c) ≤ 2 ^ 40
-small c = omega (arith, c.before.priors-total.ensures.1, c.fragments-total.ensures.1)
+small : (c : tie.After-fragments_total-y) → nat_abs (x c) + nat_abs (y c) ≤ 2 ^ 40
+small c = omega (arith, c.before.priors_total-x.ensures.1, c.fragments_total-y.ensures.1)
 
-abbrev parts : tie.After-struct-told2 → tie.After-fragments-total
+abbrev parts : tie.After-struct_told-2-1 → tie.After-fragments_total-y
 parts c = c.before.before.before.before
 
-add_t11 : tie.Need-overflow-add-t11
+add_t11 : tie.Need-overflow_add-result
 add_t11 c = let d = parts c in plus_fits w64 (x d) (y d) (omega (arith, small d))
 
 returns : tie.Need-returns
@@ -39,7 +39,7 @@ returns c =
     let s = d.before.before.before.before.before.before.before in
     let e = plus_read w64 (x d) (y d) (omega (arith, small d)) in (
       e
-          ∙ same_sum d.before.priors-total.ensures.0 d.fragments-total.ensures.0
+          ∙ same_sum d.before.priors_total-x.ensures.0 d.fragments_total-y.ensures.0
           ∙ total_parts s.args.s.n s.args.s.f s.args.ks.now s.args.pri.now s.args.rows.now s.args.ends.now s.args.hap.now s.args.mask.now,
       rw e (omega (arith, add_abs (x d) (y d), small d)),
     )

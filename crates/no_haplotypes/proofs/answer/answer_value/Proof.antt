@@ -7,72 +7,72 @@ use borrow.Author.Rules.{rules}
 use Rattle.no_haplotypes.proofs.answer.answer_value.Statement.{statement}
 use Rattle.no_haplotypes.proofs.answer.answer_value.Tie as tie
 
-cast_result : tie.Need-overflow-cast-result
+cast_result : tie.Need-overflow_cast-result
 cast_result c = search rules
 
-returns : tie.Need-returns
+returns : tie.Need-returns-then-p-eq0
 returns c =
     let s = c.before.before in
-    (first_value s.args.g s.args.counts.now s.args.ambiguous s.args.depth s.args.p c.before.if1.true, omega arith)
+    (first_value s.args.g s.args.counts.now s.args.ambiguous s.args.depth s.args.p c.before.if-p-eq0.true, omega arith)
 
-cast_result_2 : tie.Need-overflow-cast-result-2
+cast_result_2 : tie.Need-overflow_cast-result-then-p-eq1
 cast_result_2 c = search rules
 
-returns_2 : tie.Need-returns-2
+returns_2 : tie.Need-returns-then-p-eq1
 returns_2 c =
     let s = c.before.before.before in
-    (second_value s.args.g s.args.counts.now s.args.ambiguous s.args.depth s.args.p c.before.if2.true, omega arith)
+    (second_value s.args.g s.args.counts.now s.args.ambiguous s.args.depth s.args.p c.before.if-p-eq1.true, omega arith)
 
-sub_result : tie.Need-overflow-sub-result
+sub_result : tie.Need-overflow_sub-result
 sub_result c = search rules
 
-mul_result : tie.Need-overflow-mul-result
+mul_result : tie.Need-offset_bounds-counts-p
 mul_result c = search rules
 
-element_copy_out_result : tie.Need-element-copy-out-result
+element_copy_out_result : tie.Need-bounds-counts-p
 element_copy_out_result c = search rules
 
-add_result : tie.Need-overflow-add-result
+add_result : tie.Need-overflow_add-result
 add_result c = search rules
 
-mul_result_2 : tie.Need-overflow-mul-result-2
+mul_result_2 : tie.Need-offset_bounds-counts-p-then-p-lt5
 mul_result_2 c = search rules
 
-element_copy_out_result_2 : tie.Need-element-copy-out-result-2
+element_copy_out_result_2 : tie.Need-bounds-counts-p-then-p-lt5
 element_copy_out_result_2 c = search rules
 
-add_result_2 : tie.Need-overflow-add-result-2
+add_result_2 : tie.Need-overflow_add-result-then-p-lt5
 add_result_2 c =
     let s = c.before.before.before.before.before in
     let t = c.before.before in
     omega (arith, s.requires.0.counts_in.few (s.args.p - 2) (omega arith), s.requires.0.counts_in.few (s.args.p + 1) (omega arith))
 
-returns_3 : tie.Need-returns-3
+returns_3 : tie.Need-returns-then-p-lt5
 returns_3 c =
     let s = c.before.before.before.before.before in (
-      sum_value s.args.g s.args.counts.now s.args.ambiguous s.args.depth s.args.p c.before.before.before.before.if1.false c.before.before.before.if2.false c.before.before.if3.true,
+      sum_value s.args.g s.args.counts.now s.args.ambiguous s.args.depth s.args.p c.before.before.before.before.if-p-eq0.false c.before.before.before.if-p-eq1.false c.before.before.if-p-lt5.true,
       omega (arith, s.requires.0.counts_in.few (s.args.p - 2) (omega arith), s.requires.0.counts_in.few (s.args.p + 1) (omega arith)),
     )
 
-mul_result_3 : tie.Need-overflow-mul-result-3
+mul_result_3 : tie.Need-offset_bounds-counts-p-then-p-lt11
 mul_result_3 c = search rules
 
-element_copy_out_result_3 : tie.Need-element-copy-out-result-3
+element_copy_out_result_3 : tie.Need-bounds-counts-p-then-p-lt11
 element_copy_out_result_3 c = search rules
 
-returns_4 : tie.Need-returns-4
+returns_4 : tie.Need-returns-then-p-lt11
 returns_4 c =
     let s = c.before.before.before.before.before in (
-      strand_value s.args.g s.args.counts.now s.args.ambiguous s.args.depth s.args.p c.before.before.if3.false c.before.if4.true,
+      strand_value s.args.g s.args.counts.now s.args.ambiguous s.args.depth s.args.p c.before.before.if-p-lt5.false c.before.if-p-lt11.true,
       omega (arith, s.requires.0.counts_in.few (s.args.p - 5) (omega arith)),
     )
 
-returns_5 : tie.Need-returns-5
+returns_5 : tie.Need-returns-then-p-eq11
 returns_5 c =
     let s = c.before.before.before.before.before in
-    (ambiguous_value s.args.g s.args.counts.now s.args.ambiguous s.args.depth s.args.p c.if5.true, omega (arith, s.requires.0.ambiguous_few))
+    (ambiguous_value s.args.g s.args.counts.now s.args.ambiguous s.args.depth s.args.p c.if-p-eq11.true, omega (arith, s.requires.0.ambiguous_few))
 
-returns_6 : tie.Need-returns-6
+returns_6 : tie.Need-returns
 returns_6 c =
     let s = c.before.before.before.before.before in
     (depth_value s.args.g s.args.counts.now s.args.ambiguous s.args.depth s.args.p (omega arith), s.requires.0.depth_top)

@@ -8,7 +8,7 @@ use borrow.Author.Rules.{rules}
 use Rattle.no_haplotypes.proofs.answer.word_of.Statement.{statement}
 use Rattle.no_haplotypes.proofs.answer.word_of.Tie as tie
 
-cast_result : tie.Need-overflow-cast-result
+cast_result : tie.Need-overflow_cast-result
 cast_result c = search rules
 
 returns : tie.Need-returns

@@ -8,37 +8,37 @@ use borrow.Author.Rules.{rules}
 use Rattle.no_haplotypes.proofs.scores.write_posteriors.Statement.{statement}
 use Rattle.no_haplotypes.proofs.scores.write_posteriors.Tie as tie
 
-tally_requires : tie.Need-tally-requires
+tally_requires : tie.Need-tally-total-requires
 tally_requires c κs = search rules
 
-allele_count_requires : tie.Need-allele-count-requires
+allele_count_requires : tie.Need-allele_count-k-requires
 allele_count_requires c κs = search rules
 
-mul_write_scores : tie.Need-overflow-mul-write-scores
+mul_write_scores : tie.Need-overflow_mul-v
 mul_write_scores c = search rules
 
 -- the entry, and the number of alleles
-abbrev st : tie.After-tally → tie.Start
+abbrev st : tie.After-tally-total → tie.Start
 st y = y.before.before.before.before
 
-low : (a : tie.After-allele-count) → 1 ≤ a.allele-count.result
-low a = let s = st a.before in rw a.allele-count.ensures (s.pre.0.1.variants.each s.args.v s.pre.0.3).k_low
+low : (a : tie.After-allele_count-k) → 1 ≤ a.allele_count-k.result
+low a = let s = st a.before in rw a.allele_count-k.ensures (s.requires.0.1.variants.each s.args.v s.requires.0.3).k_low
 
-top : (a : tie.After-allele-count) → a.allele-count.result ≤ 3
-top a = let s = st a.before in rw a.allele-count.ensures (s.pre.0.1.variants.each s.args.v s.pre.0.3).k_high
+top : (a : tie.After-allele_count-k) → a.allele_count-k.result ≤ 3
+top a = let s = st a.before in rw a.allele_count-k.ensures (s.requires.0.1.variants.each s.args.v s.requires.0.3).k_high
 
-write_scores_requires : tie.Need-write-scores-requires
+write_scores_requires : tie.Need-write_scores-requires
 write_scores_requires c κs =
     let a = c.before.before in
     let y = a.before in
     let s = st y in
-    (pile_sums y.tally.ensures s.pre.0.2, low a, top a, s.pre.1.1)
+    (pile_sums y.tally-total.ensures s.requires.0.2, low a, top a, s.requires.1.1)
 
 -- the number of alleles, from the scores
-abbrev counted : tie.After-write-scores → tie.After-allele-count
+abbrev counted : tie.After-write_scores → tie.After-allele_count-k
 counted g = g.before.before.before
 
-mul_normalize : tie.Need-overflow-mul-normalize
+mul_normalize : tie.Need-overflow_mul-v-2
 mul_normalize c = search rules
 
 normalize_requires : tie.Need-normalize-requires
@@ -47,9 +47,9 @@ normalize_requires c κs =
     let a = counted g in
     let y = a.before in
     let s = st y in
-    (s.pre.0.0, scored_table (low a) (top a) s.pre.1.1 (pile_sums y.tally.ensures s.pre.0.2) g.write-scores.ensures)
+    (s.requires.0.0, scored_table (low a) (top a) s.requires.1.1 (pile_sums y.tally-total.ensures s.requires.0.2) g.write_scores.ensures)
 
-same_length : tie.Need-same-length
+same_length : tie.Need-shape_of-post
 same_length c = search rules
 
 returns : tie.Need-returns
@@ -59,7 +59,7 @@ returns c =
     let a = counted g in
     let y = a.before in
     let s = st y in
-    posteriors_made (low a) (top a) s.pre.1.1 (pile_sums y.tally.ensures s.pre.0.2) g.write-scores.ensures n.normalize.ensures y.tally.ensures refl a.allele-count.ensures (pile_counts y.tally.ensures s.pre.0.2)
+    posteriors_made (low a) (top a) s.requires.1.1 (pile_sums y.tally-total.ensures s.requires.0.2) g.write_scores.ensures n.normalize.ensures y.tally-total.ensures refl a.allele_count-k.ensures (pile_counts y.tally-total.ensures s.requires.0.2)
 
 pub write_posteriors_spec : {M : Type 1} → statement M
 write_posteriors_spec =

@@ -1,4 +1,3 @@
-use Rattle.std.proofs.Common.{rules, ◌≡◌}
 use Rattle.pileup.specs.Inner.Reader.{step_at}
 use Rattle.pileup.proofs.reader.read_call.Goals as goal
 

@@ -1,4 +1,4 @@
-use Rattle.std.proofs.Common.{rules, ◌≡◌, ap}
+use Rattle.std.proofs.Common.{ap}
 use Rattle.pileup.specs.declared.reader.CallStep.{CallStep}
 use Rattle.pileup.specs.Inner.Reader.{step_at, reader_at}
 use Rattle.pileup.proofs.reader.ChainReader.next.Goals as goal
