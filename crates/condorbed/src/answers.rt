@@ -1,10 +1,10 @@
 // The first line of an answer, and what the program writes where a request cannot be read.
 use protocol::input::{Reader, Reason};
-use protocol::{Buffer, output};
+use protocol::{Sink, output};
 use variants_and_fragments::Refusal;
 
 // `unreadable LINE TOKEN REASON`, after which nothing is answered.
-pub fn unreadable(output: &mut Buffer, reader: Reader) -> Reader {
+pub fn unreadable(output: &mut Sink, reader: Reader) -> Reader {
     let mut used = output::text(output, 0, b"unreadable ");
     used = output::natural(output, used, reader.line);
     used = output::byte(output, used, b' ');
@@ -16,7 +16,7 @@ pub fn unreadable(output: &mut Buffer, reader: Reader) -> Reader {
 }
 
 // ` REASON` and the end of the line.
-fn reason_word(output: &mut Buffer, used: usize, reason: Reason) -> usize {
+fn reason_word(output: &mut Sink, used: usize, reason: Reason) -> usize {
     match reason {
         Reason::Request => output::text(output, used, b" request\n"),
         Reason::Number => output::text(output, used, b" number\n"),
@@ -26,12 +26,12 @@ fn reason_word(output: &mut Buffer, used: usize, reason: Reason) -> usize {
 }
 
 // `done` with no fields.
-pub fn done(output: &mut Buffer) -> usize {
+pub fn done(output: &mut Sink) -> usize {
     output::text(output, 0, b"done\n")
 }
 
 // `refused NUMBER PLACE`.
-pub fn refused(output: &mut Buffer, refusal: Refusal) -> usize {
+pub fn refused(output: &mut Sink, refusal: Refusal) -> usize {
     let mut used = output::text(output, 0, b"refused ");
     used = output::natural(output, used, variants_and_fragments::number(refusal) as u64);
     used = output::byte(output, used, b' ');

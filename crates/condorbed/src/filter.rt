@@ -5,16 +5,16 @@ ghost use Rattle.protocol.specs.Inner.Input.{Counts};
 use crate::answers::{done, refused, unreadable};
 use crate::arrays;
 use protocol::input::Reader;
-use protocol::{Buffer, input, output};
+use protocol::{Sink, Source, input, output};
 use steps::PHREDProb;
 use var_filter::DensityParameters;
 use variants_and_fragments::Answered;
 
 // The answer to the request once its case is read; the reader after it, which failed where the request is unreadable.
 pub fn answer(
-    input: &mut Buffer,
+    input: &mut Source,
     reader: Reader,
-    output: &mut Buffer,
+    output: &mut Sink,
     words: &[i32],
     bases: &[u8],
 ) -> Reader {
@@ -52,7 +52,7 @@ pub struct Limits {
 }
 
 // The parts after the quals.
-fn read_limits(input: &mut Buffer, reader: Reader, filters: &[u8]) -> Limits
+fn read_limits(input: &mut Source, reader: Reader, filters: &[u8]) -> Limits
     ensures { Counts result.filters filters.now }
 {
     let qual = input::read_f64(input, reader);
@@ -80,7 +80,7 @@ fn read_limits(input: &mut Buffer, reader: Reader, filters: &[u8]) -> Limits
 
 // Calls the operation and prints its answer.
 fn call(
-    output: &mut Buffer,
+    output: &mut Sink,
     words: &[i32],
     bases: &[u8],
     quals: &[f64],

@@ -3,13 +3,13 @@ use crate::answers::{refused, unreadable};
 use crate::arrays;
 use haplotype_assembly::Buffered;
 use protocol::input::{Reader, Reason};
-use protocol::{Buffer, input, output};
+use protocol::{Sink, Source, input, output};
 
 // The answer to the request once its case is read; the reader after it, which failed where the request is unreadable.
 pub fn answer(
-    input: &mut Buffer,
+    input: &mut Source,
     reader: Reader,
-    output: &mut Buffer,
+    output: &mut Sink,
     words: &[i32],
     bases: &[u8],
 ) -> Reader {
@@ -34,7 +34,7 @@ pub struct FlagPart {
 }
 
 // The next token as a flag, 0 or 1; the reader fails where it is neither.
-fn read_flag(input: &mut Buffer, reader: Reader) -> FlagPart {
+fn read_flag(input: &mut Source, reader: Reader) -> FlagPart {
     let part = input::read_u8(input, reader);
     let value = part.value;
     let after = part.reader;
@@ -51,7 +51,7 @@ fn read_flag(input: &mut Buffer, reader: Reader) -> FlagPart {
 }
 
 // Calls the operation and prints its answer.
-fn call(output: &mut Buffer, words: &[i32], bases: &[u8], single_reads: bool, buffer: &mut [u8]) {
+fn call(output: &mut Sink, words: &[i32], bases: &[u8], single_reads: bool, buffer: &mut [u8]) {
     let first = match haplotype_assembly::generate_flist_buffer(
         words,
         bases,
@@ -66,7 +66,7 @@ fn call(output: &mut Buffer, words: &[i32], bases: &[u8], single_reads: bool, bu
 }
 
 // `done` with the bytes and the lines that were written.
-fn done_with(output: &mut Buffer, bytes: usize, lines: usize) -> usize {
+fn done_with(output: &mut Sink, bytes: usize, lines: usize) -> usize {
     let mut used = output::text(output, 0, b"done ");
     used = output::natural(output, used, bytes as u64);
     used = output::byte(output, used, b' ');

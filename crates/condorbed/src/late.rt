@@ -4,14 +4,14 @@ use crate::answers::{refused, unreadable};
 use crate::arrays;
 use late_reads::Updated;
 use protocol::input::Reader;
-use protocol::{Buffer, input, output};
+use protocol::{Sink, Source, input, output};
 use steps::LogProb;
 
 // The answer to the request once its case is read; the reader after it, which failed where the request is unreadable.
 pub fn answer(
-    input: &mut Buffer,
+    input: &mut Source,
     reader: Reader,
-    output: &mut Buffer,
+    output: &mut Sink,
     words: &mut [i32],
     bases: &[u8],
     arrives: bool,
@@ -38,9 +38,9 @@ pub fn answer(
 
 // The same once the phase and the haplotypes are read.
 fn answer_pairs(
-    input: &mut Buffer,
+    input: &mut Source,
     reader: Reader,
-    output: &mut Buffer,
+    output: &mut Sink,
     words: &mut [i32],
     bases: &[u8],
     phase: &[u8],
@@ -90,7 +90,7 @@ pub struct Numbers {
 }
 
 // total (i64) fragment (u32).
-fn read_numbers(input: &mut Buffer, reader: Reader) -> Numbers {
+fn read_numbers(input: &mut Source, reader: Reader) -> Numbers {
     let total = input::read_i64(input, reader);
     let r1 = total.reader;
     let fragment = input::read_u32(input, r1);
@@ -104,7 +104,7 @@ fn read_numbers(input: &mut Buffer, reader: Reader) -> Numbers {
 
 // The same for a departure, all of which is read.
 fn answer_departure(
-    output: &mut Buffer,
+    output: &mut Sink,
     words: &mut [i32],
     bases: &[u8],
     phase: &[u8],
@@ -133,8 +133,8 @@ fn answer_departure(
 
 // The same for an arrival, once its strand and calls are read.
 fn answer_arrival(
-    input: &mut Buffer,
-    output: &mut Buffer,
+    input: &mut Source,
+    output: &mut Sink,
     words: &mut [i32],
     bases: &[u8],
     phase: &[u8],
@@ -170,7 +170,7 @@ fn answer_arrival(
 }
 
 // The first line: refused, or done with the new total.
-fn first_line(output: &mut Buffer, answer: Updated) -> usize {
+fn first_line(output: &mut Sink, answer: Updated) -> usize {
     match answer {
         Updated::Unsettled(total) => unsettled(output, total),
         Updated::Refused(r) => refused(output, r),
@@ -178,7 +178,7 @@ fn first_line(output: &mut Buffer, answer: Updated) -> usize {
 }
 
 // `done unsettled TOTAL`.
-fn unsettled(output: &mut Buffer, total: LogProb) -> usize {
+fn unsettled(output: &mut Sink, total: LogProb) -> usize {
     let mut used = output::text(output, 0, b"done unsettled ");
     used = output::integer(output, used, total.0);
     output::byte(output, used, b'\n')
@@ -186,7 +186,7 @@ fn unsettled(output: &mut Buffer, total: LogProb) -> usize {
 
 // Prints the first line, and one line for each slice that the operation can write.
 fn print_answer(
-    output: &mut Buffer,
+    output: &mut Sink,
     answer: Updated,
     words: &[i32],
     likelihoods: &[i64],

@@ -4,14 +4,14 @@ use crate::arrays;
 use crate::parts::{read_qualities, read_rates};
 use genotype_probs::Rates;
 use protocol::input::Reader;
-use protocol::{Buffer, input, output};
+use protocol::{Sink, Source, input, output};
 use variants_and_fragments::Answered;
 
 // The answer to the request once its case is read; the reader after it, which failed where the request is unreadable.
 pub fn answer(
-    input: &mut Buffer,
+    input: &mut Source,
     reader: Reader,
-    output: &mut Buffer,
+    output: &mut Sink,
     words: &[i32],
     bases: &[u8],
 ) -> Reader {
@@ -45,7 +45,7 @@ pub fn answer(
 
 // Calls the operation and prints its answer.
 fn call(
-    output: &mut Buffer,
+    output: &mut Sink,
     words: &[i32],
     bases: &[u8],
     rates: Rates,

@@ -2,14 +2,14 @@
 use crate::answers::{done, refused, unreadable};
 use crate::arrays;
 use protocol::input::Reader;
-use protocol::{Buffer, input, output};
+use protocol::{Sink, Source, input, output};
 use variants_and_fragments::Answered;
 
 // The answer to the request once its case is read; the reader after it, which failed where the request is unreadable.
 pub fn answer(
-    input: &mut Buffer,
+    input: &mut Source,
     reader: Reader,
-    output: &mut Buffer,
+    output: &mut Sink,
     words: &[i32],
     bases: &[u8],
 ) -> Reader {
@@ -27,7 +27,7 @@ pub fn answer(
 }
 
 // Calls the operation and prints its answer.
-fn call(output: &mut Buffer, words: &[i32], bases: &[u8], seed: u64, orders: &mut [u32]) {
+fn call(output: &mut Sink, words: &[i32], bases: &[u8], seed: u64, orders: &mut [u32]) {
     let first = match shuffle::sweep_orders(words, bases, seed, orders) {
         Answered::Done => done(output),
         Answered::Refused(r) => refused(output, r),

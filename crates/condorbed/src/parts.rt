@@ -5,7 +5,7 @@ ghost use Rattle.protocol.specs.Inner.Input.{Counts};
 use genotype_probs::Rates;
 use protocol::input::Reader;
 use protocol::number::widened;
-use protocol::{Buffer, input};
+use protocol::{Source, input};
 use steps::LogProb;
 
 // A case that was read: the lengths of its two slices, and the reader after them.
@@ -18,7 +18,7 @@ pub struct CasePart {
 
 // `<words i32>` `<bases u8>`.
 pub fn read_case(
-    input: &mut Buffer,
+    input: &mut Source,
     reader: Reader,
     words: &mut [i32],
     bases: &mut [u8],
@@ -44,7 +44,7 @@ pub struct RatesPart {
 }
 
 // hom_snv het_snv hom_indel het_indel ts tv.
-pub fn read_rates(input: &mut Buffer, reader: Reader) -> RatesPart {
+pub fn read_rates(input: &mut Source, reader: Reader) -> RatesPart {
     let hom_snv = read_rate(input, reader);
     let r1 = hom_snv.reader;
     let het_snv = read_rate(input, r1);
@@ -79,7 +79,7 @@ pub struct RatePart {
 }
 
 // One rate, an i32.
-fn read_rate(input: &mut Buffer, reader: Reader) -> RatePart {
+fn read_rate(input: &mut Source, reader: Reader) -> RatePart {
     let part = input::read_i32(input, reader);
     let after = part.reader;
     RatePart {
@@ -98,7 +98,7 @@ pub struct PhasePart {
 
 // `<phase u8>` `<sets i32>`.
 pub fn read_phase(
-    input: &mut Buffer,
+    input: &mut Source,
     reader: Reader,
     phase: &mut [u8],
     sets: &mut [i32],
@@ -126,7 +126,7 @@ pub struct QualitiesPart {
 
 // `[quals f64]` `[gqs f64]`.
 pub fn read_qualities(
-    input: &mut Buffer,
+    input: &mut Source,
     reader: Reader,
     quals: &[f64],
     gqs: &[f64],

@@ -5,14 +5,14 @@ use crate::answers::{done, refused, unreadable};
 use crate::arrays;
 use crate::parts::read_phase;
 use protocol::input::Reader;
-use protocol::{Buffer, input, output};
+use protocol::{Sink, Source, input, output};
 use variants_and_fragments::Answered;
 
 // The answer to the request once its case is read; the reader after it, which failed where the request is unreadable.
 pub fn answer(
-    input: &mut Buffer,
+    input: &mut Source,
     reader: Reader,
-    output: &mut Buffer,
+    output: &mut Sink,
     words: &[i32],
     bases: &[u8],
 ) -> Reader {
@@ -27,9 +27,9 @@ pub fn answer(
 
 // The same once all that the operation reads is read.
 fn answer_given(
-    input: &mut Buffer,
+    input: &mut Source,
     reader: Reader,
-    output: &mut Buffer,
+    output: &mut Sink,
     words: &[i32],
     bases: &[u8],
     phase: &[u8],
@@ -70,7 +70,7 @@ pub struct Fronts {
 
 // `[haplotypes u8]` `[phased u8]` `[names u32]`.
 fn read_fronts(
-    input: &mut Buffer,
+    input: &mut Source,
     reader: Reader,
     haplotypes: &[u8],
     phased: &[u8],
@@ -94,7 +94,7 @@ fn read_fronts(
 
 // Calls the operation and prints its answer.
 fn call(
-    output: &mut Buffer,
+    output: &mut Sink,
     words: &[i32],
     bases: &[u8],
     phase: &[u8],

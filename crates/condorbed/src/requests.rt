@@ -13,7 +13,7 @@ use crate::answers::unreadable;
 use crate::parts::read_case;
 use crate::{check, filter, flist, late, nohap, orders, phase, priors, run};
 use protocol::input::{Reader, Reason};
-use protocol::{Buffer, input};
+use protocol::{Sink, Source, input};
 
 // The operations that a request can ask for.
 #[derive(Clone, Copy)]
@@ -82,11 +82,11 @@ fn named(word: u64) -> Asked
     }
 }
 
-// The answer to every request of the input. A proved loop has to end: at most 2^64 − 1 requests.
-pub fn answer_all(input: &mut Buffer, output: &mut Buffer, words: &mut [i32], bases: &mut [u8]) {
+// The answer to every request of the input, until a write fails. A proved loop has to end: at most 2^64 − 1 requests.
+pub fn answer_all(input: &mut Source, output: &mut Sink, words: &mut [i32], bases: &mut [u8]) {
     let mut reader = Reader::new();
     let mut left: u64 = 18446744073709551615;
-    while reader.ok {
+    while reader.ok & output.is_whole() {
         if left == 0 {
             break;
         }
@@ -100,9 +100,9 @@ pub fn answer_all(input: &mut Buffer, output: &mut Buffer, words: &mut [i32], ba
 // The answer to one request; the reader after it, which failed where no other is to be answered.
 fn answer(
     asked: Asked,
-    input: &mut Buffer,
+    input: &mut Source,
     reader: Reader,
-    output: &mut Buffer,
+    output: &mut Sink,
     words: &mut [i32],
     bases: &mut [u8],
 ) -> Reader {
@@ -116,9 +116,9 @@ fn answer(
 // The same for an operation: every request starts with a case.
 fn answer_case(
     operation: Operation,
-    input: &mut Buffer,
+    input: &mut Source,
     reader: Reader,
-    output: &mut Buffer,
+    output: &mut Sink,
     words: &mut [i32],
     bases: &mut [u8],
 ) -> Reader {
@@ -139,9 +139,9 @@ fn answer_case(
 // The same once the case is read.
 fn answer_operation(
     operation: Operation,
-    input: &mut Buffer,
+    input: &mut Source,
     reader: Reader,
-    output: &mut Buffer,
+    output: &mut Sink,
     words: &mut [i32],
     bases: &[u8],
 ) -> Reader {

@@ -7,14 +7,14 @@ use crate::arrays;
 use crate::parts::{read_phase, read_qualities, read_rates};
 use genotype_probs::Rates;
 use protocol::input::Reader;
-use protocol::{Buffer, input, output};
+use protocol::{Sink, Source, input, output};
 use with_haplotypes::{Round, RoundAnswer};
 
 // The answer to the request once its case is read; the reader after it, which failed where the request is unreadable.
 pub fn answer(
-    input: &mut Buffer,
+    input: &mut Source,
     reader: Reader,
-    output: &mut Buffer,
+    output: &mut Sink,
     words: &[i32],
     bases: &[u8],
 ) -> Reader {
@@ -41,9 +41,9 @@ pub fn answer(
 
 // The same once the given phase is read.
 fn answer_phase(
-    input: &mut Buffer,
+    input: &mut Source,
     reader: Reader,
-    output: &mut Buffer,
+    output: &mut Sink,
     words: &[i32],
     bases: &[u8],
     rates: Rates,
@@ -82,9 +82,9 @@ pub struct Given {
 
 // The same once all that the operation reads is read.
 fn answer_given(
-    input: &mut Buffer,
+    input: &mut Source,
     reader: Reader,
-    output: &mut Buffer,
+    output: &mut Sink,
     words: &[i32],
     bases: &[u8],
     given: Given,
@@ -127,7 +127,7 @@ pub struct Fronts {
 
 // `[haplotypes u8]` `[likelihoods i64]` `[posteriors i64]`.
 fn read_fronts(
-    input: &mut Buffer,
+    input: &mut Source,
     reader: Reader,
     haplotypes: &[u8],
     likelihoods: &[i64],
@@ -151,9 +151,9 @@ fn read_fronts(
 
 // The same once the haplotypes, likelihoods and posteriors are lent.
 fn answer_lent(
-    input: &mut Buffer,
+    input: &mut Source,
     reader: Reader,
-    output: &mut Buffer,
+    output: &mut Sink,
     words: &[i32],
     bases: &[u8],
     given: Given,
@@ -191,7 +191,7 @@ fn answer_lent(
 
 // Calls the operation and prints its answer.
 fn call(
-    output: &mut Buffer,
+    output: &mut Sink,
     words: &[i32],
     bases: &[u8],
     given: Given,
@@ -230,7 +230,7 @@ fn call(
 }
 
 // The first line: refused, or done with the fields.
-fn first_line(output: &mut Buffer, answer: Round) -> usize {
+fn first_line(output: &mut Sink, answer: Round) -> usize {
     match answer {
         Round::Done(x) => done_with(output, x),
         Round::Refused(r) => refused(output, r),
@@ -238,7 +238,7 @@ fn first_line(output: &mut Buffer, answer: Round) -> usize {
 }
 
 // `done SWEEPS settled START END SOURCE`, or `unsettled` in place of `settled`.
-fn done_with(output: &mut Buffer, x: RoundAnswer) -> usize {
+fn done_with(output: &mut Sink, x: RoundAnswer) -> usize {
     let mut used = output::text(output, 0, b"done ");
     used = output::natural(output, used, x.sweeps as u64);
     used = settled_word(output, used, x.settled);
@@ -251,7 +251,7 @@ fn done_with(output: &mut Buffer, x: RoundAnswer) -> usize {
 }
 
 // ` settled ` or ` unsettled `.
-fn settled_word(output: &mut Buffer, used: usize, settled: bool) -> usize {
+fn settled_word(output: &mut Sink, used: usize, settled: bool) -> usize {
     if settled {
         output::text(output, used, b" settled ")
     } else {
@@ -261,7 +261,7 @@ fn settled_word(output: &mut Buffer, used: usize, settled: bool) -> usize {
 
 // Prints the first line, and one line for each output slice.
 fn print_answer(
-    output: &mut Buffer,
+    output: &mut Sink,
     answer: Round,
     haplotypes: &[u8],
     likelihoods: &[i64],

@@ -1,7 +1,7 @@
 -- What std writes for a number is its decimal text, and what putting it into a buffer leaves.
 -- By induction on the fuel: the last digit falls off on both sides. Assumes nothing.
-use Rattle.std.proofs.Common.{◌≡◌, ℕ, zero, suc, ◌+◌, ◌-◌, ◌*◌, ◌/◌, ◌%◌, ◌^◌, ◌<◌, ◌≤◌, Bool, true, false, ltb, leb, List, [], ◌∷◌, ◌++◌, length, set, ℤ, pos, negsuc, nat_abs, sym, refl, ap, ◌∙◌, true≢false, eqb, ne_eqb, append_assoc, append-nil, add-suc, suc-add, add-one, arith, length-append, length-set, take-suc-set, drop-set-lt, ltb-false, ltb-true, le-ltb, lt-ltb, leb-false, leb-true}
-use native.Mathlib.Nat.{pow-succ', one-le-pow, pow-le-pow_right}
+use Rattle.std.proofs.Common.{◌≡◌, ℕ, zero, suc, ◌+◌, ◌*◌, ◌/◌, ◌%◌, ◌^◌, ◌<◌, ◌≤◌, Bool, true, false, ltb, List, [], ◌∷◌, ◌++◌, length, set, ℤ, pos, negsuc, nat_abs, sym, refl, ap, ◌∙◌, true≢false, eqb, ne_eqb, append_assoc, append-nil, add-suc, suc-add, add-one, arith, length-set, take-suc-set, drop-set-lt, ltb-false, ltb-true, le-ltb, lt-ltb}
+use native.Mathlib.Nat.{pow-succ'}
 use lib.Signed.{lt_z}
 use lib.Seq.{paste}
 use Rattle.std.specs.Fmt.{digits_onto, digits, decimal}

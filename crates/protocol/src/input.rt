@@ -170,7 +170,10 @@ fn next(input: &mut Source, cursor: Cursor) -> Step
 fn refill(input: &mut Source) -> usize {
     match input.stdin.read(&mut input.bytes) {
         Ok(count) => count,
-        Err(_) => 0,
+        Err(e) => {
+            input.outcome = Err(e);
+            0
+        }
     }
 }
 

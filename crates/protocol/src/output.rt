@@ -6,13 +6,14 @@ use crate::number::widened;
 use crate::{Sink, print};
 use std::io::Write;
 
-// Writes out the bytes that wait, and answers 0. A write that fails drops the bytes that are left.
-pub fn flush(output: &Sink, used: usize) -> usize
+// Writes out the bytes that wait, and answers 0. After a write that failed nothing is written.
+pub fn flush(output: &mut Sink, used: usize) -> usize
     ensures { result ≡ 0 }
 {
-    if used <= output.bytes.len() {
-        let mut stdout = output.stdout;
-        let _ = stdout.write_all(&output.bytes[..used]);
+    if output.is_whole() {
+        if used <= output.bytes.len() {
+            output.outcome = output.stdout.write_all(&output.bytes[..used]);
+        }
     }
     0
 }

@@ -1,26 +1,27 @@
 // Runs SplitMix64's published vectors: five outputs from the state 1234567, then four from the state 0. `stdout` holds the published values.
 #![tactic(auto)]
-use libc::STDOUT_FILENO;
+
 use shuffle::splitmix::{mix, next_state};
+use std::io;
 
 // Writes a number, and ends the line.
-fn write_line(n: u64) {
-    io::print_decimal(STDOUT_FILENO, n);
-    io::write_all(STDOUT_FILENO, b"\n");
+fn write_line(rt: &impl Print, n: u64) -> io::Result<()> {
+    println!(rt; "{n}")
 }
 
 // Writes so many outputs from a state, one to a line. At the loop's head i of them are written.
-fn write_outputs(first: u64, count: usize) {
+fn write_outputs(rt: &impl Print, first: u64, count: usize) -> io::Result<()> {
     let mut state = first;
     let mut i = 0;
     while i < count {
         i += 1;
         state = next_state(state);
-        write_line(mix(state));
+        write_line(rt, mix(state))?;
     }
+    Ok(())
 }
 
-fn main() {
-    write_outputs(1234567, 5);
-    write_outputs(0, 4);
+fn main(rt: HostRuntime) -> io::Result<()> {
+    write_outputs(&rt, 1234567, 5)?;
+    write_outputs(&rt, 0, 4)
 }

@@ -1,5 +1,5 @@
 -- `print::put_u64` meets its contract: what `itoa` writes is the decimal text, at most 20 bytes. Assumes nothing.
-use Rattle.std.proofs.Common.{◌≡◌, List, ℕ, length, ap, ◌∙◌, arith}
+use Rattle.std.proofs.Common.{List, ℕ, length, ap, ◌∙◌, arith}
 use Rattle.std.proofs.Math.Seq.{paste}
 use Rattle.protocol.proofs.Decimal.{put_text}
 use Rattle.protocol.proofs.print.put_u64.Goals as goal

@@ -1,7 +1,6 @@
 -- `Number::as_i64` meets its contract: the sizes of an i64 by the sign. Assumes nothing.
 use Rattle.std.proofs.Common.{◌≡◌, ◌^◌, ◌<◌, true, false, sym, ap, ◌∙◌, arith, to_z-of_z, w64, rules}
 use mir.Facts.{to_z_pos}
-use borrow.Author.Tests.{not-true, not-false}
 use Rattle.protocol.specs.Inner.State.{is_integer, signed_sizes, i64_in, with_sign}
 use Rattle.protocol.specs.declared.number.ReadI64.TheVariants.{Value}
 use Rattle.protocol.proofs.Readings.{integral_none, integral_value, integral_large}
