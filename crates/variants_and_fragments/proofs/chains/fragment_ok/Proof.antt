@@ -3,7 +3,6 @@
 use mathlib.Core.Path.{refl, sym, ◌∙◌}
 use Prim.Native.Nat.{◌≤◌}
 use native.Mathlib.Omega.{arith}
-use borrow.Author.Tests.{not-true, not-false}
 use Rattle.variants_and_fragments.specs.Chain.{reached}
 use Rattle.variants_and_fragments.specs.Layout.{max_strand, strand_at}
 use Rattle.variants_and_fragments.proofs.Bools.{true_false}
