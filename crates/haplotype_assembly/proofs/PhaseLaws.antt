@@ -51,7 +51,7 @@ module _ {X : Type 0} (n : ℕ) (bytes : List ℕ) (sets : List ℤ) (rest : Out
 pub record Faultless (n : ℕ) (bytes : List ℕ) (sets : List ℤ) : Type 0 where
   pub bytes_long : length bytes ≡ n
   pub sets_long : length sets ≡ n
-  pub sets_ok_lem : (v : ℕ) → v < n → sets_ok n sets v ≡ true
+  pub all_sets_ok : (v : ℕ) → v < n → sets_ok n sets v ≡ true
 
 pub faultless : (n : ℕ) (bytes : List ℕ) (sets : List ℤ) → n < phase_fault n bytes sets → Faultless n bytes sets
 unfolding phase_tests first_fail
@@ -59,7 +59,7 @@ faultless n bytes sets h =
     let p = unless_past {X = ℕ} _ 7 n _ 0 (sym (phase_on n bytes sets (done 0) h)) in
     let q = both (eqb (length bytes) n) (eqb (length sets) n) p.0 in
     let k = each_past 7 (sets_ok n sets) 0 n (done 0) 0 p.1 in
-    record { bytes_long = eqb-true _ _ q.0; sets_long = eqb-true _ _ q.1; sets_ok_lem = first_all (sets_ok n sets) n (omega (arith, k.0)) }
+    record { bytes_long = eqb-true _ _ q.0; sets_long = eqb-true _ _ q.1; all_sets_ok = first_all (sets_ok n sets) n (omega (arith, k.0)) }
 
 -- ---- what is written, of an accepted case
 pub phase_written : (w : List ℤ) (b : List ℕ) (s : Sizes) → check_case_outcome w b ≡ done s → (bytes : List ℕ) (sets : List ℤ) (before : PhaseSlices) (haplotypes phased names : List ℕ)

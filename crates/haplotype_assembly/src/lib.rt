@@ -1,5 +1,6 @@
 // The given phase of document 01, section 5, and the fragment lines of section 7.
 #![tactic(auto)]
+
 ghost use Rattle.std.specs.Prelude.{◌≡◌, ◌≤◌};
 ghost use Rattle.variants_and_fragments.specs.Refusals.{outcome_of};
 ghost use Rattle.haplotype_assembly.specs.GivenPhase.{phase_slices, GivenPhase};

@@ -1,5 +1,6 @@
 // Calling genotypes without haplotypes: document 01, section 4, as amended by requests 4 and 5.
 #![tactic(auto)]
+
 ghost use Rattle.std.specs.Prelude.{◌≡◌, ◌+◌, ◌*◌, ◌<◌, ◌≤◌, length};
 ghost use Rattle.steps.specs.Table.{knots};
 ghost use Rattle.variants_and_fragments.specs.Refusals.{outcome_of};

@@ -2,7 +2,7 @@
 -- lines written.
 -- Assumes nothing.
 use mathlib.Core.List.{List, [], ◌∷◌}
-use mathlib.Core.Path.{◌≡◌, sym, ap, ◌∙◌}
+use mathlib.Core.Path.{◌≡◌, ap, ◌∙◌}
 use Prim.Native.Nat.{ℕ}
 use native.Mathlib.Omega.{arith}
 use borrow.Author.Rules.{rules}
@@ -28,19 +28,19 @@ use Rattle.haplotype_assembly.proofs.generate_flist_buffer.Statement.{statement}
 use Rattle.haplotype_assembly.proofs.generate_flist_buffer.Tie as tie
 
 -- ---- an accepted case: its start and its sizes
-abbrev st : tie.In-Accepted-2 → tie.Start
-st c = c.before.before.before.before.before
+abbrev st : tie.In-Accepted → tie.Start
+st c = c.before.before.before.before
 
-abbrev sizes : tie.In-Accepted-2 → Sizes
-sizes c = c.checked-in-Accepted-1.given.0.0
+abbrev sizes : tie.In-Accepted → Sizes
+sizes c = c.in-Accepted.s
 
-checked : (c : tie.In-Accepted-2) → check.outcome_of (Accepted (sizes c)) ≡ check_case_outcome (st c).args.words.now (st c).args.bases.now
-checked c = ap check.outcome_of (sym c.checked-in-Accepted-1.given.1) ∙ c.before.before.check_case-checked.ensures
+checked : (c : tie.In-Accepted) → check.outcome_of (Accepted (sizes c)) ≡ check_case_outcome (st c).args.words.now (st c).args.bases.now
+checked c = c.in-Accepted.ensures
 
-accepted : (c : tie.In-Accepted-2) → check_case_outcome (st c).args.words.now (st c).args.bases.now ≡ done (sizes c)
+accepted : (c : tie.In-Accepted) → check_case_outcome (st c).args.words.now (st c).args.bases.now ≡ done (sizes c)
 accepted c = is_done _ _ _ (checked c)
 
-inside : (c : tie.In-Accepted-2) → CaseIn (st c).args.words.now (sizes c)
+inside : (c : tie.In-Accepted) → CaseIn (st c).args.words.now (sizes c)
 inside c = accepted_in _ _ _ (accepted c)
 
 -- ---- its outcome: what is left past the case
@@ -53,15 +53,15 @@ amount c = amount_of (decode c.args.words.now c.args.bases.now) c.args.single_re
 abbrev slices : tie.Start → List (ℕ × ℕ)
 slices c = (length (lines c), length c.args.buffer.now) ∷ []
 
-past_case : (c : tie.In-Accepted-2) → long_enough (slices (st c)) (done (amount (st c))) ≡ generate_flist_buffer_outcome (st c).args.words.now (st c).args.bases.now (st c).args.single_reads (st c).args.buffer.now
+past_case : (c : tie.In-Accepted) → long_enough (slices (st c)) (done (amount (st c))) ≡ generate_flist_buffer_outcome (st c).args.words.now (st c).args.bases.now (st c).args.single_reads (st c).args.buffer.now
 unfolding generate_flist_buffer_outcome
 past_case c = case_past _ _ _ _ (checked c)
 
 -- ---- its rows
-abbrev case : tie.After-ambiguous-1 → tie.In-Accepted-2
-case c = c.before.before.before.before.before.before.before.before
+abbrev case : tie.After-ambiguous-1 → tie.In-Accepted
+case c = c.before.before.before.before.before.before.before
 
-abbrev here : tie.After-make_rows → tie.In-Accepted-2
+abbrev here : tie.After-make_rows → tie.In-Accepted
 here c = case c.before
 
 abbrev rows : tie.After-make_rows → List ℕ
@@ -155,7 +155,7 @@ write_lines_requires c κs = let n = counted c in
 
 returns_2 : tie.Need-returns-in-Refused
 unfolding outcome_of generate_flist_buffer_outcome
-returns_2 c = promise_refused c.before.checked-1.given.0.0 (case_stops _ _ _ _ (ap check.outcome_of (sym c.before.checked-1.given.1) ∙ c.before.before.before.check_case-checked.ensures))
+returns_2 c = promise_refused c.in-Refused.x (case_stops _ _ _ _ c.in-Refused.ensures)
 
 same_length : tie.Need-shape_of-buffer
 same_length c = search rules

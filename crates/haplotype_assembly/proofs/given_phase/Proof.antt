@@ -21,25 +21,25 @@ use Rattle.haplotype_assembly.proofs.given_phase.Statement.{statement}
 use Rattle.haplotype_assembly.proofs.given_phase.Tie as tie
 
 -- ---- the start, the sizes and the places past the tests
-abbrev st : tie.In-Accepted-2 → tie.Start
-st c = c.before.before.before.before.before.before.before.before
+abbrev st : tie.In-Accepted → tie.Start
+st c = c.before.before.before.before.before.before.before
 
-abbrev sizes : tie.In-Accepted-2 → Sizes
-sizes c = c.checked-in-Accepted-1.given.0.0
+abbrev sizes : tie.In-Accepted → Sizes
+sizes c = c.in-Accepted.s
 
-abbrev from1 : tie.Else-fault-n → tie.In-Accepted-2
-from1 c = c.before.before.before
+abbrev from1 : tie.Else-fault-n → tie.In-Accepted
+from1 c = c.before.before
 
 abbrev from2 : tie.Else-short-ne0 → tie.Else-fault-n
 from2 c = c.before.before
 
-checked : (c : tie.In-Accepted-2) → outcome_of (Accepted (sizes c)) ≡ check_case_outcome (st c).args.words.now (st c).args.bases.now
-checked c = ap outcome_of (sym c.checked-in-Accepted-1.given.1) ∙ c.before.before.check_case-checked.ensures
+checked : (c : tie.In-Accepted) → outcome_of (Accepted (sizes c)) ≡ check_case_outcome (st c).args.words.now (st c).args.bases.now
+checked c = c.in-Accepted.ensures
 
-accepted : (c : tie.In-Accepted-2) → check_case_outcome (st c).args.words.now (st c).args.bases.now ≡ done (sizes c)
+accepted : (c : tie.In-Accepted) → check_case_outcome (st c).args.words.now (st c).args.bases.now ≡ done (sizes c)
 accepted c = is_done _ _ _ (checked c)
 
-inside : (c : tie.In-Accepted-2) → CaseIn (st c).args.words.now (sizes c)
+inside : (c : tie.In-Accepted) → CaseIn (st c).args.words.now (sizes c)
 inside c = accepted_in _ _ _ (accepted c)
 
 -- ---- the outcome, and what is left of it past the case and past 7
@@ -49,10 +49,10 @@ lent c = phase_slices c.args.haplotypes.now c.args.phased.now c.args.names.now
 abbrev outcome : tie.Start → Outcome Unit
 outcome c = given_phase_outcome c.args.words.now c.args.bases.now c.args.phase.now c.args.sets.now (lent c)
 
-abbrev slices : tie.In-Accepted-2 → List (ℕ × ℕ)
+abbrev slices : tie.In-Accepted → List (ℕ × ℕ)
 slices c = (2 * (sizes c).n, length (st c).args.haplotypes.now) ∷ ((sizes c).n, length (st c).args.phased.now) ∷ ((sizes c).n, length (st c).args.names.now) ∷ []
 
-past_case : (c : tie.In-Accepted-2) → phase_tests (sizes c).n (st c).args.phase.now (st c).args.sets.now (long_enough (slices c) (done tt)) ≡ outcome (st c)
+past_case : (c : tie.In-Accepted) → phase_tests (sizes c).n (st c).args.phase.now (st c).args.sets.now (long_enough (slices c) (done tt)) ≡ outcome (st c)
 unfolding given_phase_outcome
 past_case c = case_past _ _ _ _ (checked c)
 
@@ -86,12 +86,12 @@ enum_known_checked_2 : tie.Need-enum_known-checked-in-Accepted-1
 enum_known_checked_2 c = search rules
 
 phase_fault_requires : tie.Need-phase_fault-fault-requires
-phase_fault_requires c κs = (inside c.before).sized.n_top
+phase_fault_requires c κs = (inside c).sized.n_top
 
 returns : tie.Need-returns-then-fault-n
 returns c =
     let p = c.before.phase_fault-fault.ensures in
-    refuses _ (ap (refused 7) p ∙ phase_at _ _ _ _ (rw p at c.if-fault-n.true) ∙ past_case c.before.before.before)
+    refuses _ (ap (refused 7) p ∙ phase_at _ _ _ _ (rw p at c.if-fault-n.true) ∙ past_case c.before.before)
 
 phase_short_requires : tie.Need-phase_short-short-requires
 phase_short_requires c κs = (inside (from1 c)).sized.n_top
@@ -114,11 +114,11 @@ name_sets_requires c κs =
     let h = short_fits _ _ _ (none_short e2) in
     let p = short_fits _ _ _ h.1 in
     let f = right (from2 e2) in
-    (inside (from1 (from2 e2)), ((omega (arith, f.bytes_long), (omega (arith, f.sets_long), (short_fits _ _ _ p.1).0)), f.sets_ok))
+    (inside (from1 (from2 e2)), ((omega (arith, f.bytes_long), (omega (arith, f.sets_long), (short_fits _ _ _ p.1).0)), f.all_sets_ok))
 
 returns_3 : tie.Need-returns-in-Refused
 unfolding given_phase_outcome
-returns_3 c = refuses _ (case_stops _ _ _ _ (ap outcome_of (sym c.before.checked-1.given.1) ∙ c.before.before.before.check_case-checked.ensures))
+returns_3 c = refuses _ (case_stops _ _ _ _ c.in-Refused.ensures)
 
 same_length : tie.Need-shape_of-haplotypes
 same_length c = search rules

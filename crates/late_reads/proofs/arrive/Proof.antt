@@ -22,100 +22,100 @@ lent c =
     (values c.args.likelihoods.now c.args.counts.now c.args.total.0)
 
 -- ---- past the case and what is lent with it
-abbrev st : tie.After-kept2 → tie.Start
+abbrev st : tie.In-Accepted-2 → tie.Start
 st c = c.before.before.before.before.before.before.before.before.before
 
-abbrev sizes : tie.After-kept2 → Sizes
-sizes c = c.kept2.given.0.0
+abbrev sizes : tie.In-Accepted-2 → Sizes
+sizes c = c.kept-in-Accepted-1.given.0.0
 
-accepted : (c : tie.After-kept2) → kept_outcome (lent (st c)) ≡ done (sizes c)
-accepted c = check_done _ _ (ap check.outcome_of (sym c.kept2.given.1) ∙ c.before.before.check-kept.ensures)
+accepted : (c : tie.In-Accepted-2) → kept_outcome (lent (st c)) ≡ done (sizes c)
+accepted c = check_done _ _ (ap check.outcome_of (sym c.kept-in-Accepted-1.given.1) ∙ c.before.before.check_kept-kept.ensures)
 
-kept : (c : tie.After-kept2) → Kept (lent (st c)).words (sizes c) (lent (st c)).phase (lent (st c)).haplotypes (lent (st c)).kept
+kept : (c : tie.In-Accepted-2) → Kept (lent (st c)).words (sizes c) (lent (st c)).phase (lent (st c)).haplotypes (lent (st c)).kept
 kept c = kept_past (lent (st c)) (sizes c) (accepted c)
 
 -- ---- past the arriving calls
-abbrev from : tie.After-arriving-fault → tie.After-kept2
+abbrev from : tie.After-arriving_fault-fault → tie.In-Accepted-2
 from c = c.before.before.before
 
-abbrev tests : tie.After-kept2 → Outcome Sizes
+abbrev tests : tie.In-Accepted-2 → Outcome Sizes
 tests c = arriving_tests (lent (st c)).words (sizes c) (st c).args.fragment (st c).args.strand (st c).args.calls.now
 
-tested : (c : tie.After-arriving-fault) → check.outcome_of c.arriving-fault.result ≡ tests (from c)
-tested c = rw (to_z-of_z (st (from c)).ranges.strand) at c.arriving-fault.ensures
+tested : (c : tie.After-arriving_fault-fault) → check.outcome_of c.arriving_fault-fault.result ≡ tests (from c)
+tested c = rw (to_z-of_z (st (from c)).ranges.strand) at c.arriving_fault-fault.ensures
 
-abbrev past : tie.After-enum-told → tie.After-kept2
+abbrev past : tie.In-Accepted-fault → tie.In-Accepted-2
 past c = from c.before.before
 
-right : (c : tie.After-enum-told) → tests (past c) ≡ done c.enum_told.given.0.0
-right c = check_done _ _ (ap check.outcome_of (sym c.enum_told.given.1) ∙ tested c.before.before)
+right : (c : tie.In-Accepted-fault) → tests (past c) ≡ done c.enum_told-1.given.0.0
+right c = check_done _ _ (ap check.outcome_of (sym c.enum_told-1.given.1) ∙ tested c.before.before)
 
 -- ---- the obligations
-check_kept_requires : tie.Need-check-kept-requires
+check_kept_requires : tie.Need-check_kept-kept-requires
 check_kept_requires c κs = search rules
 
-enum_known_kept : tie.Need-enum-known-kept
+enum_known_kept : tie.Need-enum_known-kept
 enum_known_kept c = search rules
 
-enum_known_kept_2 : tie.Need-enum-known-kept-2
+enum_known_kept_2 : tie.Need-enum_known-kept-in-Accepted-1
 enum_known_kept_2 c = search rules
 
-arriving_fault_requires : tie.Need-arriving-fault-requires
+arriving_fault_requires : tie.Need-arriving_fault-fault-requires
 arriving_fault_requires c κs = (kept c.before.before).ready.case_in
 
-enum_known_fault : tie.Need-enum-known-fault
+enum_known_fault : tie.Need-enum_known-fault
 enum_known_fault c = search rules
 
-enum_told : tie.Need-enum-told
+enum_told : tie.Need-enum_told-1
 enum_told c = search rules
 
-arrive_kept_requires : tie.Need-arrive-kept-requires
+arrive_kept_requires : tie.Need-arrive_kept-requires
 arrive_kept_requires c κs =
     let e = c.before.before.before in
     let start = st (past e) in
-    (kept (past e), rw (to_z-of_z start.fits.strand) (arriving (lent start) _ _ _ _ (accepted (past e)) _ (right e)))
+    (kept (past e), rw (to_z-of_z start.ranges.strand) (arriving (lent start) _ _ _ _ (accepted (past e)) _ (right e)))
 
-same_length : tie.Need-same-length
+same_length : tie.Need-shape_of-words-in-Refused
 same_length c = search rules
 
-same_length_2 : tie.Need-same-length-2
+same_length_2 : tie.Need-shape_of-likelihoods-in-Refused
 same_length_2 c = search rules
 
-same_length_3 : tie.Need-same-length-3
+same_length_3 : tie.Need-shape_of-counts-in-Refused
 same_length_3 c = search rules
 
-returns : tie.Need-returns
-returns c = late_refuses _ (arrive_stops _ _ _ _ _ (ap check.outcome_of (sym c.before.kept.given.1) ∙ c.before.before.before.check-kept.ensures))
+returns : tie.Need-returns-in-Refused
+returns c = late_refuses _ (arrive_stops _ _ _ _ _ (ap check.outcome_of (sym c.before.kept-1.given.1) ∙ c.before.before.before.check_kept-kept.ensures))
 
-same_length_4 : tie.Need-same-length-4
+same_length_4 : tie.Need-shape_of-words-in-Refused-fault
 same_length_4 c = search rules
 
-same_length_5 : tie.Need-same-length-5
+same_length_5 : tie.Need-shape_of-likelihoods-in-Refused-fault
 same_length_5 c = search rules
 
-same_length_6 : tie.Need-same-length-6
+same_length_6 : tie.Need-shape_of-counts-in-Refused-fault
 same_length_6 c = search rules
 
-returns_2 : tie.Need-returns-2
+returns_2 : tie.Need-returns-in-Refused-fault
 returns_2 c =
     let f = c.before.before.before in
-    late_refuses _ (arriving_stops _ _ _ _ _ (accepted (from f)) _ (ap check.outcome_of (sym c.before.fault.given.1) ∙ tested f))
+    late_refuses _ (arriving_stops _ _ _ _ _ (accepted (from f)) _ (ap check.outcome_of (sym c.before.fault-1.given.1) ∙ tested f))
 
-same_length_7 : tie.Need-same-length-7
+same_length_7 : tie.Need-shape_of-words-in-Accepted-fault
 same_length_7 c = search rules
 
-same_length_8 : tie.Need-same-length-8
+same_length_8 : tie.Need-shape_of-likelihoods-in-Accepted-fault
 same_length_8 c = search rules
 
-same_length_9 : tie.Need-same-length-9
+same_length_9 : tie.Need-shape_of-counts-in-Accepted-fault
 same_length_9 c = search rules
 
-returns_3 : tie.Need-returns-3
+returns_3 : tie.Need-returns-in-Accepted-fault
 returns_3 c =
     let a = c.before.before.before in
     let e = a.before.before.before.before in
     let start = st (past e) in
-    arrives (lent start) _ _ _ _ (accepted (past e)) _ (right e) (rw (to_z-of_z start.fits.strand) at a.arrive-kept.ensures)
+    arrives (lent start) _ _ _ _ (accepted (past e)) _ (right e) (rw (to_z-of_z start.ranges.strand) at a.arrive_kept.ensures)
 
 pub arrive_spec : {M : Type 1} → statement M
 arrive_spec =

@@ -17,17 +17,17 @@ use Rattle.late_reads.proofs.Ranged.{total_small, counts_in, refuses_total, refu
 use Rattle.late_reads.proofs.arrive_kept.Statement.{statement}
 use Rattle.late_reads.proofs.arrive_kept.Tie as tie
 
-table_requires : tie.Need-table-requires
+table_requires : tie.Need-table-t-requires
 table_requires c κs = search rules
 
-arriving_likelihoods_requires : tie.Need-arriving-likelihoods-requires
+arriving_likelihoods_requires : tie.Need-arriving_likelihoods-read-requires
 arriving_likelihoods_requires c κs = search rules
 
 mixed_requires : tie.Need-mixed-requires
 mixed_requires c κs = search rules
 
 -- the likelihoods of the read, its share, and the new total
-abbrev weighed : tie.After-mixed → tie.After-arriving-likelihoods
+abbrev weighed : tie.After-mixed → tie.After-arriving_likelihoods-read
 weighed m = m.before.before.before.before
 
 abbrev start : tie.After-mixed → tie.Start
@@ -41,93 +41,93 @@ share s = mix_of (read s 0) (read s 1)
 
 share_is : (m : tie.After-mixed) → m.mixed.result.0 ≡ share (start m)
 share_is m =
-    let l = (weighed m).arriving-likelihoods.ensures in
+    let l = (weighed m).arriving_likelihoods-read.ensures in
     m.mixed.ensures.0 ∙ same_mix l.0.0 l.1.0
 
 abbrev sum : tie.Start → ℤ
 sum s = s.args.total.0 +ℤ share s
 
-abbrev shared : tie.After-moved → tie.After-mixed
+abbrev shared : tie.After-moved-sum → tie.After-mixed
 shared c = c.before
 
-moved_requires : tie.Need-moved-requires
+moved_requires : tie.Need-moved-sum-requires
 moved_requires c κs = (total_small (start c).requires.0, c.mixed.ensures.1, omega arith)
 
-total_ok_requires : tie.Need-total-ok-requires
+total_ok_requires : tie.Need-total_ok-requires
 total_ok_requires c κs = search rules
 
-sum_is : (m : tie.After-moved) → m.moved.result.0 ≡ sum (start (shared m))
-sum_is m = m.moved.ensures ∙ ap (λ (z : ℤ). (start (shared m)).args.total.0 +ℤ z) (times_one (shared m).mixed.result.0 ∙ share_is (shared m))
+sum_is : (m : tie.After-moved-sum) → m.moved-sum.result.0 ≡ sum (start (shared m))
+sum_is m = m.moved-sum.ensures ∙ ap (λ (z : ℤ). (start (shared m)).args.total.0 +ℤ z) (times_one (shared m).mixed.result.0 ∙ share_is (shared m))
 
-abbrev entry : tie.After-total-ok → tie.Start
+abbrev entry : tie.After-total_ok → tie.Start
 entry t = start (shared t.before)
 
-total_fits : (t : tie.After-total-ok) → t.total-ok.result ≡ within lowest_total (pos 0) (sum (entry t))
-total_fits t = t.total-ok.ensures ∙ ap (within lowest_total (pos 0)) (sum_is t.before)
+total_fits : (t : tie.After-total_ok) → t.total_ok.result ≡ within lowest_total (pos 0) (sum (entry t))
+total_fits t = t.total_ok.ensures ∙ ap (within lowest_total (pos 0)) (sum_is t.before)
 
-same_length : tie.Need-same-length
+same_length : tie.Need-shape_of-words-then-not-total_ok
 same_length c = search rules
 
-returns : tie.Need-returns
+returns : tie.Need-returns-then-not-total_ok
 returns c =
     let s = entry c.before in
-    refuses_total (arrival s.pre.0 s.pre.1) (sym (total_fits c.before) ∙ not-true c.before.total-ok.result c.if1.true)
+    refuses_total (arrival s.requires.0 s.requires.1) (sym (total_fits c.before) ∙ not-true c.before.total_ok.result c.if-not-total_ok.true)
 
-arriving_fits_requires : tie.Need-arriving-fits-requires
+arriving_fits_requires : tie.Need-arriving_fits-requires
 arriving_fits_requires c κs =
     let s = entry c.before.before.before in
-    (s.pre.0.ready.case_in, (s.pre.1, (counts_in s.pre.0, s.pre.0.counts_long)))
+    (s.requires.0.ready.case_in, (s.requires.1, (counts_in s.requires.0, s.requires.0.counts_long)))
 
-same_length_2 : tie.Need-same-length-2
+same_length_2 : tie.Need-shape_of-words-then-not-arriving_fits
 same_length_2 c = search rules
 
-same_length_3 : tie.Need-same-length-3
+same_length_3 : tie.Need-shape_of-counts-then-not-arriving_fits
 same_length_3 c = search rules
 
 -- where the total is in range, and the counts are tested
-abbrev total_kept : tie.After-arriving-fits → tie.Else1
+abbrev total_kept : tie.After-arriving_fits → tie.Else-not-total_ok
 total_kept a = a.before.before.before
 
-total_good : (e : tie.Else1) → within lowest_total (pos 0) (sum (entry e.before)) ≡ true
-total_good e = sym (total_fits e.before) ∙ not-false e.before.total-ok.result e.if1.false
+total_good : (e : tie.Else-not-total_ok) → within lowest_total (pos 0) (sum (entry e.before)) ≡ true
+total_good e = sym (total_fits e.before) ∙ not-false e.before.total_ok.result e.if-not-total_ok.false
 
-returns_2 : tie.Need-returns-2
+returns_2 : tie.Need-returns-then-not-arriving_fits
 returns_2 c =
     let a = c.before in
     let e = total_kept a in
     let s = entry e.before in
-    refuses_counts (arrival s.pre.0 s.pre.1) (total_good e) (sym a.arriving-fits.ensures ∙ not-true a.arriving-fits.result c.if2.true)
+    refuses_counts (arrival s.requires.0 s.requires.1) (total_good e) (sym a.arriving_fits.ensures ∙ not-true a.arriving_fits.result c.if-not-arriving_fits.true)
 
 -- where everything is written
-abbrev origin : tie.Else2 → tie.Start
+abbrev origin : tie.Else-not-arriving_fits → tie.Start
 origin c = entry (total_kept c.before).before
 
-put_likelihoods_requires : tie.Need-put-likelihoods-requires
+put_likelihoods_requires : tie.Need-put_likelihoods-requires
 put_likelihoods_requires c κs =
     let s = origin c.before in
-    let sized = s.pre.0.ready.case_in.sized in
-    (omega (arith, s.pre.1.below, sized.f_top), omega (arith, s.pre.1.below, s.pre.0.likelihoods_long))
+    let sized = s.requires.0.ready.case_in.sized in
+    (omega (arith, s.requires.1.below, sized.f_top), omega (arith, s.requires.1.below, s.requires.0.likelihoods_long))
 
-count_arriving_requires : tie.Need-count-arriving-requires
+count_arriving_requires : tie.Need-count_arriving-requires
 count_arriving_requires c κs =
     let s = origin c.before.before.before.before.before in
-    (s.pre.0.ready.case_in, (s.pre.1, (counts_in s.pre.0, s.pre.0.counts_long)))
+    (s.requires.0.ready.case_in, (s.requires.1, (counts_in s.requires.0, s.requires.0.counts_long)))
 
-lay_arrival_requires : tie.Need-lay-arrival-requires
+lay_arrival_requires : tie.Need-lay_arrival-requires
 lay_arrival_requires c κs =
     let s = origin c.before.before.before.before.before.before.before.before in
-    (s.pre.0.ready.case_in, s.pre.1)
+    (s.requires.0.ready.case_in, s.requires.1)
 
-same_length_4 : tie.Need-same-length-4
+same_length_4 : tie.Need-shape_of-words
 same_length_4 c = search rules
 
-same_length_5 : tie.Need-same-length-5
+same_length_5 : tie.Need-shape_of-likelihoods
 same_length_5 c = search rules
 
-same_length_6 : tie.Need-same-length-6
+same_length_6 : tie.Need-shape_of-counts
 same_length_6 c = search rules
 
-returns_3 : tie.Need-returns-3
+returns_3 : tie.Need-returns
 unfolding arrived
 returns_3 c =
     let laid = c.before in
@@ -138,9 +138,9 @@ returns_3 c =
     let e = total_kept a in
     let m = e.before.before in
     let s = start (shared m) in
-    let l = (weighed (shared m)).arriving-likelihoods.ensures in
-    updates (arrival s.pre.0 s.pre.1) _ (sum_is m) (total_good e) (sym a.arriving-fits.ensures ∙ not-false a.arriving-fits.result k.if2.false)
-    (same_slices laid.lay-arrival.ensures (put.put-likelihoods.ensures ∙ same_put s.args.likelihoods.now s.args.arrival.fragment l.0.0 l.1.0) counted.count-arriving.ensures)
+    let l = (weighed (shared m)).arriving_likelihoods-read.ensures in
+    updates (arrival s.requires.0 s.requires.1) _ (sum_is m) (total_good e) (sym a.arriving_fits.ensures ∙ not-false a.arriving_fits.result k.if-not-arriving_fits.false)
+    (same_slices laid.lay_arrival.ensures (put.put_likelihoods.ensures ∙ same_put s.args.likelihoods.now s.args.arrival.fragment l.0.0 l.1.0) counted.count_arriving.ensures)
 
 pub arrive_kept_spec : {M : Type 1} → statement M
 arrive_kept_spec =

@@ -25,100 +25,100 @@ lent c =
     (values c.args.likelihoods.now c.args.counts.now c.args.total.0)
 
 -- ---- past the case and what is lent with it
-abbrev st : tie.After-kept2 → tie.Start
+abbrev st : tie.In-Accepted-2 → tie.Start
 st c = c.before.before.before.before.before.before.before.before.before
 
-abbrev sizes : tie.After-kept2 → Sizes
-sizes c = c.kept2.given.0.0
+abbrev sizes : tie.In-Accepted-2 → Sizes
+sizes c = c.kept-in-Accepted-1.given.0.0
 
-accepted : (c : tie.After-kept2) → kept_outcome (lent (st c)) ≡ done (sizes c)
-accepted c = check_done _ _ (ap check.outcome_of (sym c.kept2.given.1) ∙ c.before.before.check-kept.ensures)
+accepted : (c : tie.In-Accepted-2) → kept_outcome (lent (st c)) ≡ done (sizes c)
+accepted c = check_done _ _ (ap check.outcome_of (sym c.kept-in-Accepted-1.given.1) ∙ c.before.before.check_kept-kept.ensures)
 
-kept : (c : tie.After-kept2) → Kept (lent (st c)).words (sizes c) (lent (st c)).phase (lent (st c)).haplotypes (lent (st c)).kept
+kept : (c : tie.In-Accepted-2) → Kept (lent (st c)).words (sizes c) (lent (st c)).phase (lent (st c)).haplotypes (lent (st c)).kept
 kept c = kept_past (lent (st c)) (sizes c) (accepted c)
 
 -- ---- past the fragment's number and past the test whether it is present
-abbrev from1 : tie.Else1 → tie.After-kept2
+abbrev from1 : tie.Else-n-f → tie.In-Accepted-2
 from1 c = c.before.before
 
-abbrev below2 : tie.After-is-present → tie.Else1
+abbrev below2 : tie.After-is_present → tie.Else-n-f
 below2 c = c.before.before
 
-present : (c : tie.Else2) → let k = from1 (below2 c.before) in present_at (lent (st k)).words (sizes k) (st k).args.fragment ≡ true
-present c = sym c.before.is-present.ensures ∙ c.if2.false
+present : (c : tie.Else-not-is_present) → let k = from1 (below2 c.before) in present_at (lent (st k)).words (sizes k) (st k).args.fragment ≡ true
+present c = sym c.before.is_present.ensures ∙ c.if-not-is_present.false
 
 -- ---- the obligations
-check_kept_requires : tie.Need-check-kept-requires
+check_kept_requires : tie.Need-check_kept-kept-requires
 check_kept_requires c κs = search rules
 
-enum_known_kept : tie.Need-enum-known-kept
+enum_known_kept : tie.Need-enum_known-kept
 enum_known_kept c = search rules
 
-enum_known_kept_2 : tie.Need-enum-known-kept-2
+enum_known_kept_2 : tie.Need-enum_known-kept-in-Accepted-1
 enum_known_kept_2 c = search rules
 
-same_length : tie.Need-same-length
+same_length : tie.Need-shape_of-words-then-n-f
 same_length c = search rules
 
-same_length_2 : tie.Need-same-length-2
+same_length_2 : tie.Need-shape_of-likelihoods-then-n-f
 same_length_2 c = search rules
 
-same_length_3 : tie.Need-same-length-3
+same_length_3 : tie.Need-shape_of-counts-then-n-f
 same_length_3 c = search rules
 
-returns : tie.Need-returns
-returns c = late_refuses (Fragment _) (depart_past _ _ _ (accepted c.before.before) c.if1.true)
+returns : tie.Need-returns-then-n-f
+returns c = late_refuses (Fragment _) (depart_past _ _ _ (accepted c.before.before) c.if-n-f.true)
 
-is_present_requires : tie.Need-is-present-requires
-is_present_requires c κs = ((kept (from1 c.before)).ready.case_in.sized, c.before.if1.false)
+is_present_requires : tie.Need-is_present-requires
+is_present_requires c κs = ((kept (from1 c.before)).ready.case_in.sized, c.before.if-n-f.false)
 
-same_length_4 : tie.Need-same-length-4
+same_length_4 : tie.Need-shape_of-words-then-not-is_present
 same_length_4 c = search rules
 
-same_length_5 : tie.Need-same-length-5
+same_length_5 : tie.Need-shape_of-likelihoods-then-not-is_present
 same_length_5 c = search rules
 
-same_length_6 : tie.Need-same-length-6
+same_length_6 : tie.Need-shape_of-counts-then-not-is_present
 same_length_6 c = search rules
 
-returns_2 : tie.Need-returns-2
+returns_2 : tie.Need-returns-then-not-is_present
 returns_2 c =
     let e = below2 c.before in
-    late_refuses (Fragment _) (depart_not_there _ _ _ (accepted (from1 e)) e.if1.false (sym c.before.is-present.ensures ∙ c.if2.true))
+    late_refuses (Fragment _) (depart_not_there _ _ _ (accepted (from1 e)) e.if-n-f.false (sym c.before.is_present.ensures ∙ c.if-not-is_present.true))
 
-depart_kept_requires : tie.Need-depart-kept-requires
+depart_kept_requires : tie.Need-depart_kept-requires
 depart_kept_requires c κs =
     let e = c.before.before.before in
     let b = below2 e.before in
-    (kept (from1 b), (b.if1.false, present e))
+    (kept (from1 b), (b.if-n-f.false, present e))
 
-same_length_7 : tie.Need-same-length-7
+same_length_7 : tie.Need-shape_of-words-in-Refused
 same_length_7 c = search rules
 
-same_length_8 : tie.Need-same-length-8
+same_length_8 : tie.Need-shape_of-likelihoods-in-Refused
 same_length_8 c = search rules
 
-same_length_9 : tie.Need-same-length-9
+same_length_9 : tie.Need-shape_of-counts-in-Refused
 same_length_9 c = search rules
 
-returns_3 : tie.Need-returns-3
-returns_3 c = late_refuses _ (depart_stops _ _ _ (ap check.outcome_of (sym c.before.kept.given.1) ∙ c.before.before.before.check-kept.ensures))
+returns_3 : tie.Need-returns-in-Refused
+returns_3 c = late_refuses _ (depart_stops _ _ _ (ap check.outcome_of (sym c.before.kept-1.given.1) ∙ c.before.before.before.check_kept-kept.ensures))
 
-same_length_10 : tie.Need-same-length-10
+same_length_10 : tie.Need-shape_of-words-else-not-is_present
 same_length_10 c = search rules
 
-same_length_11 : tie.Need-same-length-11
+same_length_11 : tie.Need-shape_of-likelihoods-else-not-is_present
 same_length_11 c = search rules
 
-same_length_12 : tie.Need-same-length-12
+same_length_12 : tie.Need-shape_of-counts-else-not-is_present
 same_length_12 c = search rules
 
-returns_4 : tie.Need-returns-4
+returns_4 : tie.Need-returns-else-not-is_present
 returns_4 c =
     let d = c.before.before.before in
     let e = d.before.before.before.before in
     let b = below2 e.before in
-    departs (lent (st (from1 b))) _ _ (accepted (from1 b)) b.if1.false (present e) d.depart-kept.ensures
+    departs (lent (st (from1 b))) _ _ (accepted (from1 b)) b.if-n-f.false (present e) d.depart_kept.ensures
 
 pub depart_spec : {M : Type 1} → statement M
 depart_spec =

@@ -19,28 +19,28 @@ use Rattle.late_reads.proofs.Ranged.{total_small, likelihood_small, counts_in, r
 use Rattle.late_reads.proofs.depart_kept.Statement.{statement}
 use Rattle.late_reads.proofs.depart_kept.Tie as tie
 
-table_requires : tie.Need-table-requires
+table_requires : tie.Need-table-t-requires
 table_requires c κs = search rules
 
-mul_t14 : tie.Need-overflow-mul-t14
+mul_t14 : tie.Need-overflow_mul-first
 mul_t14 c = search rules
 
-mul_t15 : tie.Need-overflow-mul-t15
+mul_t15 : tie.Need-offset_bounds-likelihoods-f
 mul_t15 c = search rules
 
-slice_copy_out_t17 : tie.Need-slice-copy-out-t17
+slice_copy_out_t17 : tie.Need-slice_copy_out-first
 slice_copy_out_t17 c = search rules
 
-mul_t14_2 : tie.Need-overflow-mul-t14-2
+mul_t14_2 : tie.Need-overflow_mul-second
 mul_t14_2 c = search rules
 
-add_t15 : tie.Need-overflow-add-t15
+add_t15 : tie.Need-overflow_add-second
 add_t15 c = search rules
 
-mul_t18 : tie.Need-overflow-mul-t18
+mul_t18 : tie.Need-offset_bounds-likelihoods-f-2
 mul_t18 c = search rules
 
-slice_copy_out_t17_2 : tie.Need-slice-copy-out-t17-2
+slice_copy_out_t17_2 : tie.Need-slice_copy_out-second
 slice_copy_out_t17_2 c = search rules
 
 -- the likelihoods lent, the share of the fragment, and the new total
@@ -65,7 +65,7 @@ second_read s = read_small w64 (lent s (place s + 1)) (omega (arith, second_smal
 mixed_requires : tie.Need-mixed-requires
 mixed_requires c κs =
     let s = c.before.before.before.before.before.before in
-    (c.before.before.before.table.ensures, rw (first_read s) (first_small s), rw (second_read s) (second_small s))
+    (c.before.before.before.table-t.ensures, rw (first_read s) (first_small s), rw (second_read s) (second_small s))
 
 abbrev start : tie.After-mixed → tie.Start
 start m = m.before.before.before.before.before.before.before
@@ -79,81 +79,81 @@ share_is m = m.mixed.ensures.0 ∙ same_mix (first_read (start m)) (second_read 
 abbrev rest : tie.Start → ℤ
 rest s = s.args.total.0 -ℤ share s
 
-abbrev shared : tie.After-moved → tie.After-mixed
+abbrev shared : tie.After-moved-rest → tie.After-mixed
 shared c = c.before
 
-moved_requires : tie.Need-moved-requires
+moved_requires : tie.Need-moved-rest-requires
 moved_requires c κs = (total_small (start c).requires.0, c.mixed.ensures.1, omega arith)
 
-total_ok_requires : tie.Need-total-ok-requires
+total_ok_requires : tie.Need-total_ok-requires
 total_ok_requires c κs = search rules
 
-rest_is : (m : tie.After-moved) → m.moved.result.0 ≡ rest (start (shared m))
-rest_is m = m.moved.ensures ∙ ap (λ (z : ℤ). (start (shared m)).args.total.0 +ℤ z) (times_less (shared m).mixed.result.0 ∙ ap neg_ℤ (share_is (shared m)))
+rest_is : (m : tie.After-moved-rest) → m.moved-rest.result.0 ≡ rest (start (shared m))
+rest_is m = m.moved-rest.ensures ∙ ap (λ (z : ℤ). (start (shared m)).args.total.0 +ℤ z) (times_less (shared m).mixed.result.0 ∙ ap neg_ℤ (share_is (shared m)))
 
-abbrev entry : tie.After-total-ok → tie.Start
+abbrev entry : tie.After-total_ok → tie.Start
 entry t = start (shared t.before)
 
-total_fits : (t : tie.After-total-ok) → t.total-ok.result ≡ within lowest_total (pos 0) (rest (entry t))
-total_fits t = t.total-ok.ensures ∙ ap (within lowest_total (pos 0)) (rest_is t.before)
+total_fits : (t : tie.After-total_ok) → t.total_ok.result ≡ within lowest_total (pos 0) (rest (entry t))
+total_fits t = t.total_ok.ensures ∙ ap (within lowest_total (pos 0)) (rest_is t.before)
 
-returns : tie.Need-returns
+returns : tie.Need-returns-then-not-total_ok
 returns c =
     let s = entry c.before in
-    refuses_total (departure s.pre.0 s.args.f s.pre.1.0) (sym (total_fits c.before) ∙ not-true c.before.total-ok.result c.if1.true)
+    refuses_total (departure s.requires.0 s.args.f s.requires.1.0) (sym (total_fits c.before) ∙ not-true c.before.total_ok.result c.if-not-total_ok.true)
 
-departing_fits_requires : tie.Need-departing-fits-requires
+departing_fits_requires : tie.Need-departing_fits-requires
 departing_fits_requires c κs =
     let s = entry c.before.before.before in
-    (s.pre.0.ready.case_in, (s.pre.1.0, (counts_in s.pre.0, s.pre.0.counts_long)))
+    (s.requires.0.ready.case_in, (s.requires.1.0, (counts_in s.requires.0, s.requires.0.counts_long)))
 
-same_length : tie.Need-same-length
+same_length : tie.Need-shape_of-words-then-not-departing_fits
 same_length c = search rules
 
-same_length_2 : tie.Need-same-length-2
+same_length_2 : tie.Need-shape_of-counts-then-not-departing_fits
 same_length_2 c = search rules
 
 -- where the total is in range, and the counts are tested
-abbrev total_kept : tie.After-departing-fits → tie.Else1
+abbrev total_kept : tie.After-departing_fits → tie.Else-not-total_ok
 total_kept a = a.before.before.before
 
-total_good : (e : tie.Else1) → within lowest_total (pos 0) (rest (entry e.before)) ≡ true
-total_good e = sym (total_fits e.before) ∙ not-false e.before.total-ok.result e.if1.false
+total_good : (e : tie.Else-not-total_ok) → within lowest_total (pos 0) (rest (entry e.before)) ≡ true
+total_good e = sym (total_fits e.before) ∙ not-false e.before.total_ok.result e.if-not-total_ok.false
 
-returns_2 : tie.Need-returns-2
+returns_2 : tie.Need-returns-then-not-departing_fits
 returns_2 c =
     let a = c.before in
     let e = total_kept a in
     let s = entry e.before in
-    refuses_counts (departure s.pre.0 s.args.f s.pre.1.0) (total_good e) (sym a.departing-fits.ensures ∙ not-true a.departing-fits.result c.if2.true)
+    refuses_counts (departure s.requires.0 s.args.f s.requires.1.0) (total_good e) (sym a.departing_fits.ensures ∙ not-true a.departing_fits.result c.if-not-departing_fits.true)
 
-put_likelihoods_requires : tie.Need-put-likelihoods-requires
+put_likelihoods_requires : tie.Need-put_likelihoods-requires
 put_likelihoods_requires c κs = search rules
 
 -- where everything is written
-abbrev origin : tie.Else2 → tie.Start
+abbrev origin : tie.Else-not-departing_fits → tie.Start
 origin c = entry (total_kept c.before).before
 
-count_departing_requires : tie.Need-count-departing-requires
+count_departing_requires : tie.Need-count_departing-requires
 count_departing_requires c κs =
     let s = origin c.before.before.before.before.before in
-    (s.pre.0.ready.case_in, (s.pre.1.0, (counts_in s.pre.0, s.pre.0.counts_long)))
+    (s.requires.0.ready.case_in, (s.requires.1.0, (counts_in s.requires.0, s.requires.0.counts_long)))
 
-lay_departure_requires : tie.Need-lay-departure-requires
+lay_departure_requires : tie.Need-lay_departure-requires
 lay_departure_requires c κs =
     let s = origin c.before.before.before.before.before.before.before.before in
-    (s.pre.0.ready.case_in, s.pre.1.0)
+    (s.requires.0.ready.case_in, s.requires.1.0)
 
-same_length_3 : tie.Need-same-length-3
+same_length_3 : tie.Need-shape_of-words
 same_length_3 c = search rules
 
-same_length_4 : tie.Need-same-length-4
+same_length_4 : tie.Need-shape_of-likelihoods
 same_length_4 c = search rules
 
-same_length_5 : tie.Need-same-length-5
+same_length_5 : tie.Need-shape_of-counts
 same_length_5 c = search rules
 
-returns_3 : tie.Need-returns-3
+returns_3 : tie.Need-returns
 unfolding departed
 returns_3 c =
     let gone = c.before in
@@ -164,8 +164,8 @@ returns_3 c =
     let e = total_kept a in
     let m = e.before.before in
     let s = start (shared m) in
-    updates (departure s.pre.0 s.args.f s.pre.1.0) _ (rest_is m) (total_good e) (sym a.departing-fits.ensures ∙ not-false a.departing-fits.result k.if2.false)
-    (same_slices gone.lay-departure.ensures put.put-likelihoods.ensures counted.count-departing.ensures)
+    updates (departure s.requires.0 s.args.f s.requires.1.0) _ (rest_is m) (total_good e) (sym a.departing_fits.ensures ∙ not-false a.departing_fits.result k.if-not-departing_fits.false)
+    (same_slices gone.lay_departure.ensures put.put_likelihoods.ensures counted.count_departing.ensures)
 
 pub depart_kept_spec : {M : Type 1} → statement M
 depart_kept_spec =

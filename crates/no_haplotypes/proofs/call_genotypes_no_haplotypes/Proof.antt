@@ -24,14 +24,14 @@ use Rattle.no_haplotypes.proofs.call_genotypes_no_haplotypes.Tie as tie
 abbrev st : tie.After-check_case-checked → tie.Start
 st c = c.before.before.before.before
 
-abbrev case_of : tie.After-rates_fault-p → tie.In-Accepted-2
-case_of p = p.before.before.before.before
+abbrev case_of : tie.After-rates_fault-p → tie.In-Accepted
+case_of p = p.before.before.before
 
 abbrev start : tie.After-rates_fault-p → tie.Start
-start p = st (case_of p).before.before
+start p = st (case_of p).before
 
 abbrev S : tie.After-rates_fault-p → Sizes
-S p = (case_of p).checked-in-Accepted-1.given.0.0
+S p = (case_of p).in-Accepted.s
 
 abbrev before : tie.After-rates_fault-p → CallSlices
 before p = call_slices (start p).args.variants.now (start p).args.quals.now (start p).args.gqs.now
@@ -42,7 +42,7 @@ faultless c = c.before.before.before.before.before
 -- ---- what holds there
 accepted : (p : tie.After-rates_fault-p) → check_case_outcome (start p).args.words.now (start p).args.bases.now ≡ done (S p)
 unfolding outcome_of
-accepted p = sym (case_of p).before.before.check_case-checked.ensures ∙ ap outcome_of (case_of p).checked-in-Accepted-1.given.1
+accepted p = sym (case_of p).check_case-checked.ensures ∙ ap outcome_of (case_of p).in-Accepted.is
 
 good : (c : tie.Else-p-lt7) → rates_fault (start c.before).args.rates ≡ 7
 good c = rates_good _ c.before.rates_fault-p.result c.before.rates_fault-p.ensures c.if-p-lt7.false
@@ -116,11 +116,11 @@ call_accepted_requires c κs =
     let a = accepted p in
     let v = short_fits _ _ _ (fits e) in
     let q = short_fits _ _ _ v.1 in
-    ((p.before.before.table-t.ensures, case_in _ _ _ a, few_calls _ _ _ a, bases_in _ _ _ a, good f), (v.0, q.0, (short_fits _ _ _ q.1).0))
+    ((p.table-t.ensures, case_in _ _ _ a, few_calls _ _ _ a, bases_in _ _ _ a, good f), (v.0, q.0, (short_fits _ _ _ q.1).0))
 
 returns_3 : tie.Need-returns-in-Refused
 unfolding call_genotypes_no_haplotypes_outcome
-returns_3 c = let d = c.before in refuses _ (case_stops _ _ _ _ (ap outcome_of (sym d.checked-1.given.1) ∙ d.before.before.check_case-checked.ensures))
+returns_3 c = refuses _ (case_stops _ _ _ _ (ap outcome_of (sym c.in-Refused.is) ∙ c.check_case-checked.ensures))
 
 same_length : tie.Need-shape_of-variants
 same_length c = search rules

@@ -32,13 +32,13 @@ abbrev held : (y : tie.After-write_posteriors) → PileHeld (st y).args.words.no
 held y = (st y).requires.0.1
 
 abbrev made : tie.After-max_genotype-p → tie.After-write_posteriors
-made r = r.before.before.before.before
+made r = r.before.before.before
 
 abbrev maximum : tie.After-qual_of → tie.After-max_genotype-p
-maximum q = q.before.before
+maximum q = q.before
 
 abbrev gq_from : tie.After-gq_of → tie.After-qual_of
-gq_from g = g.before.before
+gq_from g = g.before
 
 -- ---- the posteriors
 write_posteriors_requires : tie.Need-write_posteriors-requires
@@ -62,19 +62,19 @@ table y = made_table (held y) y.write_posteriors.ensures (room y)
 
 max_genotype_requires : tie.Need-max_genotype-p-requires
 max_genotype_requires c κs =
-    let y = c.before.before.before in
-    ((st y).requires.0.0, rw c.before.allele_count-k.ensures (table y))
+    let y = c.before.before in
+    ((st y).requires.0.0, rw c.allele_count-k.ensures (table y))
 
 -- the called pair
 called : (r : tie.After-max_genotype-p) → r.max_genotype-p.result ≡ max_genotype false (drop (9 * v_of (made r)) (after (made r))) (k_of (made r))
-called r = rw r.before.before.allele_count-k.ensures at r.max_genotype-p.ensures
+called r = rw r.allele_count-k.ensures at r.max_genotype-p.ensures
 
 inside : (r : tie.After-max_genotype-p) → r.max_genotype-p.result < k_of (made r) * k_of (made r)
 inside r = omega (arith, called r, (genotype_maximum false (drop (9 * v_of (made r)) (after (made r))) (k_of (made r)) (table (made r)).k_low).inside)
 
 -- ---- the qualities
 qual_of_requires : tie.Need-qual_of-requires
-qual_of_requires c κs = first_small (table (made c.before))
+qual_of_requires c κs = first_small (table (made c))
 
 index_fits : (y : tie.After-write_posteriors) → v_of y < 1024
 index_fits y = omega (arith, (held y).case_in.sized.n_top, (held y).variant_in)
@@ -87,8 +87,8 @@ slice_write_quals c = search rules
 
 gq_of_requires : tie.Need-gq_of-requires
 gq_of_requires c κs =
-    let r = maximum c.before in
-    rw r.before.before.allele_count-k.ensures ((st (made r)).requires.0.0, table (made r), omega (arith, inside r))
+    let r = maximum c in
+    rw r.allele_count-k.ensures ((st (made r)).requires.0.0, table (made r), omega (arith, inside r))
 
 mul_gqs : tie.Need-offset_bounds-gqs-v
 mul_gqs c = omega (arith, index_fits (made (maximum (gq_from c))))
@@ -124,7 +124,7 @@ gq_before d = d.before.before.before
 genotype_of_requires : tie.Need-genotype_of-g-requires
 genotype_of_requires c κs =
     let r = maximum (gq_from (gq_before c)) in
-    rw r.before.before.allele_count-k.ensures ((table (made r)).k_low, (table (made r)).k_high, inside r)
+    rw r.allele_count-k.ensures ((table (made r)).k_low, (table (made r)).k_high, inside r)
 
 write_answer_requires : tie.Need-write_answer-requires
 write_answer_requires c κs =
@@ -152,7 +152,7 @@ returns c =
     let r = maximum q in
     let y = made r in
     let p = r.max_genotype-p.result in
-    let k = r.before.before.allele_count-k.ensures in
+    let k = r.allele_count-k.ensures in
     variant_called (held y) y.write_posteriors.ensures (room y) p _ _ _ _ (called r)
     ((paired a.before).genotype_of-g.ensures ∙ ap (λ (k : ℕ). genotype_of k p) k) d.depth_after-depth.ensures.0 a.write_answer.ensures
     q.qual_of.ensures (g.gq_of.ensures ∙ ap (λ (k : ℕ). gq_of (drop (9 * v_of y) (after y)) k p) k)

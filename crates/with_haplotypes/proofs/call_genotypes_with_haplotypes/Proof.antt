@@ -17,94 +17,94 @@ use Rattle.with_haplotypes.proofs.call_genotypes_with_haplotypes.Statement.{stat
 use Rattle.with_haplotypes.proofs.call_genotypes_with_haplotypes.Tie as tie
 
 -- the start, the sizes of an accepted case, and what is known of it
-abbrev st : tie.After-s → tie.Start
+abbrev st : tie.In-Accepted-2 → tie.Start
 st c = c.before.before.before.before.before.before.before.before.before
 
-abbrev sizes : tie.After-s → Sizes
-sizes c = c.s.given.0.0
+abbrev sizes : tie.In-Accepted-2 → Sizes
+sizes c = c.s-1.given.0.0
 
-accepted : (c : tie.After-s) → check_case_outcome (st c).args.words.now (st c).args.bases.now ≡ done (sizes c)
-accepted c = is_done _ _ _ (ap check.outcome_of (sym c.s.given.1) ∙ c.before.before.check-case.ensures)
+accepted : (c : tie.In-Accepted-2) → check_case_outcome (st c).args.words.now (st c).args.bases.now ≡ done (sizes c)
+accepted c = is_done _ _ _ (ap check.outcome_of (sym c.s-1.given.1) ∙ c.before.before.check_case.ensures)
 
-inside : (c : tie.After-s) → CaseIn (st c).args.words.now (sizes c)
+inside : (c : tie.In-Accepted-2) → CaseIn (st c).args.words.now (sizes c)
 inside c = case_in _ _ _ (accepted c)
 
 -- what the checks answer, of the lengths of the lent slices
-abbrev checks_is : tie.After-round-checks → Outcome ℕ
+abbrev checks_is : tie.After-round_checks → Outcome ℕ
 checks_is c =
     let k = c.before.before.before.before.before in
     let a = (st k).args in
     round_checks (sizes k).n a.rates a.phase.now a.sets.now a.orders.now a.limit (round_short (sizes k).n (sizes k).f (length a.haplotypes.now) (length a.likelihoods.now) (length a.posteriors.now) (length a.quals.now) (length a.gqs.now))
 
-checked : (c : tie.After-round-checks) → checked_as c.round_checks.result ≡ checks_is c
-checked c = rw (← c.before.before.round-short.ensures) c.round_checks.ensures
+checked : (c : tie.After-round_checks) → checked_as c.round_checks.result ≡ checks_is c
+checked c = rw (← c.before.before.round_short-short.ensures) c.round_checks.ensures
 
 -- where the round is called: what the checks answered, and the number of orders
-abbrev checks : tie.After-round-accepted-arg5 → tie.After-round-checks
+abbrev checks : tie.After-round_accepted-arg-in-Good-4-1 → tie.After-round_checks
 checks c = c.before.before.before.before.before.before.before.before
 
-abbrev orders : tie.After-round-accepted-arg5 → tie.After-m
+abbrev orders : tie.After-round_accepted-arg-in-Good-4-1 → tie.In-Good-2
 orders c = c.before.before.before.before.before.before
 
-passed : (c : tie.After-round-accepted-arg5) → checks_is (checks c) ≡ done (orders c).m.given.0.0
+passed : (c : tie.After-round_accepted-arg-in-Good-4-1) → checks_is (checks c) ≡ done (orders c).m-1.given.0.0
 unfolding checked_as
-passed c = sym (ap checked_as (sym (orders c).m.given.1) ∙ checked (checks c))
+passed c = sym (ap checked_as (sym (orders c).m-1.given.1) ∙ checked (checks c))
 
-check_case_requires : tie.Need-check-case-requires
+check_case_requires : tie.Need-check_case-requires
 check_case_requires c κs = search rules
 
-enum_known_x : tie.Need-enum-known-x
+enum_known_x : tie.Need-enum_known-x
 enum_known_x c = search rules
 
-enum_known_s : tie.Need-enum-known-s
+enum_known_s : tie.Need-enum_known-s
 enum_known_s c = search rules
 
-table_requires : tie.Need-table-requires
+table_requires : tie.Need-table-t-requires
 table_requires c κs = search rules
 
-round_short_requires : tie.Need-round-short-requires
+round_short_requires : tie.Need-round_short-short-requires
 round_short_requires c κs = let k = inside c.before.before in (k.sized.n_top, k.sized.f_top)
 
-round_checks_requires : tie.Need-round-checks-requires
-round_checks_requires c κs = (c.before.before.table.ensures, (inside c.before.before.before.before).sized.n_top)
+round_checks_requires : tie.Need-round_checks-requires
+round_checks_requires c κs = (c.before.before.table-t.ensures, (inside c.before.before.before.before).sized.n_top)
 
-enum_known_x_2 : tie.Need-enum-known-x-2
+enum_known_x_2 : tie.Need-enum_known-x-in-Refused-round_checks
 enum_known_x_2 c = search rules
 
-enum_known_m : tie.Need-enum-known-m
+enum_known_m : tie.Need-enum_known-m
 enum_known_m c = search rules
 
-round_accepted_requires : tie.Need-round-accepted-requires
+round_accepted_requires : tie.Need-round_accepted-requires
 unfolding checked_as
 round_accepted_requires c κs = admits _ _ _ _ _ (accepted (checks c).before.before.before.before.before) (passed c)
 
-returns : tie.Need-returns
-returns c = answer_case _ _ _ _ (ap check.outcome_of (sym c.before.x.given.1) ∙ c.before.before.before.check-case.ensures)
+returns : tie.Need-returns-in-Refused
+returns c = answer_case _ _ _ _ (ap check.outcome_of (sym c.before.x-1.given.1) ∙ c.before.before.before.check_case.ensures)
 
-returns_2 : tie.Need-returns-2
+returns_2 : tie.Need-returns-in-Refused-round_checks
 unfolding checked_as
-returns_2 c = let k = c.before.before.before in answer_checks _ _ _ _ _ (accepted k.before.before.before.before.before) (ap checked_as (sym c.before.x2.given.1) ∙ checked k)
+returns_2 c = let k = c.before.before.before in answer_checks _ _ _ _ _ (accepted k.before.before.before.before.before) (ap checked_as (sym c.before.x-in-Refused-round_checks-1.given.1) ∙ checked k)
 
-same_length : tie.Need-same-length
+same_length : tie.Need-shape_of-haplotypes
 same_length c = search rules
 
-same_length_2 : tie.Need-same-length-2
+same_length_2 : tie.Need-shape_of-likelihoods
 same_length_2 c = search rules
 
-same_length_3 : tie.Need-same-length-3
+same_length_3 : tie.Need-shape_of-posteriors
 same_length_3 c = search rules
 
-same_length_4 : tie.Need-same-length-4
+same_length_4 : tie.Need-shape_of-quals
 same_length_4 c = search rules
 
-same_length_5 : tie.Need-same-length-5
+same_length_5 : tie.Need-shape_of-gqs
 same_length_5 c = search rules
 
-returns_3 : tie.Need-returns-3
+returns_3 : tie.Need-returns-in-Good
 unfolding checked_as
 returns_3 c =
     let r = c.before.before.before.before.before.before.before.before in
-    answer_done _ _ _ _ _ (accepted (checks r.before).before.before.before.before.before) (passed r.before) _ _ r.round-accepted.ensures
+    answer_done _ _ _ _ _ (accepted (checks r.before).before.before.before.before.before) (passed r.before) _ _ r.round_accepted.ensures
 
 pub call_genotypes_with_haplotypes_spec : {M : Type 1} → statement M
 call_genotypes_with_haplotypes_spec =

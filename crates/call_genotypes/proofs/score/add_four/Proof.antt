@@ -29,33 +29,33 @@ acc0 s = s.args.acc.now
 abbrev at : tie.Start → ℕ
 at s = 4 * s.args.x
 
-acc1 : (c : tie.After-raise) → c.raise.new.0 ≡ set (acc0 c.before.before.before) (at c.before.before.before) (get_or (acc0 c.before.before.before) (at c.before.before.before) (pos 0) +ℤ value_of c.before.before.before.args.r 0)
+acc1 : (c : tie.After-raise) → c.raise.new.acc ≡ set (acc0 c.before.before.before) (at c.before.before.before) (get_or (acc0 c.before.before.before) (at c.before.before.before) (pos 0) +ℤ value_of c.before.before.before.args.r 0)
 unfolding value_of
 acc1 c = cc (read c.before.before.before 0)
 
-acc2 : (c : tie.After-raise2) → let p = c.before.before.before in
-    c.raise2.new.0 ≡ set p.raise.new.0 (at p.before.before.before + 1) (get_or p.raise.new.0 (at p.before.before.before + 1) (pos 0) +ℤ value_of p.before.before.before.args.r 1)
+acc2 : (c : tie.After-raise-2) → let p = c.before.before.before in
+    c.raise-2.new.acc ≡ set p.raise.new.acc (at p.before.before.before + 1) (get_or p.raise.new.acc (at p.before.before.before + 1) (pos 0) +ℤ value_of p.before.before.before.args.r 1)
 unfolding value_of
 acc2 c = cc (read c.before.before.before.before.before.before 1)
 
-acc3 : (c : tie.After-raise3) → let p = c.before.before.before in let s = p.before.before.before.before.before.before in
-    c.raise3.new.0 ≡ set p.raise2.new.0 (at s + 2) (get_or p.raise2.new.0 (at s + 2) (pos 0) +ℤ value_of s.args.r 2)
+acc3 : (c : tie.After-raise-3) → let p = c.before.before.before in let s = p.before.before.before.before.before.before in
+    c.raise-3.new.acc ≡ set p.raise-2.new.acc (at s + 2) (get_or p.raise-2.new.acc (at s + 2) (pos 0) +ℤ value_of s.args.r 2)
 unfolding value_of
 acc3 c = cc (read c.before.before.before.before.before.before.before.before.before 2)
 
-acc4 : (c : tie.After-raise4) → let p = c.before.before.before in let s = p.before.before.before.before.before.before.before.before.before in
-    c.raise4.new.0 ≡ set p.raise3.new.0 (at s + 3) (get_or p.raise3.new.0 (at s + 3) (pos 0) +ℤ value_of s.args.r 3)
+acc4 : (c : tie.After-raise-4) → let p = c.before.before.before in let s = p.before.before.before.before.before.before.before.before.before in
+    c.raise-4.new.acc ≡ set p.raise-3.new.acc (at s + 3) (get_or p.raise-3.new.acc (at s + 3) (pos 0) +ℤ value_of s.args.r 3)
 unfolding value_of
 acc4 c = cc (read c.before.before.before.before.before.before.before.before.before.before.before.before 3)
 
 -- an element that is not stored to yet
-kept1 : (c : tie.After-raise) (j : ℕ) → at c.before.before.before < j → get_or c.raise.new.0 j (pos 0) ≡ get_or (acc0 c.before.before.before) j (pos 0)
+kept1 : (c : tie.After-raise) (j : ℕ) → at c.before.before.before < j → get_or c.raise.new.acc j (pos 0) ≡ get_or (acc0 c.before.before.before) j (pos 0)
 kept1 c j l = let f : j ≡ at c.before.before.before → ⊥ = omega arith in rw (acc1 c, get_or-set_other)
 
-kept2 : (c : tie.After-raise2) (j : ℕ) → at c.before.before.before.before.before.before + 1 < j → get_or c.raise2.new.0 j (pos 0) ≡ get_or (acc0 c.before.before.before.before.before.before) j (pos 0)
+kept2 : (c : tie.After-raise-2) (j : ℕ) → at c.before.before.before.before.before.before + 1 < j → get_or c.raise-2.new.acc j (pos 0) ≡ get_or (acc0 c.before.before.before.before.before.before) j (pos 0)
 kept2 c j l = let f : j ≡ at c.before.before.before.before.before.before + 1 → ⊥ = omega arith in rw (acc2 c, get_or-set_other) (kept1 c.before.before.before j (omega arith))
 
-kept3 : (c : tie.After-raise3) (j : ℕ) → at c.before.before.before.before.before.before.before.before.before + 2 < j → get_or c.raise3.new.0 j (pos 0) ≡ get_or (acc0 c.before.before.before.before.before.before.before.before.before) j (pos 0)
+kept3 : (c : tie.After-raise-3) (j : ℕ) → at c.before.before.before.before.before.before.before.before.before + 2 < j → get_or c.raise-3.new.acc j (pos 0) ≡ get_or (acc0 c.before.before.before.before.before.before.before.before.before) j (pos 0)
 kept3 c j l = let f : j ≡ at c.before.before.before.before.before.before.before.before.before + 2 → ⊥ = omega arith in rw (acc3 c, get_or-set_other) (kept2 c.before.before.before j (omega arith))
 
 raise_requires : tie.Need-raise-requires

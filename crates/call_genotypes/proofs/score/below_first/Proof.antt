@@ -27,10 +27,10 @@ read s = plus_read w64 (prior s) (gaps s) (omega (arith, small s))
 less_small : (s : tie.Start) → nat_abs (pos 0 -ℤ (prior s +ℤ gaps s)) ≤ 2 ^ 53
 less_small s = omega (arith, minus_abs (pos 0) (prior s +ℤ gaps s), add_abs (prior s) (gaps s), small s)
 
-add_result : tie.Need-overflow-add-result
+add_result : tie.Need-overflow_add-result
 add_result c = let s = c.before.before in plus_fits w64 (prior s) (gaps s) (omega (arith, small s))
 
-sub_result : tie.Need-overflow-sub-result
+sub_result : tie.Need-overflow_sub-result
 sub_result c = let s = c.before.before in rw (read s) (sfits w64 (pos 0 -ℤ (prior s +ℤ gaps s)) (omega (arith, less_small s)))
 
 returns : tie.Need-returns

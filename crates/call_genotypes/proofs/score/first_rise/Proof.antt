@@ -26,7 +26,7 @@ rise_is : (s : tie.Start) → first s -ℤ neither s ≡ rise_of (sums_at s.args
 unfolding rise_of
 rise_is s = rw (add-zero (4 * s.args.x))
 
-sub_result : tie.Need-overflow-sub-result
+sub_result : tie.Need-overflow_sub-result
 sub_result c = let s = c.before.before in minus_fits w64 (first s) (neither s) (small s)
 
 returns : tie.Need-returns

@@ -41,20 +41,20 @@ once_is s = ap (set s.args.turns.now s.args.g0) (less_read (get_or s.args.turns.
 once_small : (s : tie.Start) → nat_abs (get_or (once s) s.args.g1 (pos 0)) ≤ 1
 once_small s = rw (once_is s) (once_stored s.args.turns.now s.args.g0 s.requires.0 s.requires.1 s.args.g1)
 
-sub_turns : tie.Need-overflow-sub-turns
+sub_turns : tie.Need-overflow_sub-turns
 sub_turns c = let s = c.before.before in less_fits (get_or s.args.turns.now s.args.g0 (pos 0)) (old_small s)
 
-add_turns : tie.Need-overflow-add-turns
+add_turns : tie.Need-overflow_add-turns
 add_turns c = let s = c.before.before.before in more_fits (get_or (once s) s.args.g1 (pos 0)) (once_small s)
 
-returns : tie.Need-returns
+returns : tie.Need-returns-then-phased
 returns c x =
     let s = c.before.before.before in
     let e = turns_made s.args.turns.now (once s) _ s.args.g0 s.args.g1 s.requires.0 s.requires.1 s.requires.2 (once_is s) (ap (set (once s) s.args.g1) (more_read (get_or (once s) s.args.g1 (pos 0)) (once_small s))) x in
-    rw c.before.before.if1.true e
+    rw c.before.before.if-phased.true e
 
-returns_2 : tie.Need-returns-2
-returns_2 c x = rw c.if1.false (no_turns c.before.args.turns.now c.before.args.g0 c.before.args.g1 c.before.requires.0 x)
+returns_2 : tie.Need-returns-else-phased
+returns_2 c x = rw c.if-phased.false (no_turns c.before.args.turns.now c.before.args.g0 c.before.args.g1 c.before.requires.0 x)
 
 pub make_turns_spec : {M : Type 1} → statement M
 make_turns_spec =

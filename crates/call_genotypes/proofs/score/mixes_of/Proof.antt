@@ -23,35 +23,35 @@ above s = plus_read w64 s.args.d s.args.g (omega (arith, s.requires.1, s.require
 below : (s : tie.Start) → to_z w64 (of_z w64 (to_z w64 (of_z w64 s.args.d) -ℤ to_z w64 (of_z w64 s.args.g))) ≡ s.args.d -ℤ s.args.g
 below s = minus_read w64 s.args.d s.args.g (omega (arith, s.requires.1, s.requires.2))
 
-far_mixes_requires : tie.Need-far-mixes-requires
+far_mixes_requires : tie.Need-far_mixes-requires
 far_mixes_requires c κs =
     let s = c.before.before in
-    (rw (here s) (sym (rw (here s) at c.before.is-far.ensures) ∙ c.if1.true), rw (here s) (omega (arith, s.requires.1)), rw (rise s) (omega (arith, s.requires.2)))
+    (rw (here s) (sym (rw (here s) at c.before.is_far.ensures) ∙ c.if-is_far.true), rw (here s) (omega (arith, s.requires.1)), rw (rise s) (omega (arith, s.requires.2)))
 
-returns : tie.Need-returns
+returns : tie.Need-returns-then-is_far
 returns c w = let s = c.before.before.before in
-    c.far-mixes.ensures w ∙ cc (here s, rise s)
+    c.far_mixes.ensures w ∙ cc (here s, rise s)
 
-add_ln_one_plus_exp : tie.Need-overflow-add-ln-one-plus-exp
+add_ln_one_plus_exp : tie.Need-overflow_add-d
 add_ln_one_plus_exp c = let s = c.before.before in plus_fits w64 s.args.d s.args.g (omega (arith, s.requires.1, s.requires.2))
 
-ln_one_plus_exp_requires : tie.Need-ln-one-plus-exp-requires
+ln_one_plus_exp_requires : tie.Need-ln_one_plus_exp-first-requires
 ln_one_plus_exp_requires c κs = let s = c.before.before in (s.requires.0, rw (above s) (omega (arith, add_abs s.args.d s.args.g, s.requires.1, s.requires.2)))
 
-sub_ln_one_plus_exp : tie.Need-overflow-sub-ln-one-plus-exp
+sub_ln_one_plus_exp : tie.Need-overflow_sub-d
 sub_ln_one_plus_exp c = let s = c.before.before.before in minus_fits w64 s.args.d s.args.g (omega (arith, s.requires.1, s.requires.2))
 
-ln_one_plus_exp_requires_2 : tie.Need-ln-one-plus-exp-requires-2
+ln_one_plus_exp_requires_2 : tie.Need-ln_one_plus_exp-second-requires
 ln_one_plus_exp_requires_2 c κs = let s = c.before.before.before in (s.requires.0, rw (below s) (omega (arith, minus_abs s.args.d s.args.g, s.requires.1, s.requires.2)))
 
-ln_one_plus_exp_requires_3 : tie.Need-ln-one-plus-exp-requires-3
+ln_one_plus_exp_requires_3 : tie.Need-ln_one_plus_exp-neither-requires
 ln_one_plus_exp_requires_3 c κs = let s = c.before.before.before.before in (s.requires.0, rw (here s) (omega (arith, s.requires.1)))
 
-returns_2 : tie.Need-returns-2
+returns_2 : tie.Need-returns
 returns_2 c =
     let b = c.before.before in
     let s = b.before.before.before in
-    mix_values _ _ _ (cc (read_back w64 _ b.ln-one-plus-exp.type_inv, above s)) (cc (read_back w64 _ c.before.ln-one-plus-exp2.type_inv, below s)) (rise s) (cc (read_back w64 _ c.ln-one-plus-exp3.type_inv, here s))
+    mix_values _ _ _ (cc (read_back w64 _ b.ln_one_plus_exp-first.type_inv, above s)) (cc (read_back w64 _ c.before.ln_one_plus_exp-second.type_inv, below s)) (rise s) (cc (read_back w64 _ c.ln_one_plus_exp-neither.type_inv, here s))
 
 pub mixes_of_spec : {M : Type 1} → statement M
 mixes_of_spec =

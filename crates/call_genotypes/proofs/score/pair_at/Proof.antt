@@ -5,11 +5,11 @@ use borrow.Author.Rules.{rules}
 use Rattle.call_genotypes.proofs.score.pair_at.Statement.{statement}
 use Rattle.call_genotypes.proofs.score.pair_at.Tie as tie
 
-cast_t6 : tie.Need-overflow-cast-t6
-cast_t6 c = omega (arith, c.shared-slice-known.given (2 * c.before.args.v))
+cast_t6 : tie.Need-overflow_cast-result
+cast_t6 c = omega (arith, c.shared_slice_known-1.given (2 * c.before.args.v))
 
-cast_t11 : tie.Need-overflow-cast-t11
-cast_t11 c = omega (arith, c.shared-slice-known2.given (2 * c.before.before.args.v + 1))
+cast_t11 : tie.Need-overflow_cast-result-2
+cast_t11 c = omega (arith, c.shared_slice_known-2-1.given (2 * c.before.before.args.v + 1))
 
 pub pair_at_spec : {M : Type 1} → statement M
 pair_at_spec =

@@ -18,26 +18,26 @@ prior_of s = get_or s.args.pri.now s.args.at (pos 0)
 two_small : (s : tie.Start) → nat_abs (prior_of s) + nat_abs s.args.base ≤ 2 ^ 54
 two_small s = omega (arith, s.requires.0.1, s.requires.0.2)
 
-rise_small : (c : tie.After-pair-rise) → nat_abs c.pair-rise.result ≤ 2 ^ 53
-rise_small c = let s = c.before.before in rw c.pair-rise.ensures (pair_size s.args.acc.now s.requires.1 s.args.i s.args.j)
+rise_small : (c : tie.After-pair_rise) → nat_abs c.pair_rise.result ≤ 2 ^ 53
+rise_small c = let s = c.before.before in rw c.pair_rise.ensures (pair_size s.args.acc.now s.requires.1 s.args.i s.args.j)
 
 first_read : (s : tie.Start) → to_z w64 (of_z w64 (to_z w64 (of_z w64 (prior_of s)) +ℤ to_z w64 (of_z w64 s.args.base))) ≡ prior_of s +ℤ s.args.base
 first_read s = plus_read w64 (prior_of s) s.args.base (omega (arith, two_small s))
 
-small : (c : tie.After-pair-rise) → let s = c.before.before in nat_abs ((prior_of s +ℤ s.args.base) +ℤ c.pair-rise.result) < 2 ^ 63
+small : (c : tie.After-pair_rise) → let s = c.before.before in nat_abs ((prior_of s +ℤ s.args.base) +ℤ c.pair_rise.result) < 2 ^ 63
 small c = let s = c.before.before in
-    omega (arith, add_abs (prior_of s +ℤ s.args.base) c.pair-rise.result, add_abs (prior_of s) s.args.base, two_small s, rise_small c)
+    omega (arith, add_abs (prior_of s +ℤ s.args.base) c.pair_rise.result, add_abs (prior_of s) s.args.base, two_small s, rise_small c)
 
-add_t10 : tie.Need-overflow-add-t10
+add_t10 : tie.Need-overflow_add-result
 add_t10 c = let s = c.before in plus_fits w64 (prior_of s) s.args.base (omega (arith, two_small s))
 
-add_t12 : tie.Need-overflow-add-t12
+add_t12 : tie.Need-overflow_add-result-2
 add_t12 c = let s = c.before.before in
-    rw (first_read s, read_small w64 c.pair-rise.result (omega (arith, rise_small c))) (sfits w64 ((prior_of s +ℤ s.args.base) +ℤ c.pair-rise.result) (small c))
+    rw (first_read s, read_small w64 c.pair_rise.result (omega (arith, rise_small c))) (sfits w64 ((prior_of s +ℤ s.args.base) +ℤ c.pair_rise.result) (small c))
 
 returns : tie.Need-returns
 returns c = let s = c.before.before in
-    rw (first_read s, read_small w64 c.pair-rise.result (omega (arith, rise_small c))) (read_small w64 ((prior_of s +ℤ s.args.base) +ℤ c.pair-rise.result) (small c) ∙ cc)
+    rw (first_read s, read_small w64 c.pair_rise.result (omega (arith, rise_small c))) (read_small w64 ((prior_of s +ℤ s.args.base) +ℤ c.pair_rise.result) (small c) ∙ cc)
 
 pub pair_score_spec : {M : Type 1} → statement M
 pair_score_spec =

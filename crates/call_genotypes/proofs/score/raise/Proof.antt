@@ -8,7 +8,7 @@ use borrow.Author.Rules.{rules}
 use Rattle.call_genotypes.proofs.score.raise.Statement.{statement}
 use Rattle.call_genotypes.proofs.score.raise.Tie as tie
 
-add_acc : tie.Need-overflow-add-acc
+add_acc : tie.Need-overflow_add-acc
 add_acc c =
     let s = c.before in
     plus_fits w64 (get_or s.args.acc.now s.args.i (pos 0)) s.args.y (omega arith)

@@ -27,10 +27,10 @@ rise_small : (s : tie.Start) → nat_abs ((sum s 1 -ℤ sum s 3) +ℤ sum s 2) �
 unfolding rise_of
 rise_small s = second_rise_size s.args.acc.now s.requires.1 s.args.x
 
-sub_result : tie.Need-overflow-sub-result
+sub_result : tie.Need-overflow_sub-result
 sub_result c = let s = c.before.before in minus_fits w64 (sum s 1) (sum s 3) (small s)
 
-add_result_4 : tie.Need-overflow-add-result-4
+add_result_4 : tie.Need-overflow_add-result-4
 add_result_4 c =
     let s = c.before.before.before in
     rw (minus_read w64 (sum s 1) (sum s 3) (small s), third s) (sfits w64 ((sum s 1 -ℤ sum s 3) +ℤ sum s 2) (omega (arith, rise_small s)))

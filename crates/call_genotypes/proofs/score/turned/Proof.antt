@@ -17,7 +17,7 @@ its s = get_or s.args.turns.now s.args.x (pos 0)
 small : (s : tie.Start) → nat_abs (its s *ℤ s.args.g) ≤ 2 ^ 19
 small s = times_size (its s) s.args.g (2 ^ 19) s.requires.1 s.requires.2
 
-mul_result_2 : tie.Need-overflow-mul-result-2
+mul_result_2 : tie.Need-overflow_mul-result
 mul_result_2 c =
     let s = c.before in
     let e = read_small w64 (its s) (omega (arith, s.requires.1)) in

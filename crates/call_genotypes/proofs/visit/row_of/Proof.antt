@@ -11,10 +11,10 @@ use Rattle.call_genotypes.proofs.visit.row_of.Tie as tie
 row_is : (b k n i j : ℕ) → n ≡ i → b ≡ i * k + j → j < k → n ≡ b / k
 row_is b k n i j e p h = e ∙ sym (rw p (digits_div i h))
 
-low : (c : tie.Joined2) → c.before.if1.one + c.if2.two ≤ 2
-low c = ⊎_elim (λ w. ⊎_elim (λ u. omega (arith, w.1, u.1)) (λ u. omega (arith, w.1, u.1)) c.if2.branch) (λ w. ⊎_elim (λ u. omega (arith, w.1, u.1)) (λ u. omega (arith, w.1, u.1)) c.if2.branch) c.before.if1.branch
+low : (c : tie.Joined-b-k-2) → c.before.if-b-k.one + c.if-b-k-2.two ≤ 2
+low c = ⊎_elim (λ w. ⊎_elim (λ u. omega (arith, w.one-is, u.two-is)) (λ u. omega (arith, w.one-is, u.two-is)) c.if-b-k-2.branch-raw) (λ w. ⊎_elim (λ u. omega (arith, w.one-is, u.two-is)) (λ u. omega (arith, w.one-is, u.two-is)) c.if-b-k-2.branch-raw) c.if-b-k.branch-raw
 
-add_result : tie.Need-overflow-add-result
+add_result : tie.Need-overflow_add-result
 add_result c = omega (arith, low c.before.before)
 
 returns : tie.Need-returns
@@ -22,13 +22,13 @@ returns c =
     let s = c.before.before.before.before in
     let b = s.args.b in
     let k = s.args.k in
-    let n = c.before.before.before.if1.one + c.before.before.if2.two in
+    let n = c.before.before.before.if-b-k.one + c.before.before.if-b-k-2.two in
     ⊎_elim
-    (λ w. ⊎_elim (λ u. row_is b k n 0 b (omega (arith, w.1, u.1)) (omega arith) w.0.taken) (λ u. absurd (omega (arith, w.0.taken, u.0.left))) c.before.before.if2.branch)
+    (λ w. ⊎_elim (λ u. row_is b k n 0 b (omega (arith, w.one-is, u.two-is)) (omega arith) w.if-b-k.true) (λ u. absurd (omega (arith, w.if-b-k.true, u.if-b-k-2.false))) c.before.before.if-b-k-2.branch-raw)
     (λ w.
-    ⊎_elim (λ u. row_is b k n 1 (b - k) (omega (arith, w.1, u.1)) (omega (arith, w.0.left)) (omega (arith, w.0.left, u.0.taken)))
-    (λ u. row_is b k n 2 (b - 2 * k) (omega (arith, w.1, u.1)) (omega (arith, u.0.left)) (omega (arith, u.0.left, s.requires.1))) c.before.before.if2.branch)
-    c.before.before.before.if1.branch
+    ⊎_elim (λ u. row_is b k n 1 (b - k) (omega (arith, w.one-is, u.two-is)) (omega (arith, w.if-b-k.false)) (omega (arith, w.if-b-k.false, u.if-b-k-2.true)))
+    (λ u. row_is b k n 2 (b - 2 * k) (omega (arith, w.one-is, u.two-is)) (omega (arith, u.if-b-k-2.false)) (omega (arith, u.if-b-k-2.false, s.requires.1))) c.before.before.if-b-k-2.branch-raw)
+    c.before.before.before.if-b-k.branch-raw
 
 pub row_of_spec : {M : Type 1} → statement M
 row_of_spec = tie.close (tie.spec (λ c. search rules) add_result returns)

@@ -8,7 +8,7 @@ use Rattle.steps.proofs.Signed.{plus_fits, plus_read}
 use Rattle.call_genotypes.proofs.visit.shift.Statement.{statement}
 use Rattle.call_genotypes.proofs.visit.shift.Tie as tie
 
-add_lik : tie.Need-overflow-add-lik
+add_lik : tie.Need-overflow_add-lik
 add_lik c =
     let s = c.before in
     plus_fits w64 (get_or s.args.lik.now s.args.i (pos 0)) s.args.y (omega arith)

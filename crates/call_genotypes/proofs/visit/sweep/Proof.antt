@@ -12,56 +12,56 @@ use Rattle.call_genotypes.proofs.Sweeping.{SameLengths, Sweeping, sweeping_start
 use Rattle.call_genotypes.proofs.visit.sweep.Statement.{statement}
 use Rattle.call_genotypes.proofs.visit.sweep.Tie as tie
 
-abbrev invariant_loop : tie.invariant_loop
+abbrev invariant_loop : tie.invariant-loop-p
 invariant_loop t ks ph pri ends piles order hap₀ lik₀ post₀ changed₀ p₀ hap lik post changed p =
     let before = sweep_state hap₀ lik₀ post₀ in
     let state = sweep_state hap lik post in
     SameLengths before state × ((C : SweepCase) → SweepStart C (sweep_reads ks ph pri ends piles) before order → Sweeping C order before state changed p)
 
-abbrev decreases_loop : tie.decreases_loop
+abbrev decreases_loop : tie.decreases-loop-p
 decreases_loop t ks ph pri ends piles order hap₀ lik₀ post₀ changed₀ p₀ hap lik post changed p = length order - p
 
 -- the places before
-abbrev st : tie.At-loop invariant_loop decreases_loop → tie.Start invariant_loop decreases_loop
+abbrev st : tie.At-loop-p invariant_loop decreases_loop → tie.Start invariant_loop decreases_loop
 st c = c.before.before.before.before.before.before.before
 
-abbrev visited : tie.After-post invariant_loop decreases_loop → tie.After-visit invariant_loop decreases_loop
+abbrev visited : tie.After-post-1 invariant_loop decreases_loop → tie.After-visit invariant_loop decreases_loop
 visited c = c.before.before.before.before
 
-abbrev turn : tie.After-visit invariant_loop decreases_loop → tie.In-loop invariant_loop decreases_loop
+abbrev turn : tie.After-visit invariant_loop decreases_loop → tie.In-loop-p invariant_loop decreases_loop
 turn c = c.before.before.before.before.before
 
-loop_holds : tie.Need-loop-init invariant_loop decreases_loop
+loop_holds : tie.Need-loop-p-init invariant_loop decreases_loop
 loop_holds c = ((refl, refl, refl), λ C S. sweeping_start S)
 
-cast_v : tie.Need-overflow-cast-v invariant_loop decreases_loop
-cast_v c = omega (arith, c.shared-slice-known6.given c.before.before.loop.p)
+cast_v : tie.Need-overflow_cast-v invariant_loop decreases_loop
+cast_v c = omega (arith, c.shared_slice_known-in-loop-p-1.given c.before.before.loop-p.p)
 
 visit_requires : tie.Need-visit-requires invariant_loop decreases_loop
 visit_requires c κs =
     let l = c.before.before.before.before in
     let s = st l.before in
-    let S = s.pre.1.holds in
-    (s.pre.0, record { case = s.pre.1.case; holds = sweeping_visit S (l.before.loop.invariant.1 _ S) l.loop-test.true })
+    let S = s.requires.1.holds in
+    (s.requires.0, record { case = s.requires.1.case; holds = sweeping_visit S (l.before.loop-p.invariant.1 _ S) l.loop-p-test.true })
 
-loop_again : tie.Need-loop-preserved invariant_loop decreases_loop
+loop_again : tie.Need-loop-p-preserved-then-visit invariant_loop decreases_loop
 loop_again c =
     let w = visited c.before in
     let l = turn w in (
       search rules,
-      λ C S. let i = l.before.loop.invariant.1 C S in sweeping_changed S i l.loop-test.taken (w.visit.ensures C (sweeping_visit S i l.loop-test.taken)) c.if1.true,
+      λ C S. let i = l.before.loop-p.invariant.1 C S in sweeping_changed S i l.loop-p-test.true (w.visit.ensures C (sweeping_visit S i l.loop-p-test.true)) c.if-visit.true,
     )
 
-loop_again_2 : tie.Need-loop-preserved-2 invariant_loop decreases_loop
+loop_again_2 : tie.Need-loop-p-preserved invariant_loop decreases_loop
 loop_again_2 c =
     let w = visited c.before in
     let l = turn w in (
       search rules,
-      λ C S. let i = l.before.loop.invariant.1 C S in sweeping_same S i l.loop-test.taken (w.visit.ensures C (sweeping_visit S i l.loop-test.taken)) c.if1.false,
+      λ C S. let i = l.before.loop-p.invariant.1 C S in sweeping_same S i l.loop-p-test.true (w.visit.ensures C (sweeping_visit S i l.loop-p-test.true)) c.if-visit.false,
     )
 
 returns : tie.Need-returns invariant_loop decreases_loop
-returns c C S = sweeping_end S (c.before.loop.invariant.1 C S) c.loop-test.false
+returns c C S = sweeping_end S (c.before.loop-p.invariant.1 C S) c.loop-p-test.false
 
 pub sweep_spec : {M : Type 1} → statement M
 sweep_spec =

@@ -7,43 +7,43 @@ use Rattle.call_genotypes.proofs.visit.visit.Tie as tie
 
 -- the places before
 abbrev st : tie.After-scores → tie.Start
-st c = c.before.before.before.before.before.before.before.before.before
+st c = c.before.before.before.before.before.before.before
 
-abbrev scored : tie.After-pair-at → tie.After-scores
-scored c = c.before.before.before
+abbrev scored : tie.After-pair_at-old → tie.After-scores
+scored c = c.before.before
 
-abbrev pair : tie.After-best-pair → tie.After-pair-at
-pair c = c.before.before.before
+abbrev pair : tie.After-best_pair-new → tie.After-pair_at-old
+pair c = c.before.before
 
-cast_best_pair : tie.Need-overflow-cast-best-pair
-cast_best_pair c = omega (arith, c.shared-slice-known5.given (st (scored c.before.before)).args.v)
+cast_best_pair : tie.Need-overflow_cast-ks
+cast_best_pair c = omega (arith, c.shared_slice_known-5-1.given (st (scored c.before)).args.v)
 
-best_pair_requires : tie.Need-best-pair-requires
+best_pair_requires : tie.Need-best_pair-new-requires
 best_pair_requires c κs =
-    let w = scored c.before.before in
-    let S = (st w).pre.1.holds in
-    let k = w.scores.kept.1.1.1.1.1.1.1.1.0 in
+    let w = scored c.before in
+    let S = (st w).requires.1.holds in
+    let k = w.scores.auto.post in
     (omega (arith, S.standing.held.variants_top, S.v_in), k_least S, k_three S, omega (arith, k, S.standing.room, S.v_in))
 
-returns : tie.Need-returns
+returns : tie.Need-returns-then-same_pair
 returns c C S =
     let b = c.before.before in
     let p = pair b in
-    visited_same S _ _ _ ((scored p).scores.ensures C S) p.pair-at.ensures b.best_pair.ensures c.before.same-pair.result c.before.same-pair.ensures c.if1.true
+    visited_same S _ _ _ ((scored p).scores.ensures C S) p.pair_at-old.ensures b.best_pair-new.ensures c.before.same_pair.result c.before.same_pair.ensures c.if-same_pair.true
 
-put_pair_requires : tie.Need-put-pair-requires
+put_pair_requires : tie.Need-put_pair-requires
 put_pair_requires c κs =
     let b = c.before.before.before.before in
     let s = st (scored (pair b)) in
-    let S = s.pre.1.holds in
-    (record { case = s.pre.1.case; holds = movable S }, (omega (arith, b.best_pair.ensures.first_in, k_three S), omega (arith, b.best_pair.ensures.second_in, k_three S)))
+    let S = s.requires.1.holds in
+    (record { case = s.requires.1.case; holds = movable S }, (omega (arith, b.best_pair-new.ensures.first_in, k_three S), omega (arith, b.best_pair-new.ensures.second_in, k_three S)))
 
-returns_2 : tie.Need-returns-2
+returns_2 : tie.Need-returns
 returns_2 c C S =
     let d = c.before.before.before.before.before.before in
     let b = d.before.before in
     let p = pair b in
-    visited_moved S _ _ _ ((scored p).scores.ensures C S) p.pair-at.ensures b.best_pair.ensures d.before.same-pair.result _ _ d.before.same-pair.ensures d.if1.false (c.before.before.before.put-pair.ensures C (movable S))
+    visited_moved S _ _ _ ((scored p).scores.ensures C S) p.pair_at-old.ensures b.best_pair-new.ensures d.before.same_pair.result _ _ d.before.same_pair.ensures d.if-same_pair.false (c.before.before.before.put_pair.ensures C (movable S))
 
 pub visit_spec : {M : Type 1} → statement M
 visit_spec =

@@ -92,8 +92,8 @@ loop_again c =
     let more = (turn u).loop-p-test.true in (
       omega (arith, i.0),
       ⊎_elim
-          (λ x. rw (x.6, x.7, x.8) (gather_on i.1 (piece u) _ (left_is r x.0.true) x.2.ensures))
-          (λ x. rw (x.1, x.2, x.3) (gather_as i.1 (ap (allele_bytes _) (shown_skip (st (turn u)).args.rows.now _ _ u.unpack-row.ensures _ _ more _ r.phased_rule.ensures x.0.left))))
+          (λ x. rw (x.buffer-is, x.end-is, x.next-is) (gather_on i.1 (piece u) _ (left_is r x.if-phased_rule.true) x.write_call-end.ensures))
+          (λ x. rw (x.buffer-is, x.end-is, x.next-is) (gather_as i.1 (ap (allele_bytes _) (shown_skip (st (turn u)).args.rows.now _ _ u.unpack-row.ensures _ _ more _ r.phased_rule.ensures x.if-phased_rule.false))))
           c.if-phased_rule.branch-raw,
     )
 

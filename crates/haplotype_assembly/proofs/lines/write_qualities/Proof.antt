@@ -92,8 +92,8 @@ loop_again c =
     let more = (turn u).loop-p-test.true in (
       omega (arith, i.0),
       ⊎_elim
-          (λ x. rw (x.2, x.3, x.1.ensures) (gather_on i.1 (piece u) _ (left_is r x.0.true) (put_one _ _ _)))
-          (λ x. rw (x.1, x.2) (gather_as i.1 (ap (map call_quality) (shown_skip (st (turn u)).args.rows.now _ _ u.unpack-row.ensures _ _ more _ r.phased_rule.ensures x.0.left))))
+          (λ x. rw (x.buffer-is, x.end-is, x.quality_of-quality.ensures) (gather_on i.1 (piece u) _ (left_is r x.if-phased_rule.true) (put_one _ _ _)))
+          (λ x. rw (x.buffer-is, x.end-is) (gather_as i.1 (ap (map call_quality) (shown_skip (st (turn u)).args.rows.now _ _ u.unpack-row.ensures _ _ more _ r.phased_rule.ensures x.if-phased_rule.false))))
           c.if-phased_rule.branch-raw,
     )
 

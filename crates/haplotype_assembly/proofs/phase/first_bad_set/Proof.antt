@@ -6,7 +6,6 @@ use Prim.Native.Nat.{ℕ, ◌≤◌, ◌<◌, ◌-◌}
 use native.Mathlib.Omega.{arith}
 use borrow.Author.Count.{below_none, below_more}
 use borrow.Author.Rules.{rules}
-use borrow.Author.Tests.{not-true, not-false}
 use Rattle.haplotype_assembly.specs.GivenPhase.{sets_ok}
 use Rattle.haplotype_assembly.proofs.Cited.{first_at, first_end}
 use Rattle.haplotype_assembly.proofs.phase.first_bad_set.Statement.{statement}

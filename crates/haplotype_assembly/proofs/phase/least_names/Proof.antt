@@ -36,7 +36,7 @@ loop_less c = omega (arith, (turn c).loop-v-test)
 loop_again : tie.Need-loop-v-preserved invariant_loop decreases_loop
 loop_again c = let l = (turn c).before.loop-v.invariant in
     let d = c.before.before.note_name in
-    (omega (arith, (turn c).loop-v-test), (rw add-one d.ensures, d.auto.1.1.1.1.0 ∙ l.1.1))
+    (omega (arith, (turn c).loop-v-test), (rw add-one d.ensures, d.auto.least ∙ l.1.1))
 
 same_length : tie.Need-shape_of-least invariant_loop decreases_loop
 same_length c = c.before.loop-v.invariant.1.1

@@ -4,7 +4,6 @@ use mathlib.Core.Path.{◌≡◌, sym, ap, ◌∙◌}
 use Prim.Native.Nat.{◌≤◌}
 use native.Mathlib.Omega.{arith}
 use borrow.Author.Rules.{rules}
-use borrow.Author.Tests.{not-true, not-false}
 use lib.ListN.{length}
 use Rattle.variants_and_fragments.specs.Case.{Fragment}
 use Rattle.haplotype_assembly.specs.Inner.LinesRead.{shown_fragment, Tallied, head_at, line_with}

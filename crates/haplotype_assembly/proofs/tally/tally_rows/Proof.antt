@@ -64,8 +64,8 @@ loop_again c =
     let i = (head (turn u)).loop-p.invariant in
     let more = (turn u).loop-p-test.true in
     ⊎_elim
-    (λ x. rw (x.2 ∙ x.1.ensures) (tallying_on i more _ (shown_on (st (turn u)).args.rows.now _ _ u.unpack-row.ensures _ _ more _ c.before.phased_rule.ensures x.0.true) (low u)))
-    (λ x. rw x.1 (tallying_skip i more (shown_skip (st (turn u)).args.rows.now _ _ u.unpack-row.ensures _ _ more _ c.before.phased_rule.ensures x.0.left)))
+    (λ x. rw (x.t-is ∙ x.tally_call-t.ensures) (tallying_on i more _ (shown_on (st (turn u)).args.rows.now _ _ u.unpack-row.ensures _ _ more _ c.before.phased_rule.ensures x.if-phased_rule.true) (low u)))
+    (λ x. rw x.t-is (tallying_skip i more (shown_skip (st (turn u)).args.rows.now _ _ u.unpack-row.ensures _ _ more _ c.before.phased_rule.ensures x.if-phased_rule.false)))
     c.if-phased_rule.branch-raw
 
 returns : tie.Need-returns invariant_loop decreases_loop

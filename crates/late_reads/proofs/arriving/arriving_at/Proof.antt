@@ -11,40 +11,40 @@ use borrow.Author.Rules.{rules}
 use Rattle.late_reads.proofs.arriving.arriving_at.Statement.{statement}
 use Rattle.late_reads.proofs.arriving.arriving_at.Tie as tie
 
-mul_at : tie.Need-overflow-mul-at
+mul_at : tie.Need-overflow_mul-at
 mul_at c = search rules
 
-mul_t4 : tie.Need-overflow-mul-t4
+mul_t4 : tie.Need-offset_bounds-calls-at
 mul_t4 c = search rules
 
-shared_slice_copy_out_t6 : tie.Need-shared-slice-copy-out-t6
+shared_slice_copy_out_t6 : tie.Need-bounds-calls-at
 shared_slice_copy_out_t6 c = search rules
 
-add_t7 : tie.Need-overflow-add-t7
+add_t7 : tie.Need-overflow_add-result
 add_t7 c = search rules
 
-mul_t8 : tie.Need-overflow-mul-t8
+mul_t8 : tie.Need-offset_bounds-calls-at-2
 mul_t8 c = search rules
 
-shared_slice_copy_out_t10 : tie.Need-shared-slice-copy-out-t10
+shared_slice_copy_out_t10 : tie.Need-bounds-calls-at-2
 shared_slice_copy_out_t10 c = search rules
 
-add_t11 : tie.Need-overflow-add-t11
+add_t11 : tie.Need-overflow_add-result-2
 add_t11 c = search rules
 
-mul_t12 : tie.Need-overflow-mul-t12
+mul_t12 : tie.Need-offset_bounds-calls-at-3
 mul_t12 c = search rules
 
-shared_slice_copy_out_t14 : tie.Need-shared-slice-copy-out-t14
+shared_slice_copy_out_t14 : tie.Need-bounds-calls-at-3
 shared_slice_copy_out_t14 c = search rules
 
-add_t15 : tie.Need-overflow-add-t15
+add_t15 : tie.Need-overflow_add-result-3
 add_t15 c = search rules
 
-mul_t16 : tie.Need-overflow-mul-t16
+mul_t16 : tie.Need-offset_bounds-calls-at-4
 mul_t16 c = search rules
 
-shared_slice_copy_out_t18 : tie.Need-shared-slice-copy-out-t18
+shared_slice_copy_out_t18 : tie.Need-bounds-calls-at-4
 shared_slice_copy_out_t18 c = search rules
 
 returns : tie.Need-returns

@@ -63,35 +63,35 @@ abbrev rises_line : tie.Start → Outcome Sizes
 rises_line st = each 5 (arriving_rises (Calls st)) 0 (M st) (strand_line st)
 
 -- ---- the start, from each place that is come to
-abbrev st1 : tie.Else1 → tie.Start
+abbrev st1 : tie.Else-bad-m → tie.Start
 st1 c = c.before.before
 
-abbrev st2 : tie.Else2 → tie.Start
+abbrev st2 : tie.Else-flat-m → tie.Start
 st2 c = st1 c.before.before
 
-abbrev e2 : tie.After-nat-of → tie.Else2
+abbrev e2 : tie.After-nat_of → tie.Else-flat-m
 e2 c = c.before.before
 
-abbrev st3 : tie.After-nat-of → tie.Start
+abbrev st3 : tie.After-nat_of → tie.Start
 st3 c = st2 (e2 c)
 
-abbrev named : tie.Else4 → tie.After-nat-of
+abbrev named : tie.Else-s-f → tie.After-nat_of
 named c = c.before.before.before
 
-abbrev st5 : tie.After-is-present → tie.Start
+abbrev st5 : tie.After-is_present → tie.Start
 st5 c = st3 (named c.before)
 
 -- ---- past each test
-after_calls : (c : tie.Else1) → rises_line (st1 c) ≡ tests (st1 c)
+after_calls : (c : tie.Else-bad-m) → rises_line (st1 c) ≡ tests (st1 c)
 unfolding arriving_tests first_fail
-after_calls c = each_on 4 _ 0 _ _ (omega (arith, c.before.first-bad-arriving.ensures, c.if1.false))
+after_calls c = each_on 4 _ 0 _ _ (omega (arith, c.before.first_bad_arriving-bad.ensures, c.if-bad-m.false))
 
-after_rises : (c : tie.Else2) → strand_line (st2 c) ≡ tests (st2 c)
+after_rises : (c : tie.Else-flat-m) → strand_line (st2 c) ≡ tests (st2 c)
 unfolding first_fail
-after_rises c = each_on 5 _ 0 _ _ (omega (arith, c.before.first-not-rising.ensures, c.if2.false)) ∙ after_calls c.before.before
+after_rises c = each_on 5 _ 0 _ _ (omega (arith, c.before.first_not_rising-flat.ensures, c.if-flat-m.false)) ∙ after_calls c.before.before
 
-strand_read : (c : tie.After-nat-of) → c.nat-of.result ≡ nat_of (Strand (st3 c))
-strand_read c = let f : SFits w32 (Strand (st3 c)) = search rules in rw (to_z-of_z f) at c.nat-of.ensures
+strand_read : (c : tie.After-nat_of) → c.nat_of.result ≡ nat_of (Strand (st3 c))
+strand_read c = let f : SFits w32 (Strand (st3 c)) = search rules in rw (to_z-of_z f) at c.nat_of.ensures
 
 -- the test of the length and the strand
 abbrev whole : tie.Start → Bool
@@ -100,78 +100,78 @@ whole st = eqb (length (Calls st)) (arriving_words * M st) && within (pos 0) (po
 strand_test : (st : tie.Start) → whole st ≡ not (not (eqb (length (Calls st)) (arriving_words * M st)) || ltb max_strand (nat_of (Strand st)))
 strand_test st = length_and_strand (length (Calls st)) (arriving_words * M st) (Strand st)
 
-after_strand : (c : tie.Else3) → absent_line (st3 c.before) ≡ tests (st3 c.before)
+after_strand : (c : tie.Else-calls-m) → absent_line (st3 c.before) ≡ tests (st3 c.before)
 after_strand c =
-    let h = rw (strand_read c.before) at c.if3.false in
+    let h = rw (strand_read c.before) at c.if-calls-m.false in
     unless_on (whole (st3 c.before)) 5 _ _ (strand_test (st3 c.before) ∙ ap not h) ∙ after_rises (e2 c.before)
 
-after_absent : (c : tie.Else5) → room_line (st5 c.before) ≡ tests (st5 c.before)
+after_absent : (c : tie.Else-is_present) → room_line (st5 c.before) ≡ tests (st5 c.before)
 after_absent c =
     let p = c.before in
-    let absent : present_at (W (st5 p)) (S (st5 p)) (F (st5 p)) ≡ false = sym p.is-present.ensures ∙ c.if5.false in
-    unless_on _ 13 _ _ (rw (lt-ltb (F (st5 p)) (S (st5 p)).f p.before.if4.false, absent)) ∙ after_strand p.before.before.before
+    let absent : present_at (W (st5 p)) (S (st5 p)) (F (st5 p)) ≡ false = sym p.is_present.ensures ∙ c.if-is_present.false in
+    unless_on _ 13 _ _ (rw (lt-ltb (F (st5 p)) (S (st5 p)).f p.before.if-s-f.false, absent)) ∙ after_strand p.before.before.before
 
 -- ---- the obligations
-first_bad_arriving_requires : tie.Need-first-bad-arriving-requires
+first_bad_arriving_requires : tie.Need-first_bad_arriving-bad-requires
 first_bad_arriving_requires c κs = search rules
 
-returns : tie.Need-returns
+returns : tie.Need-returns-then-bad-m
 unfolding outcome_of arriving_tests first_fail
 returns c =
-    let p = c.before.first-bad-arriving.ensures in
-    ap (refused 4) p ∙ each_at 4 _ 0 _ (rises_line c.before.before) (omega (arith, p, c.if1.true))
+    let p = c.before.first_bad_arriving-bad.ensures in
+    ap (refused 4) p ∙ each_at 4 _ 0 _ (rises_line c.before.before) (omega (arith, p, c.if-bad-m.true))
 
-first_not_rising_requires : tie.Need-first-not-rising-requires
+first_not_rising_requires : tie.Need-first_not_rising-flat-requires
 first_not_rising_requires c κs = search rules
 
-returns_2 : tie.Need-returns-2
+returns_2 : tie.Need-returns-then-flat-m
 unfolding outcome_of first_fail
 returns_2 c =
-    let p = c.before.first-not-rising.ensures in
-    ap (refused 5) p ∙ each_at 5 _ 0 _ _ (omega (arith, p, c.if2.true)) ∙ after_calls c.before.before
+    let p = c.before.first_not_rising-flat.ensures in
+    ap (refused 5) p ∙ each_at 5 _ 0 _ _ (omega (arith, p, c.if-flat-m.true)) ∙ after_calls c.before.before
 
-mul_if3 : tie.Need-overflow-mul-if3
+mul_if3 : tie.Need-overflow_mul-m
 mul_if3 c = search rules
 
-nat_of_requires : tie.Need-nat-of-requires
+nat_of_requires : tie.Need-nat_of-requires
 nat_of_requires c κs = search rules
 
-returns_3 : tie.Need-returns-3
+returns_3 : tie.Need-returns-then-calls-m
 unfolding outcome_of
 returns_3 c =
-    let h = rw (strand_read c.before) at c.if3.true in
+    let h = rw (strand_read c.before) at c.if-calls-m.true in
     unless_at (whole (st3 c.before)) 5 _ _ (strand_test (st3 c.before) ∙ ap not h) ∙ after_rises (e2 c.before)
 
-returns_4 : tie.Need-returns-4
+returns_4 : tie.Need-returns-then-s-f
 unfolding outcome_of
 returns_4 c =
     let st = st3 c.before.before.before in
-    unless_at _ 13 _ _ (rw (le-ltb (F st) (S st).f c.if4.true)) ∙ after_strand c.before.before
+    unless_at _ 13 _ _ (rw (le-ltb (F st) (S st).f c.if-s-f.true)) ∙ after_strand c.before.before
 
-is_present_requires : tie.Need-is-present-requires
+is_present_requires : tie.Need-is_present-requires
 is_present_requires c κs = search rules
 
-returns_5 : tie.Need-returns-5
+returns_5 : tie.Need-returns-then-is_present
 unfolding outcome_of
 returns_5 c =
     let p = c.before in
     let st = st5 p in
-    unless_at _ 13 _ _ (rw (lt-ltb (F st) (S st).f p.before.if4.false, sym p.is-present.ensures ∙ c.if5.true)) ∙ after_strand p.before.before.before
+    unless_at _ 13 _ _ (rw (lt-ltb (F st) (S st).f p.before.if-s-f.false, sym p.is_present.ensures ∙ c.if-is_present.true)) ∙ after_strand p.before.before.before
 
-has_room_requires : tie.Need-has-room-requires
+has_room_requires : tie.Need-has_room-requires
 has_room_requires c κs = search rules
 
-returns_6 : tie.Need-returns-6
+returns_6 : tie.Need-returns-then-not-has_room
 unfolding outcome_of
 returns_6 c =
     let h = c.before in
-    unless_at _ 14 _ _ (sym h.has_room.ensures ∙ c.if6.true) ∙ after_absent h.before
+    unless_at _ 14 _ _ (sym h.has_room.ensures ∙ c.if-not-has_room.true) ∙ after_absent h.before
 
-returns_7 : tie.Need-returns-7
+returns_7 : tie.Need-returns
 unfolding outcome_of
 returns_7 c =
     let h = c.before in
-    unless_on _ 14 _ _ (sym h.has_room.ensures ∙ c.if6.false) ∙ after_absent h.before
+    unless_on _ 14 _ _ (sym h.has_room.ensures ∙ c.if-not-has_room.false) ∙ after_absent h.before
 
 pub arriving_fault_spec : {M : Type 1} → statement M
 arriving_fault_spec =

@@ -9,34 +9,34 @@ use Rattle.late_reads.specs.Arriving.{arriving_call, arriving_rises}
 use Rattle.late_reads.proofs.arriving.arriving_rises.Statement.{statement}
 use Rattle.late_reads.proofs.arriving.arriving_rises.Tie as tie
 
-returns : tie.Need-returns
+returns : tie.Need-returns-then-i-eq0
 unfolding arriving_rises
-returns c = rw (eq-eqb _ _ c.if1.true)
+returns c = rw (eq-eqb _ _ c.if-i-eq0.true)
 
-sub_arriving_at : tie.Need-overflow-sub-arriving-at
+sub_arriving_at : tie.Need-overflow_sub-i
 sub_arriving_at c = search rules
 
-arriving_at_requires : tie.Need-arriving-at-requires
+arriving_at_requires : tie.Need-arriving_at-before-requires
 arriving_at_requires c κs = search rules
 
-arriving_at_requires_2 : tie.Need-arriving-at-requires-2
+arriving_at_requires_2 : tie.Need-arriving_at-here-requires
 arriving_at_requires_2 c κs = search rules
 
-nat_of_requires : tie.Need-nat-of-requires
+nat_of_requires : tie.Need-nat_of-requires
 nat_of_requires c κs = search rules
 
-nat_of_requires_2 : tie.Need-nat-of-requires-2
+nat_of_requires_2 : tie.Need-nat_of-requires-2
 nat_of_requires_2 c κs = search rules
 
-returns_2 : tie.Need-returns-2
+returns_2 : tie.Need-returns
 unfolding arriving_rises arriving_call
 returns_2 c =
     let b = c.before.before.before.before in
-    let one = b.before.arriving-at in
-    let two = b.arriving-at2 in
+    let one = b.before.arriving_at-before in
+    let two = b.arriving_at-here in
     let f : SFits w32 one.result.variant = search rules in
     let g : SFits w32 two.result.variant = search rules in
-    rw (ne_eqb _ _ b.before.before.if1.false, c.before.before.nat-of.ensures, c.nat-of2.ensures, to_z-of_z f, to_z-of_z g, one.ensures, two.ensures)
+    rw (ne_eqb _ _ b.before.before.if-i-eq0.false, c.before.before.nat_of.ensures, c.nat_of-2.ensures, to_z-of_z f, to_z-of_z g, one.ensures, two.ensures)
 
 pub arriving_rises_spec : {M : Type 1} → statement M
 arriving_rises_spec =

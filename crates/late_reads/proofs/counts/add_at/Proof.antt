@@ -8,7 +8,7 @@ use Rattle.late_reads.proofs.counts.add_at.Statement.{statement}
 use Rattle.late_reads.proofs.counts.add_at.Tie as tie
 use Rattle.late_reads.proofs.Places.{sum_fits, sum_read}
 
-add_counts : tie.Need-overflow-add-counts
+add_counts : tie.Need-overflow_add-counts
 add_counts c = sum_fits c.before.requires
 
 returns : tie.Need-returns

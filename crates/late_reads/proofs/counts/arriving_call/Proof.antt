@@ -22,18 +22,18 @@ returns c =
     let read = strand.before.before in
     let st = read.before in
     let calls = st.args.calls.now in
-    let got = read.arriving-at.result in
-    let is = read.arriving-at.ensures in
-    let f : SFits w32 st.args.arrival.strand = search (rules, strand.before.struct_told.given) in
-    let v : SFits w32 got.variant = search (rules, variant.before.struct-told2.given) in
-    let a : SFits w32 got.allele = search (rules, allele.before.struct-told3.given) in
-    let q : SFits w32 got.qual = search (rules, c.before.struct-told4.given) in
+    let got = read.arriving_at-call.result in
+    let is = read.arriving_at-call.ensures in
+    let f : SFits w32 st.args.arrival.strand = search (rules, strand.before.struct_told-1.given) in
+    let v : SFits w32 got.variant = search (rules, variant.before.struct_told-2-1.given) in
+    let a : SFits w32 got.allele = search (rules, allele.before.struct_told-3-1.given) in
+    let q : SFits w32 got.qual = search (rules, c.before.struct_told-4-1.given) in
     counted_is _ (arriving_read st.args.arrival.strand calls) (arriving_call calls st.args.i) c.usable.ensures
-    (to_z-of_z (sfits_of {w = w32} cutoff.cutoff-of.type_inv) ∙ cutoff.cutoff-of.ensures)
-    (strand.nat-of.ensures ∙ ap nat_of (to_z-of_z f))
+    (to_z-of_z (sfits_of {w = w32} cutoff.cutoff_of.type_inv) ∙ cutoff.cutoff_of.ensures)
+    (strand.nat_of-strand.ensures ∙ ap nat_of (to_z-of_z f))
     (to_z-of_z q ∙ ap (λ (x : CallWords). x.qual) is)
-    (variant.nat-of2.ensures ∙ ap nat_of (to_z-of_z v ∙ ap (λ (x : CallWords). x.variant) is))
-    (allele.nat-of3.ensures ∙ ap nat_of (to_z-of_z a ∙ ap (λ (x : CallWords). x.allele) is))
+    (variant.nat_of.ensures ∙ ap nat_of (to_z-of_z v ∙ ap (λ (x : CallWords). x.variant) is))
+    (allele.nat_of-2.ensures ∙ ap nat_of (to_z-of_z a ∙ ap (λ (x : CallWords). x.allele) is))
 
 pub arriving_call_spec : {M : Type 1} → statement M
 arriving_call_spec =

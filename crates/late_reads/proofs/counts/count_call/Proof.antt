@@ -7,30 +7,30 @@ use Rattle.late_reads.proofs.counts.count_call.Statement.{statement}
 use Rattle.late_reads.proofs.counts.count_call.Tie as tie
 use Rattle.late_reads.proofs.Places.{at_allele, at_strand_next, at_ambiguous}
 
-add_at_requires : tie.Need-add-at-requires
+add_at_requires : tie.Need-add_at-requires
 add_at_requires c κs = let st = c.before.before.before.before in rw (to_z-of_z st.ranges.d) (at_allele st.requires)
 
-add_at_requires_2 : tie.Need-add-at-requires-2
+add_at_requires_2 : tie.Need-add_at-requires-then-call
 add_at_requires_2 c κs =
     let one = c.before.before.before.before in
     let st = one.before.before.before.before.before in
-    rw (c.before.direction-of.ensures, one.add_at.ensures, to_z-of_z st.ranges.d) (at_strand_next st.requires st.args.strand)
+    rw (c.before.direction_of.ensures, one.add_at.ensures, to_z-of_z st.ranges.d) (at_strand_next st.requires st.args.strand)
 
-add_at_requires_3 : tie.Need-add-at-requires-3
+add_at_requires_3 : tie.Need-add_at-requires-else-call
 add_at_requires_3 c κs = let st = c.before.before.before in rw (to_z-of_z st.ranges.d) (at_ambiguous st.requires)
 
-returns : tie.Need-returns
+returns : tie.Need-returns-then-call
 unfolding count_call
 returns c =
     let two = c.before in
     let side = two.before.before in
     let one = side.before.before.before in
     let st = one.before.before.before.before.before in
-    rw (two.add-at2.ensures, side.direction-of.ensures, one.add_at.ensures, to_z-of_z st.ranges.d, one.before.before.before.if1.true)
+    rw (two.add_at-then-call.ensures, side.direction_of.ensures, one.add_at.ensures, to_z-of_z st.ranges.d, one.before.before.before.if-call.true)
 
-returns_2 : tie.Need-returns-2
+returns_2 : tie.Need-returns-else-call
 unfolding count_call
-returns_2 c = let st = c.before.before.before.before.before in rw (c.before.add-at3.ensures, to_z-of_z st.ranges.d, c.before.before.before.if1.false)
+returns_2 c = let st = c.before.before.before.before.before in rw (c.before.add_at-else-call.ensures, to_z-of_z st.ranges.d, c.before.before.before.if-call.false)
 
 pub count_call_spec : {M : Type 1} → statement M
 count_call_spec =

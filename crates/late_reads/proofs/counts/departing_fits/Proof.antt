@@ -20,75 +20,75 @@ use Rattle.late_reads.proofs.CountRuns.{Fitting, departing_fit_start, fit_end, f
 use Rattle.late_reads.proofs.Places.{same_fits}
 use Rattle.late_reads.proofs.ReadCalls.{chain_left, chain_left_lem, chain_over, chain_out, chain_rises, ChainTurn, chain_turn}
 
-abbrev invariant_loop : tie.invariant_loop
+abbrev invariant_loop : tie.invariant-loop-k
 invariant_loop words s f counts c cutoff strand r₀ k₀ r k =
     let x = fragment_from words s f in
     Onward words s r k × Fitting (negsuc 0) (cutoff_at words) x s.n counts (chain_left words s k r) (counts_fit s.n (counts_departed (cutoff_at words) s.n x counts))
 
-abbrev decreases_loop : tie.decreases_loop
+abbrev decreases_loop : tie.decreases-loop-k
 decreases_loop words s f counts c cutoff strand r₀ k₀ r k = s.c - k
 
 -- the loop's head where a call was read, the entry, and the read
-abbrev lp : tie.After-chain-call invariant_loop decreases_loop → tie.At-loop invariant_loop decreases_loop
+abbrev lp : tie.After-chain_call invariant_loop decreases_loop → tie.At-loop-k invariant_loop decreases_loop
 lp c = c.before.before.before.before.before.before
 
-abbrev st : tie.At-loop invariant_loop decreases_loop → tie.Start invariant_loop decreases_loop
+abbrev st : tie.At-loop-k invariant_loop decreases_loop → tie.Start invariant_loop decreases_loop
 st l = l.before.before.before.before
 
-abbrev read : tie.At-loop invariant_loop decreases_loop → Fragment
+abbrev read : tie.At-loop-k invariant_loop decreases_loop → Fragment
 read l = fragment_from (st l).args.words.now (st l).args.s (st l).args.f
 
-strand_is : (l : tie.At-loop invariant_loop decreases_loop) → l.before.before.strand-of.result ≡ (read l).strand
+strand_is : (l : tie.At-loop-k invariant_loop decreases_loop) → l.before.before.strand_of-strand.result ≡ (read l).strand
 unfolding fragment_from
-strand_is l = l.before.before.strand-of.ensures
+strand_is l = l.before.before.strand_of-strand.ensures
 
 -- the turn, once its call is as the counts see it
-turn : (c : tie.After-chain-call invariant_loop decreases_loop) → let l = lp c in let a = (st l).args in
-    ChainTurn a.words.now a.s a.f l.loop.k l.loop.r c.before.before.before.before.read-call.result.next c.chain-call.result
+turn : (c : tie.After-chain_call invariant_loop decreases_loop) → let l = lp c in let a = (st l).args in
+    ChainTurn a.words.now a.s a.f l.loop-k.k l.loop-k.r c.before.before.before.before.read_call-step.result.next c.chain_call.result
 turn c =
     let l = lp c in
-    let got = c.before.before.before.before.read-call in
-    let cutoff = l.before.before.before.cutoff-of in
-    chain_turn (st l).args.f got.result l.loop.invariant.0 c.before.before.before.before.before.loop-test.true got.ensures
-    c.before.before.read.given.1 c.chain-call.ensures (to_z-of_z (sfits_of {w = w32} cutoff.ok) ∙ cutoff.ensures) (strand_is l)
+    let got = c.before.before.before.before.read_call-step in
+    let cutoff = l.before.before.before.cutoff_of-cutoff in
+    chain_turn (st l).args.f got.result l.loop-k.invariant.0 c.before.before.before.before.before.loop-k-test.true got.ensures
+    c.before.before.read-1.given.1 c.chain_call.ensures (to_z-of_z (sfits_of {w = w32} cutoff.ok) ∙ cutoff.ensures) (strand_is l)
 
-tested : (c : tie.After-call-fits invariant_loop decreases_loop) → let l = lp c.before in let a = (st l).args in let w = a.words.now in
-    c.call-fits.result ≡ call_fits (negsuc 0) (read l).strand (counted_call (cutoff_at w) (read l) (call_from w a.s l.loop.r)) a.counts.now
-tested c = c.call-fits.ensures ∙ same_fits (negsuc 0) (strand_is (lp c.before)) (turn c.before).counted_is _
+tested : (c : tie.After-call_fits invariant_loop decreases_loop) → let l = lp c.before in let a = (st l).args in let w = a.words.now in
+    c.call_fits.result ≡ call_fits (negsuc 0) (read l).strand (counted_call (cutoff_at w) (read l) (call_from w a.s l.loop-k.r)) a.counts.now
+tested c = c.call_fits.ensures ∙ same_fits (negsuc 0) (strand_is (lp c.before)) (turn c.before).counted_is _
 
-loop_holds : tie.Need-loop-init invariant_loop decreases_loop
+loop_holds : tie.Need-loop-k-init invariant_loop decreases_loop
 loop_holds c =
     let s = c.before.before.before in
     let p = s.requires in
     let a = s.args in
     let w = a.words.now in
-    let e = c.first-call.ensures in (
+    let e = c.first_call-r.ensures in (
       onward_start w a.s a.f _ e (p.0.frags _ p.1.0),
       rw e (departing_fit_start _ _ (chain_rises p.0 a.f p.1.0) (chain_left_lem w a.s a.f) a.counts.now p.1.1.0 p.1.1.1),
     )
 
-returns : tie.Need-returns invariant_loop decreases_loop
-returns c = let l = c.before.before.before.before in fit_end l.loop.invariant.1 (chain_over _ _ l.loop.k l.loop.r (ended _ _ _ _ c.before.before.read-call.ensures c.enum_told.given.1))
+returns : tie.Need-returns-in-End invariant_loop decreases_loop
+returns c = let l = c.before.before.before.before in fit_end l.loop-k.invariant.1 (chain_over _ _ l.loop-k.k l.loop-k.r (ended _ _ _ _ c.before.before.read_call-step.ensures c.enum_told-1.given.1))
 
-call_fits_requires : tie.Need-call-fits-requires invariant_loop decreases_loop
+call_fits_requires : tie.Need-call_fits-requires invariant_loop decreases_loop
 call_fits_requires c κs =
     let l = lp c in
-    rw (turn c).counted_is (fit_countable l.loop.invariant.1 (turn c).left_is (omega arith) (st l).pre.0.sized.n_top)
+    rw (turn c).counted_is (fit_countable l.loop-k.invariant.1 (turn c).left_is (omega arith) (st l).requires.0.sized.n_top)
 
-returns_2 : tie.Need-returns-2 invariant_loop decreases_loop
+returns_2 : tie.Need-returns-then-not-call_fits invariant_loop decreases_loop
 returns_2 c =
     let t = c.before in
     let l = lp t.before in
-    fit_stop l.loop.invariant.1 (turn t.before).left_is (sym (tested t) ∙ c.if1.true)
+    fit_stop l.loop-k.invariant.1 (turn t.before).left_is (sym (tested t) ∙ c.if-not-call_fits.true)
 
-loop_again : tie.Need-loop-preserved invariant_loop decreases_loop
+loop_again : tie.Need-loop-k-preserved invariant_loop decreases_loop
 loop_again c =
     let t = c.before in
     let l = lp t.before in
-    ((turn t.before).on, fit_on l.loop.invariant.1 (turn t.before).left_is (sym (tested t) ∙ c.if1.false))
+    ((turn t.before).on, fit_on l.loop-k.invariant.1 (turn t.before).left_is (sym (tested t) ∙ c.if-not-call_fits.false))
 
-returns_3 : tie.Need-returns-3 invariant_loop decreases_loop
-returns_3 c = let l = c.before in fit_end l.loop.invariant.1 (chain_out _ _ l.loop.k l.loop.r c.loop-test.false)
+returns_3 : tie.Need-returns invariant_loop decreases_loop
+returns_3 c = let l = c.before in fit_end l.loop-k.invariant.1 (chain_out _ _ l.loop-k.k l.loop-k.r c.loop-k-test.false)
 
 pub departing_fits_spec : {M : Type 1} → statement M
 departing_fits_spec =

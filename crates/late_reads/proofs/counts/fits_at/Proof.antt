@@ -9,11 +9,11 @@ use Rattle.late_reads.proofs.counts.fits_at.Statement.{statement}
 use Rattle.late_reads.proofs.counts.fits_at.Tie as tie
 use Rattle.late_reads.proofs.Places.{sum_fits, sum_read}
 
-add_count_ok : tie.Need-overflow-add-count-ok
+add_count_ok : tie.Need-overflow_add-counts
 add_count_ok c = sum_fits c.before.requires
 
 returns : tie.Need-returns
-returns c = c.count-ok.ensures ∙ ap (within (pos 0) (pos max_count)) (sum_read c.before.before.requires)
+returns c = c.count_ok.ensures ∙ ap (within (pos 0) (pos max_count)) (sum_read c.before.before.requires)
 
 pub fits_at_spec : {M : Type 1} → statement M
 fits_at_spec =

@@ -41,111 +41,111 @@ abbrev phase_line : LateInput → Sizes → Outcome Sizes
 phase_line input s = unless (eqb (length input.phase) s.n) 7 s.n (long_line input s)
 
 -- ---- the start and the sizes, from each place that is come to
-abbrev from : tie.After-checked2 → LateInput
+abbrev from : tie.In-Accepted-2 → LateInput
 from c = lent c.before.before.before.before.before.before
 
-abbrev sizes : tie.After-checked2 → Sizes
-sizes c = c.checked2.given.0.0
+abbrev sizes : tie.In-Accepted-2 → Sizes
+sizes c = c.checked-in-Accepted-1.given.0.0
 
-abbrev case1 : tie.Else1 → tie.After-checked2
+abbrev case1 : tie.Else-phase-n → tie.In-Accepted-2
 case1 c = c.before.before
 
-abbrev phase2 : tie.After-earlier2 → tie.Else1
+abbrev phase2 : tie.After-earlier-short → tie.Else-phase-n
 phase2 c = c.before.before.before.before.before.before
 
-abbrev case2 : tie.After-earlier2 → tie.After-checked2
+abbrev case2 : tie.After-earlier-short → tie.In-Accepted-2
 case2 c = case1 (phase2 c)
 
 -- ---- past each test
-checked : (c : tie.After-checked2) → outcome_of (Accepted (sizes c)) ≡ check_case_and_haplotypes_outcome (from c).words (from c).bases (from c).haplotypes
-checked c = ap outcome_of (sym c.checked2.given.1) ∙ c.before.before.check-case-and-haplotypes.ensures
+checked : (c : tie.In-Accepted-2) → outcome_of (Accepted (sizes c)) ≡ check_case_and_haplotypes_outcome (from c).words (from c).bases (from c).haplotypes
+checked c = ap outcome_of (sym c.checked-in-Accepted-1.given.1) ∙ c.before.before.check_case_and_haplotypes-checked.ensures
 
-inside : (c : tie.After-checked2) → CaseIn (from c).words (sizes c)
+inside : (c : tie.In-Accepted-2) → CaseIn (from c).words (sizes c)
 inside c = checked_in _ _ _ _ (check_done _ _ (checked c))
 
-after_case : (c : tie.After-checked2) → phase_line (from c) (sizes c) ≡ kept_outcome (from c)
+after_case : (c : tie.In-Accepted-2) → phase_line (from c) (sizes c) ≡ kept_outcome (from c)
 unfolding kept_outcome
 after_case c = check_past _ _ _ (checked c)
 
-after_phase : (c : tie.Else1) → long_line (from (case1 c)) (sizes (case1 c)) ≡ kept_outcome (from (case1 c))
-after_phase c = unless_on _ 7 _ _ (eq-eqb _ _ c.if1.false) ∙ after_case (case1 c)
+after_phase : (c : tie.Else-phase-n) → long_line (from (case1 c)) (sizes (case1 c)) ≡ kept_outcome (from (case1 c))
+after_phase c = unless_on _ 7 _ _ (eq-eqb _ _ c.if-phase-n.false) ∙ after_case (case1 c)
 
-smallest : (c : tie.After-earlier2) → c.earlier2.result ≡ smallest_short (slices (from (case2 c)) (sizes (case2 c)))
+smallest : (c : tie.After-earlier-short) → c.earlier-short.result ≡ smallest_short (slices (from (case2 c)) (sizes (case2 c)))
 smallest c =
     let third = c.before.before in
     let second = third.before in
     let first = second.before.before in
-    c.earlier2.ensures
-    ∙ short_more _ _ _ _ _ first.short-of.ensures (c.before.earlier.ensures ∙ short_more _ _ _ _ _ second.short-of2.ensures (short_last _ _ _ third.short-of3.ensures))
+    c.earlier-short.ensures
+    ∙ short_more _ _ _ _ _ first.short_of-h.ensures (c.before.earlier.ensures ∙ short_more _ _ _ _ _ second.short_of-l.ensures (short_last _ _ _ third.short_of-c.ensures))
 
-none_short : (c : tie.Else2) → smallest_short (slices (from (case2 c.before)) (sizes (case2 c.before))) ≡ 0
-none_short c = sym (smallest c.before) ∙ c.if2.false
+none_short : (c : tie.Else-short-ne0) → smallest_short (slices (from (case2 c.before)) (sizes (case2 c.before))) ≡ 0
+none_short c = sym (smallest c.before) ∙ c.if-short-ne0.false
 
-after_long : (c : tie.Else2) → range_line (from (case2 c.before)) (sizes (case2 c.before)) ≡ kept_outcome (from (case2 c.before))
+after_long : (c : tie.Else-short-ne0) → range_line (from (case2 c.before)) (sizes (case2 c.before)) ≡ kept_outcome (from (case2 c.before))
 after_long c = enough_on (slices (from (case2 c.before)) (sizes (case2 c.before))) _ (none_short c) ∙ after_phase (phase2 c.before)
 
 -- ---- the obligations
-check_case_and_haplotypes_requires : tie.Need-check-case-and-haplotypes-requires
+check_case_and_haplotypes_requires : tie.Need-check_case_and_haplotypes-checked-requires
 check_case_and_haplotypes_requires c κs = search rules
 
-enum_known_checked : tie.Need-enum-known-checked
+enum_known_checked : tie.Need-enum_known-checked
 enum_known_checked c = search rules
 
-enum_known_checked_2 : tie.Need-enum-known-checked-2
+enum_known_checked_2 : tie.Need-enum_known-checked-in-Accepted-1
 enum_known_checked_2 c = search rules
 
-returns : tie.Need-returns
+returns : tie.Need-returns-then-phase-n
 unfolding outcome_of
-returns c = unless_at _ 7 _ _ (ne_eqb _ _ c.if1.true) ∙ after_case c.before.before
+returns c = unless_at _ 7 _ _ (ne_eqb _ _ c.if-phase-n.true) ∙ after_case c.before.before
 
-mul_short_of : tie.Need-overflow-mul-short-of
+mul_short_of : tie.Need-overflow_mul-n
 mul_short_of c = omega (arith, (inside (case1 c)).sized.n_top)
 
-short_of_requires : tie.Need-short-of-requires
+short_of_requires : tie.Need-short_of-h-requires
 short_of_requires c κs = search rules
 
-mul_short_of_2 : tie.Need-overflow-mul-short-of-2
+mul_short_of_2 : tie.Need-overflow_mul-s
 mul_short_of_2 c = omega (arith, (inside (case1 c.before.before)).sized.f_top)
 
-short_of_requires_2 : tie.Need-short-of-requires-2
+short_of_requires_2 : tie.Need-short_of-l-requires
 short_of_requires_2 c κs = search rules
 
-mul_short_of_3 : tie.Need-overflow-mul-short-of-3
+mul_short_of_3 : tie.Need-overflow_mul-n-in-Accepted
 mul_short_of_3 c = omega (arith, (inside (case1 c.before.before.before)).sized.n_top)
 
-short_of_requires_3 : tie.Need-short-of-requires-3
+short_of_requires_3 : tie.Need-short_of-c-requires
 short_of_requires_3 c κs = search rules
 
 earlier_requires : tie.Need-earlier-requires
 earlier_requires c κs = search rules
 
-earlier_requires_2 : tie.Need-earlier-requires-2
+earlier_requires_2 : tie.Need-earlier-short-requires
 earlier_requires_2 c κs = search rules
 
-returns_2 : tie.Need-returns-2
+returns_2 : tie.Need-returns-then-short-ne0
 unfolding outcome_of
 returns_2 c =
     let e = c.before in
-    ap (refused 10) (smallest e) ∙ enough_at (slices (from (case2 e)) (sizes (case2 e))) _ (λ z. c.if2.true (smallest e ∙ z)) ∙ after_phase (phase2 e)
+    ap (refused 10) (smallest e) ∙ enough_at (slices (from (case2 e)) (sizes (case2 e))) _ (λ z. c.if-short-ne0.true (smallest e ∙ z)) ∙ after_phase (phase2 e)
 
-in_range_requires : tie.Need-in-range-requires
+in_range_requires : tie.Need-in_range-requires
 in_range_requires c κs =
     let size = (inside (case2 c.before)).sized in
     let h = short_fits _ _ _ (none_short c) in
     let l = short_fits _ _ _ h.1 in
     (size.n_top, size.f_top, l.0, (short_fits _ _ _ l.1).0)
 
-returns_3 : tie.Need-returns-3
+returns_3 : tie.Need-returns-then-not-in_range
 unfolding outcome_of
-returns_3 c = unless_at _ 10 0 _ (sym c.before.in_range.ensures ∙ c.if3.true) ∙ after_long c.before.before
+returns_3 c = unless_at _ 10 0 _ (sym c.before.in_range.ensures ∙ c.if-not-in_range.true) ∙ after_long c.before.before
 
-returns_4 : tie.Need-returns-4
+returns_4 : tie.Need-returns-in-Refused
 unfolding outcome_of kept_outcome
-returns_4 c = check_stops _ _ c.before.checked.given.0.0 (ap outcome_of (sym c.before.checked.given.1) ∙ c.before.before.before.check-case-and-haplotypes.ensures)
+returns_4 c = check_stops _ _ c.before.checked-1.given.0.0 (ap outcome_of (sym c.before.checked-1.given.1) ∙ c.before.before.before.check_case_and_haplotypes-checked.ensures)
 
-returns_5 : tie.Need-returns-5
+returns_5 : tie.Need-returns-else-not-in_range
 unfolding outcome_of
-returns_5 c = unless_on _ 10 0 _ (sym c.before.in_range.ensures ∙ c.if3.false) ∙ after_long c.before.before
+returns_5 c = unless_on _ 10 0 _ (sym c.before.in_range.ensures ∙ c.if-not-in_range.false) ∙ after_long c.before.before
 
 pub check_kept_spec : {M : Type 1} → statement M
 check_kept_spec =

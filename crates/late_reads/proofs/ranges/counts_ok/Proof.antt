@@ -18,49 +18,49 @@ use Rattle.variants_and_fragments.proofs.First.{one_fails, none_fails}
 use Rattle.late_reads.proofs.ranges.counts_ok.Statement.{statement}
 use Rattle.late_reads.proofs.ranges.counts_ok.Tie as tie
 
-abbrev invariant_loop : tie.invariant_loop
+abbrev invariant_loop : tie.invariant-loop-e
 invariant_loop counts n e₀ e = (e ≤ n) × ((j : ℕ) → j < e → within (pos 0) (pos max_count) (get_or counts j (pos 0)) ≡ true)
 
-abbrev decreases_loop : tie.decreases_loop
+abbrev decreases_loop : tie.decreases-loop-e
 decreases_loop counts n e₀ e = n - e
 
-abbrev lp : tie.After-count-ok invariant_loop decreases_loop → tie.At-loop invariant_loop decreases_loop
+abbrev lp : tie.After-count_ok invariant_loop decreases_loop → tie.At-loop-e invariant_loop decreases_loop
 lp c = c.before.before.before
 
 -- what the call says of the count at e
-tested : (c : tie.After-count-ok invariant_loop decreases_loop) → c.count-ok.result ≡ within (pos 0) (pos max_count) (get_or (lp c).before.args.counts.now (lp c).loop.e (pos 0))
+tested : (c : tie.After-count_ok invariant_loop decreases_loop) → c.count_ok.result ≡ within (pos 0) (pos max_count) (get_or (lp c).before.args.counts.now (lp c).loop-e.e (pos 0))
 tested c =
-    let f : SFits w32 (get_or (lp c).before.args.counts.now (lp c).loop.e (pos 0)) = search rules in
-    rw (to_z-of_z f) at c.count-ok.ensures
+    let f : SFits w32 (get_or (lp c).before.args.counts.now (lp c).loop-e.e (pos 0)) = search rules in
+    rw (to_z-of_z f) at c.count_ok.ensures
 
-loop_holds : tie.Need-loop-init invariant_loop decreases_loop
+loop_holds : tie.Need-loop-e-init invariant_loop decreases_loop
 loop_holds c = (omega arith, below_none _)
 
-mul_count_ok : tie.Need-overflow-mul-count-ok invariant_loop decreases_loop
+mul_count_ok : tie.Need-offset_bounds-counts-e invariant_loop decreases_loop
 mul_count_ok c = search rules
 
-shared_slice_copy_out_count_ok : tie.Need-shared-slice-copy-out-count-ok invariant_loop decreases_loop
+shared_slice_copy_out_count_ok : tie.Need-bounds-counts-e invariant_loop decreases_loop
 shared_slice_copy_out_count_ok c = search rules
 
-count_ok_requires : tie.Need-count-ok-requires invariant_loop decreases_loop
+count_ok_requires : tie.Need-count_ok-requires invariant_loop decreases_loop
 count_ok_requires c κs = search rules
 
-returns : tie.Need-returns invariant_loop decreases_loop
+returns : tie.Need-returns-then-not-count_ok invariant_loop decreases_loop
 returns c =
     let l = lp c.before in
-    one_fails _ _ _ l.loop.invariant.1 c.before.before.before.loop-test.true (sym (tested c.before) ∙ c.if1.true)
+    one_fails _ _ _ l.loop-e.invariant.1 c.before.before.before.loop-e-test.true (sym (tested c.before) ∙ c.if-not-count_ok.true)
 
-add_e : tie.Need-overflow-add-e invariant_loop decreases_loop
+add_e : tie.Need-overflow_add-e invariant_loop decreases_loop
 add_e c = omega arith
 
-loop_less : tie.Need-loop-smaller invariant_loop decreases_loop
+loop_less : tie.Need-loop-e-smaller invariant_loop decreases_loop
 loop_less c = omega arith
 
-loop_again : tie.Need-loop-preserved invariant_loop decreases_loop
-loop_again c = (omega arith, below_more _ _ (lp c.before).loop.invariant.1 (sym (tested c.before) ∙ c.if1.false))
+loop_again : tie.Need-loop-e-preserved invariant_loop decreases_loop
+loop_again c = (omega arith, below_more _ _ (lp c.before).loop-e.invariant.1 (sym (tested c.before) ∙ c.if-not-count_ok.false))
 
-returns_2 : tie.Need-returns-2 invariant_loop decreases_loop
-returns_2 c = none_fails _ _ _ c.before.loop.invariant.1 (omega arith)
+returns_2 : tie.Need-returns invariant_loop decreases_loop
+returns_2 c = none_fails _ _ _ c.before.loop-e.invariant.1 (omega arith)
 
 pub counts_ok_spec : {M : Type 1} → statement M
 counts_ok_spec =

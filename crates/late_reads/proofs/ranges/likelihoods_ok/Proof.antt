@@ -18,49 +18,49 @@ use Rattle.variants_and_fragments.proofs.First.{one_fails, none_fails}
 use Rattle.late_reads.proofs.ranges.likelihoods_ok.Statement.{statement}
 use Rattle.late_reads.proofs.ranges.likelihoods_ok.Tie as tie
 
-abbrev invariant_loop : tie.invariant_loop
+abbrev invariant_loop : tie.invariant-loop-e
 invariant_loop likelihoods n e₀ e = (e ≤ n) × ((j : ℕ) → j < e → within lowest_total (pos 0) (get_or likelihoods j (pos 0)) ≡ true)
 
-abbrev decreases_loop : tie.decreases_loop
+abbrev decreases_loop : tie.decreases-loop-e
 decreases_loop likelihoods n e₀ e = n - e
 
-abbrev lp : tie.After-total-ok invariant_loop decreases_loop → tie.At-loop invariant_loop decreases_loop
+abbrev lp : tie.After-total_ok invariant_loop decreases_loop → tie.At-loop-e invariant_loop decreases_loop
 lp c = c.before.before.before
 
 -- what the call says of the likelihood at e
-tested : (c : tie.After-total-ok invariant_loop decreases_loop) → c.total-ok.result ≡ within lowest_total (pos 0) (get_or (lp c).before.args.likelihoods.now (lp c).loop.e (pos 0))
+tested : (c : tie.After-total_ok invariant_loop decreases_loop) → c.total_ok.result ≡ within lowest_total (pos 0) (get_or (lp c).before.args.likelihoods.now (lp c).loop-e.e (pos 0))
 tested c =
-    let f : SFits w64 (get_or (lp c).before.args.likelihoods.now (lp c).loop.e (pos 0)) = search rules in
-    rw (to_z-of_z f) at c.total-ok.ensures
+    let f : SFits w64 (get_or (lp c).before.args.likelihoods.now (lp c).loop-e.e (pos 0)) = search rules in
+    rw (to_z-of_z f) at c.total_ok.ensures
 
-loop_holds : tie.Need-loop-init invariant_loop decreases_loop
+loop_holds : tie.Need-loop-e-init invariant_loop decreases_loop
 loop_holds c = (omega arith, below_none _)
 
-mul_t5 : tie.Need-overflow-mul-t5 invariant_loop decreases_loop
+mul_t5 : tie.Need-offset_bounds-likelihoods-e invariant_loop decreases_loop
 mul_t5 c = search rules
 
-shared_slice_copy_out_t7 : tie.Need-shared-slice-copy-out-t7 invariant_loop decreases_loop
+shared_slice_copy_out_t7 : tie.Need-bounds-likelihoods-e invariant_loop decreases_loop
 shared_slice_copy_out_t7 c = search rules
 
-total_ok_requires : tie.Need-total-ok-requires invariant_loop decreases_loop
+total_ok_requires : tie.Need-total_ok-requires invariant_loop decreases_loop
 total_ok_requires c κs = search rules
 
-returns : tie.Need-returns invariant_loop decreases_loop
+returns : tie.Need-returns-then-not-total_ok invariant_loop decreases_loop
 returns c =
     let l = lp c.before in
-    one_fails _ _ _ l.loop.invariant.1 c.before.before.before.loop-test.true (sym (tested c.before) ∙ c.if1.true)
+    one_fails _ _ _ l.loop-e.invariant.1 c.before.before.before.loop-e-test.true (sym (tested c.before) ∙ c.if-not-total_ok.true)
 
-add_e : tie.Need-overflow-add-e invariant_loop decreases_loop
+add_e : tie.Need-overflow_add-e invariant_loop decreases_loop
 add_e c = omega arith
 
-loop_less : tie.Need-loop-smaller invariant_loop decreases_loop
+loop_less : tie.Need-loop-e-smaller invariant_loop decreases_loop
 loop_less c = omega arith
 
-loop_again : tie.Need-loop-preserved invariant_loop decreases_loop
-loop_again c = (omega arith, below_more _ _ (lp c.before).loop.invariant.1 (sym (tested c.before) ∙ c.if1.false))
+loop_again : tie.Need-loop-e-preserved invariant_loop decreases_loop
+loop_again c = (omega arith, below_more _ _ (lp c.before).loop-e.invariant.1 (sym (tested c.before) ∙ c.if-not-total_ok.false))
 
-returns_2 : tie.Need-returns-2 invariant_loop decreases_loop
-returns_2 c = none_fails _ _ _ c.before.loop.invariant.1 (omega arith)
+returns_2 : tie.Need-returns invariant_loop decreases_loop
+returns_2 c = none_fails _ _ _ c.before.loop-e.invariant.1 (omega arith)
 
 pub likelihoods_ok_spec : {M : Type 1} → statement M
 likelihoods_ok_spec =

@@ -16,12 +16,12 @@ use Rattle.late_reads.proofs.reads.arriving_likelihoods.Tie as tie
 abbrev top : ℕ → ℕ
 top i = 262144 * i
 
-abbrev invariant_loop : tie.invariant_loop
+abbrev invariant_loop : tie.invariant-loop-i
 invariant_loop words s phase haplotypes arrival calls m first₀ second₀ i₀ first second i =
     Running (arriving_share arrival.strand calls (fixed_at words phase haplotypes) 0) top m first.0 i
     × Running (arriving_share arrival.strand calls (fixed_at words phase haplotypes) 1) top m second.0 i
 
-abbrev decreases_loop : tie.decreases_loop
+abbrev decreases_loop : tie.decreases-loop-i
 decreases_loop words s phase haplotypes arrival calls m first₀ second₀ i₀ first second i = m - i
 
 -- what each call adds on haplotype h
@@ -37,78 +37,78 @@ count s = whole_calls s.args.calls.now
 few : (s : tie.Start invariant_loop decreases_loop) → count s ≤ 16384
 few s = arriving_few s.requires.1 s.requires.0.case_in
 
-loop_holds : tie.Need-loop-init invariant_loop decreases_loop
+loop_holds : tie.Need-loop-i-init invariant_loop decreases_loop
 loop_holds c = let s = c.before.before in (running_start (shares s 0) top (count s), running_start (shares s 1) top (count s))
 
 -- where the function starts
-abbrev start : tie.In-loop invariant_loop decreases_loop → tie.Start invariant_loop decreases_loop
+abbrev start : tie.In-loop-i invariant_loop decreases_loop → tie.Start invariant_loop decreases_loop
 start c = c.before.before.before.before
 
-arriving_share_requires : tie.Need-arriving-share-requires invariant_loop decreases_loop
-arriving_share_requires c κs = let s = start c in (s.pre.0, (s.pre.1, (c.loop-test.true, omega arith)))
+arriving_share_requires : tie.Need-arriving_share-requires invariant_loop decreases_loop
+arriving_share_requires c κs = let s = start c in (s.requires.0, (s.requires.1, (c.loop-i-test.true, omega arith)))
 
 -- what is added, and how far from 0 it is
-added : (c : tie.After-arriving-share invariant_loop decreases_loop) → c.arriving-share.result.0 ≡ shares (start c.before) 0 c.before.before.loop.i
-added c = c.arriving-share.ensures.0
+added : (c : tie.After-arriving_share invariant_loop decreases_loop) → c.arriving_share.result.0 ≡ shares (start c.before) 0 c.before.before.loop-i.i
+added c = c.arriving_share.ensures.0
 
-small : (c : tie.After-arriving-share invariant_loop decreases_loop) → nat_abs (shares (start c.before) 0 c.before.before.loop.i) ≤ 262144
-small c = omega (arith, ap nat_abs (added c), c.arriving-share.ensures.1)
+small : (c : tie.After-arriving_share invariant_loop decreases_loop) → nat_abs (shares (start c.before) 0 c.before.before.loop-i.i) ≤ 262144
+small c = omega (arith, ap nat_abs (added c), c.arriving_share.ensures.1)
 
-abbrev first_added : tie.After-struct-told2 invariant_loop decreases_loop → tie.After-arriving-share invariant_loop decreases_loop
+abbrev first_added : tie.After-struct_told-in-loop-i-1 invariant_loop decreases_loop → tie.After-arriving_share invariant_loop decreases_loop
 first_added c = c.before.before.before.before
 
-below : (c : tie.In-loop invariant_loop decreases_loop) → c.before.loop.i < 16384
-below c = omega (arith, c.loop-test.true, few (start c))
+below : (c : tie.In-loop-i invariant_loop decreases_loop) → c.before.loop-i.i < 16384
+below c = omega (arith, c.loop-i-test.true, few (start c))
 
-add_first : tie.Need-overflow-add-first invariant_loop decreases_loop
+add_first : tie.Need-overflow_add-first invariant_loop decreases_loop
 add_first c =
     let d = first_added c in
     let l = d.before.before in
-    added_fits l.loop.first.0 d.arriving-share.result.0 _ (added d) (omega (arith, l.loop.invariant.0.small, small d, below d.before))
+    added_fits l.loop-i.first.0 d.arriving_share.result.0 _ (added d) (omega (arith, l.loop-i.invariant.0.small, small d, below d.before))
 
-arriving_share_requires_2 : tie.Need-arriving-share-requires-2 invariant_loop decreases_loop
+arriving_share_requires_2 : tie.Need-arriving_share-requires-in-loop-i invariant_loop decreases_loop
 arriving_share_requires_2 c κs =
     let i = (first_added c).before in
-    let s = start i in (s.pre.0, (s.pre.1, (i.loop-test.taken, omega arith)))
+    let s = start i in (s.requires.0, (s.requires.1, (i.loop-i-test.true, omega arith)))
 
 -- this turn of the loop
-abbrev turn : tie.After-arriving-share2 invariant_loop decreases_loop → tie.In-loop invariant_loop decreases_loop
+abbrev turn : tie.After-arriving_share-in-loop-i invariant_loop decreases_loop → tie.In-loop-i invariant_loop decreases_loop
 turn c = (first_added c.before).before
 
-added_2 : (c : tie.After-arriving-share2 invariant_loop decreases_loop) → c.arriving-share2.result.0 ≡ shares (start (turn c)) 1 (turn c).before.loop.i
-added_2 c = c.arriving-share2.ensures.0
+added_2 : (c : tie.After-arriving_share-in-loop-i invariant_loop decreases_loop) → c.arriving_share-in-loop-i.result.0 ≡ shares (start (turn c)) 1 (turn c).before.loop-i.i
+added_2 c = c.arriving_share-in-loop-i.ensures.0
 
-small_2 : (c : tie.After-arriving-share2 invariant_loop decreases_loop) → nat_abs (shares (start (turn c)) 1 (turn c).before.loop.i) ≤ 262144
-small_2 c = omega (arith, ap nat_abs (added_2 c), c.arriving-share2.ensures.1)
+small_2 : (c : tie.After-arriving_share-in-loop-i invariant_loop decreases_loop) → nat_abs (shares (start (turn c)) 1 (turn c).before.loop-i.i) ≤ 262144
+small_2 c = omega (arith, ap nat_abs (added_2 c), c.arriving_share-in-loop-i.ensures.1)
 
-abbrev second_added : tie.After-struct-told4 invariant_loop decreases_loop → tie.After-arriving-share2 invariant_loop decreases_loop
+abbrev second_added : tie.After-struct_told-in-loop-i-3-1 invariant_loop decreases_loop → tie.After-arriving_share-in-loop-i invariant_loop decreases_loop
 second_added c = c.before.before.before.before
 
-add_second : tie.Need-overflow-add-second invariant_loop decreases_loop
+add_second : tie.Need-overflow_add-second invariant_loop decreases_loop
 add_second c =
     let d = second_added c in
     let l = (turn d).before in
-    added_fits l.loop.second.0 d.arriving-share2.result.0 _ (added_2 d) (omega (arith, l.loop.invariant.1.small, small_2 d, below (turn d)))
+    added_fits l.loop-i.second.0 d.arriving_share-in-loop-i.result.0 _ (added_2 d) (omega (arith, l.loop-i.invariant.1.small, small_2 d, below (turn d)))
 
-add_i : tie.Need-overflow-add-i invariant_loop decreases_loop
+add_i : tie.Need-overflow_add-i invariant_loop decreases_loop
 add_i c = omega (arith, below (turn (second_added c)))
 
-loop_less : tie.Need-loop-smaller invariant_loop decreases_loop
-loop_less c = omega (arith, (turn (second_added c)).loop-test.taken)
+loop_less : tie.Need-loop-i-smaller invariant_loop decreases_loop
+loop_less c = omega (arith, (turn (second_added c)).loop-i-test.true)
 
-loop_again : tie.Need-loop-preserved invariant_loop decreases_loop
+loop_again : tie.Need-loop-i-preserved invariant_loop decreases_loop
 loop_again c =
     let e = second_added c in
     let d = first_added e.before in
     let t = d.before in
     let l = t.before in
     let s = start t in
-    let i = l.loop.i in (
-      running_more (shares s 0) top (count s) l.loop.first.0 _ i l.loop.invariant.0 t.loop-test.taken
-          (added_read l.loop.first.0 d.arriving-share.result.0 _ (added d) (omega (arith, l.loop.invariant.0.small, small d, below t)))
+    let i = l.loop-i.i in (
+      running_more (shares s 0) top (count s) l.loop-i.first.0 _ i l.loop-i.invariant.0 t.loop-i-test.true
+          (added_read l.loop-i.first.0 d.arriving_share.result.0 _ (added d) (omega (arith, l.loop-i.invariant.0.small, small d, below t)))
           (omega (arith, small d)),
-      running_more (shares s 1) top (count s) l.loop.second.0 _ i l.loop.invariant.1 t.loop-test.taken
-          (added_read l.loop.second.0 e.arriving-share2.result.0 _ (added_2 e) (omega (arith, l.loop.invariant.1.small, small_2 e, below t)))
+      running_more (shares s 1) top (count s) l.loop-i.second.0 _ i l.loop-i.invariant.1 t.loop-i-test.true
+          (added_read l.loop-i.second.0 e.arriving_share-in-loop-i.result.0 _ (added_2 e) (omega (arith, l.loop-i.invariant.1.small, small_2 e, below t)))
           (omega (arith, small_2 e)),
     )
 
@@ -116,8 +116,8 @@ returns : tie.Need-returns invariant_loop decreases_loop
 returns c =
     let l = c.before in
     let s = l.before.before.before in
-    let x = running_end (shares s 0) top (count s) l.loop.first.0 l.loop.i l.loop.invariant.0 c.loop-test.false in
-    let y = running_end (shares s 1) top (count s) l.loop.second.0 l.loop.i l.loop.invariant.1 c.loop-test.false in
+    let x = running_end (shares s 0) top (count s) l.loop-i.first.0 l.loop-i.i l.loop-i.invariant.0 c.loop-i-test.false in
+    let y = running_end (shares s 1) top (count s) l.loop-i.second.0 l.loop-i.i l.loop-i.invariant.1 c.loop-i-test.false in
     let read = arriving_sum s.args.arrival.strand s.args.calls.now (fixed s) in (
       (x.0 ∙ sym (read 0), omega (arith, x.1, few s)),
       (y.0 ∙ sym (read 1), omega (arith, y.1, few s)),

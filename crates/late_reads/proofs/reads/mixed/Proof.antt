@@ -23,13 +23,13 @@ less_small z h = omega (arith, minus_abs z (pos 4096))
 less_read : (z : ℤ) → nat_abs z ≤ 2 ^ 40 → to_z w64 (of_z w64 (to_z w64 (of_z w64 z) -ℤ pos 4096)) ≡ less z
 less_read z h = minus_read w64 z (pos 4096) (omega arith)
 
-sub_t4 : tie.Need-overflow-sub-t4
+sub_t4 : tie.Need-overflow_sub-first
 sub_t4 c = let s = c.before.before in minus_fits w64 s.args.first.0 (pos 4096) (omega (arith, s.requires.1))
 
-sub_t6 : tie.Need-overflow-sub-t6
+sub_t6 : tie.Need-overflow_sub-second
 sub_t6 c = let s = c.before.before.before.before in minus_fits w64 s.args.second.0 (pos 4096) (omega (arith, s.requires.2))
 
-ln_add_exp_requires : tie.Need-ln-add-exp-requires
+ln_add_exp_requires : tie.Need-ln_add_exp-requires
 ln_add_exp_requires c κs =
     let s = c.before.before.before.before in
     let a = less_small s.args.first.0 s.requires.1 in
@@ -47,7 +47,7 @@ returns c =
     let y = s.args.second.0 in
     let a = less_small x s.requires.1 in
     let b = less_small y s.requires.2 in
-    let e : c.ln-add-exp.result.0 ≡ mix_of x y = add_is (less x) (less y) c.ln-add-exp.result.0 (omega arith) (omega arith) (rw (less_read x s.requires.1, less_read y s.requires.2) at c.ln-add-exp.ensures) in
+    let e : c.ln_add_exp.result.0 ≡ mix_of x y = add_is (less x) (less y) c.ln_add_exp.result.0 (omega arith) (omega arith) (rw (less_read x s.requires.1, less_read y s.requires.2) at c.ln_add_exp.ensures) in
     (e, rw e (omega (arith, mix_small x y (2 ^ 40) s.requires.1 s.requires.2)))
 
 pub mixed_spec : {M : Type 1} → statement M

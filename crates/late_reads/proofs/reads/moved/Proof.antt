@@ -3,10 +3,10 @@ use Rattle.late_reads.proofs.Moved.{product_fits, moved_fits, moved_read}
 use Rattle.late_reads.proofs.reads.moved.Statement.{statement}
 use Rattle.late_reads.proofs.reads.moved.Tie as tie
 
-mul_t4 : tie.Need-overflow-mul-t4
+mul_t4 : tie.Need-overflow_mul-result
 mul_t4 c = let st = c.before.before in product_fits st.args.total.0 st.args.share.0 st.args.d st.requires.0 st.requires.1 st.requires.2
 
-add_t5 : tie.Need-overflow-add-t5
+add_t5 : tie.Need-overflow_add-result
 add_t5 c = let st = c.before.before.before.before in moved_fits st.args.total.0 st.args.share.0 st.args.d st.requires.0 st.requires.1 st.requires.2
 
 returns : tie.Need-returns

@@ -6,16 +6,16 @@ use Rattle.late_reads.specs.Inner.Room.{front_of}
 use Rattle.late_reads.proofs.words.front_of.Statement.{statement}
 use Rattle.late_reads.proofs.words.front_of.Tie as tie
 
-add_result : tie.Need-overflow-add-result
+add_result : tie.Need-overflow_add-result
 add_result c = search rules
 
-returns : tie.Need-returns
+returns : tie.Need-returns-then-left-eq0
 unfolding front_of
-returns c = rw (eq-eqb _ _ c.before.if1.true)
+returns c = rw (eq-eqb _ _ c.before.if-left-eq0.true)
 
-returns_2 : tie.Need-returns-2
+returns_2 : tie.Need-returns
 unfolding front_of
-returns_2 c = rw (ne_eqb _ _ c.if1.false)
+returns_2 c = rw (ne_eqb _ _ c.if-left-eq0.false)
 
 pub front_of_spec : {M : Type 1} → statement M
 front_of_spec = tie.close (tie.spec add_result returns returns_2)

@@ -22,35 +22,35 @@ use Rattle.late_reads.proofs.words.lay_arrival.Statement.{statement}
 use Rattle.late_reads.proofs.words.lay_arrival.Tie as tie
 
 -- ---- the words, the sizes and the number of calls
-abbrev w : tie.Joined1 → List ℤ
+abbrev w : tie.Joined-m-eq0 → List ℤ
 w c = c.before.args.words.now
 
-abbrev s : tie.Joined1 → Sizes
+abbrev s : tie.Joined-m-eq0 → Sizes
 s c = c.before.args.s
 
-abbrev m : tie.Joined1 → ℕ
+abbrev m : tie.Joined-m-eq0 → ℕ
 m c = whole_calls c.before.args.calls.now
 
 -- the first call: the first record that is taken, or 0 for none
-first_is : (c : tie.Joined1) → c.if1.first ≡ get_or (taken (w c) (s c) (m c)) 0 0
-first_is c = elim c.if1.branch [
-  | inl e ↦ e.1 ∙ sym (taken_past (w c) (s c) (m c) 0 (omega (arith, e.0.taken)))
+first_is : (c : tie.Joined-m-eq0) → c.if-m-eq0.first ≡ get_or (taken (w c) (s c) (m c)) 0 0
+first_is c = elim c.if-m-eq0.branch-raw [
+  | inl e ↦ e.1 ∙ sym (taken_past (w c) (s c) (m c) 0 (omega (arith, e.0.true)))
   | inr e ↦ e.2 ∙ e.1.ensures ∙ ap front_of (left_start c.before.requires.0) ∙ taken_front c.before.requires.0 (m c) c.before.requires.1.fits 0 (omega (arith, e.0.left))
 ]
 
-first_top : (c : tie.Joined1) → c.if1.first ≤ 16384
+first_top : (c : tie.Joined-m-eq0) → c.if-m-eq0.first ≤ 16384
 first_top c = omega (arith, first_is c, taken_top c.before.requires.0 (m c) c.before.requires.1.fits 0, c.before.requires.0.sized.c_top)
 
 -- what is left
-used_is : (c : tie.After-lay-calls) → let j = c.before.before in c.lay-calls.result.used ≡ (s j).used + (m j - length (free_chain (w j) (s j)))
+used_is : (c : tie.After-lay_calls-left) → let j = c.before.before in c.lay_calls-left.result.used ≡ (s j).used + (m j - length (free_chain (w j) (s j)))
 unfolding left_at
-used_is c = ap (λ (x : RoomLeft). x.used) c.lay-calls.ensures.1
+used_is c = ap (λ (x : RoomLeft). x.used) c.lay_calls-left.ensures.1
 
-free_is : (c : tie.After-lay-calls) → let j = c.before.before in c.lay-calls.result.free ≡ get_or (free_chain (w j) (s j)) (m j) 0
+free_is : (c : tie.After-lay_calls-left) → let j = c.before.before in c.lay_calls-left.result.free ≡ get_or (free_chain (w j) (s j)) (m j) 0
 unfolding left_at
-free_is c = ap (λ (x : RoomLeft). x.free) c.lay-calls.ensures.1
+free_is c = ap (λ (x : RoomLeft). x.free) c.lay_calls-left.ensures.1
 
-left_top : (c : tie.After-lay-calls) → (c.lay-calls.result.used ≤ 16384) × (c.lay-calls.result.free ≤ 16384)
+left_top : (c : tie.After-lay_calls-left) → (c.lay_calls-left.result.used ≤ 16384) × (c.lay_calls-left.result.free ≤ 16384)
 unfolding left_at
 left_top c =
     let j = c.before.before in
@@ -59,32 +59,32 @@ left_top c =
     (omega (arith, used_is c, b.0, z.c_top), omega (arith, free_is c, b.1, z.used_top, z.c_top))
 
 -- ---- the obligations
-front_of_requires : tie.Need-front-of-requires
+front_of_requires : tie.Need-front_of-first-requires
 front_of_requires c κs = search rules
 
-lay_calls_requires : tie.Need-lay-calls-requires
+lay_calls_requires : tie.Need-lay_calls-left-requires
 lay_calls_requires c κs = search rules
 
-cast_put_first : tie.Need-overflow-cast-put-first
+cast_put_first : tie.Need-overflow_cast-first
 cast_put_first c = record { sfits = omega (arith, first_top c.before.before.before.before) }
 
-put_first_requires : tie.Need-put-first-requires
+put_first_requires : tie.Need-put_first-requires
 put_first_requires c κs = search rules
 
-put_strand_requires : tie.Need-put-strand-requires
+put_strand_requires : tie.Need-put_strand-requires
 put_strand_requires c κs = search rules
 
-put_used_requires : tie.Need-put-used-requires
+put_used_requires : tie.Need-put_used-requires
 put_used_requires c κs =
     let l = c.before.before.before.before.before.before.before.before.before in
     (search rules, (left_top l).0)
 
-put_free_requires : tie.Need-put-free-requires
+put_free_requires : tie.Need-put_free-requires
 put_free_requires c κs =
     let l = c.before.before.before.before.before.before.before.before.before.before.before.before in
     (search rules, (left_top l).1)
 
-same_length : tie.Need-same-length
+same_length : tie.Need-shape_of-words
 same_length c = search rules
 
 returns : tie.Need-returns
@@ -96,9 +96,9 @@ returns c =
     let first = strand.before.before.before.before in
     let laid = first.before.before.before in
     let j = laid.before.before in
-    let z : SFits w32 j.before.args.arrival.strand = search strand.before.struct_told.given in
-    free.put-free.ensures
-    ∙ rw (used.put-used.ensures, strand.put-strand.ensures, first.put_first.ensures, laid.lay-calls.ensures.0, to_z-of_z z, to_z_pos w32 {n = j.if1.first} (omega (arith, first_top j)), first_is j, used_is laid, free_is laid)
+    let z : SFits w32 j.before.args.arrival.strand = search strand.before.struct_told-1.given in
+    free.put_free.ensures
+    ∙ rw (used.put_used.ensures, strand.put_strand.ensures, first.put_first.ensures, laid.lay_calls-left.ensures.0, to_z-of_z z, to_z_pos w32 {n = j.if-m-eq0.first} (omega (arith, first_top j)), first_is j, used_is laid, free_is laid)
 
 pub lay_arrival_spec : {M : Type 1} → statement M
 lay_arrival_spec =

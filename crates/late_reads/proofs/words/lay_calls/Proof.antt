@@ -21,14 +21,14 @@ use Rattle.late_reads.proofs.WordsAfter.{laid_length, sized_laid, laid_more}
 use Rattle.late_reads.proofs.words.lay_calls.Statement.{statement}
 use Rattle.late_reads.proofs.words.lay_calls.Tie as tie
 
-abbrev invariant_loop : tie.invariant_loop
+abbrev invariant_loop : tie.invariant-loop-i
 invariant_loop words₀ s calls m left₀ i₀ words left i = (i ≤ m) × (left ≡ left_at words₀ s i) × (words ≡ calls_laid words₀ s calls (taken words₀ s m) i)
 
-abbrev decreases_loop : tie.decreases_loop
+abbrev decreases_loop : tie.decreases-loop-i
 decreases_loop words₀ s calls m left₀ i₀ words left i = m - i
 
 -- ---- at the loop's head
-module _ (l : tie.At-loop invariant_loop decreases_loop) where
+module _ (l : tie.At-loop-i invariant_loop decreases_loop) where
   abbrev st : tie.Start invariant_loop decreases_loop
   st = l.before
 
@@ -39,39 +39,39 @@ module _ (l : tie.At-loop invariant_loop decreases_loop) where
   abbrev rs : List ℕ
   rs = taken st.args.words.now st.args.s m
 
-  sized : Sized l.loop.words st.args.s
-  sized = subst (λ (x : List ℤ). Sized x st.args.s) (sym l.loop.invariant.2) (sized_laid st.args.words.now st.args.s st.args.calls.now rs l.loop.i st.pre.0.sized)
+  sized : Sized l.loop-i.words st.args.s
+  sized = subst (λ (x : List ℤ). Sized x st.args.s) (sym l.loop-i.invariant.2) (sized_laid st.args.words.now st.args.s st.args.calls.now rs l.loop-i.i st.requires.0.sized)
 
-  left_top : (l.loop.false.used ≤ 16384) × (l.loop.false.free ≤ st.args.s.c)
+  left_top : (l.loop-i.false.used ≤ 16384) × (l.loop-i.false.free ≤ st.args.s.c)
   left_top =
-      let b = left_in st.pre.0 l.loop.i (omega (arith, l.loop.invariant.0, st.pre.1.fits)) in
-      let z = st.pre.0.sized in
-      let used = ap (λ (x : RoomLeft). x.used) l.loop.invariant.1 in
-      let free = ap (λ (x : RoomLeft). x.free) l.loop.invariant.1 in
+      let b = left_in st.requires.0 l.loop-i.i (omega (arith, l.loop-i.invariant.0, st.requires.1.fits)) in
+      let z = st.requires.0.sized in
+      let used = ap (λ (x : RoomLeft). x.used) l.loop-i.invariant.1 in
+      let free = ap (λ (x : RoomLeft). x.free) l.loop-i.invariant.1 in
       (omega (arith, b.0, z.c_top), omega (arith, b.1, z.used_top))
 
 -- ---- the record that is taken, what is left then, and the record after it
-front_is : (c : tie.After-front-of invariant_loop decreases_loop) → let l = c.before.before in c.front_of.result ≡ get_or (rs l) l.loop.i 0
+front_is : (c : tie.After-front_of-r invariant_loop decreases_loop) → let l = c.before.before in c.front_of-r.result ≡ get_or (rs l) l.loop-i.i 0
 front_is c =
     let l = c.before.before in
-    c.front_of.ensures ∙ ap front_of l.loop.invariant.1 ∙ taken_front (st l).requires.0 (m l) (st l).requires.1.fits l.loop.i c.before.loop-test.true
+    c.front_of-r.ensures ∙ ap front_of l.loop-i.invariant.1 ∙ taken_front (st l).requires.0 (m l) (st l).requires.1.fits l.loop-i.i c.before.loop-i-test.true
 
-rest_is : (c : tie.After-rest-of invariant_loop decreases_loop) → let l = c.before.before.before.before in c.rest_of.result ≡ left_at (st l).args.words.now (st l).args.s (suc l.loop.i)
+rest_is : (c : tie.After-rest_of-left invariant_loop decreases_loop) → let l = c.before.before.before.before in c.rest_of-left.result ≡ left_at (st l).args.words.now (st l).args.s (suc l.loop-i.i)
 rest_is c =
     let l = c.before.before.before.before in
     let s = (st l).args.s in
-    c.rest_of.ensures
-    ∙ ap (rest_of l.loop.words s) l.loop.invariant.1
-    ∙ ap (λ (x : List ℤ). rest_of x s (left_at (st l).args.words.now s l.loop.i)) l.loop.invariant.2
-    ∙ taken_rest (st l).requires.0 (m l) (st l).requires.1.fits l.loop.i c.before.before.before.loop-test.true (st l).args.calls.now
+    c.rest_of-left.ensures
+    ∙ ap (rest_of l.loop-i.words s) l.loop-i.invariant.1
+    ∙ ap (λ (x : List ℤ). rest_of x s (left_at (st l).args.words.now s l.loop-i.i)) l.loop-i.invariant.2
+    ∙ taken_rest (st l).requires.0 (m l) (st l).requires.1.fits l.loop-i.i c.before.before.before.loop-i-test.true (st l).args.calls.now
 
-next_is : (c : tie.Joined1 invariant_loop decreases_loop) → let l = c.before.before.before.before.before in c.if1.next ≡ get_or (rs l) (suc l.loop.i) 0
+next_is : (c : tie.Joined-i-m invariant_loop decreases_loop) → let l = c.before.before.before.before.before in c.if-i-m.next ≡ get_or (rs l) (suc l.loop-i.i) 0
 next_is c =
     let l = c.before.before.before.before.before in
-    let more = c.before.before.before.before.loop-test.true in
-    elim c.if1.branch [
-      | inl e ↦ e.1 ∙ sym (taken_past (st l).args.words.now (st l).args.s (m l) (suc l.loop.i) (omega (arith, e.0.taken)))
-      | inr e ↦ e.2 ∙ e.1.ensures ∙ ap front_of (rest_is c.before) ∙ taken_front (st l).requires.0 (m l) (st l).requires.1.fits (suc l.loop.i) (omega (arith, e.0.left, more))
+    let more = c.before.before.before.before.loop-i-test.true in
+    elim c.if-i-m.branch-raw [
+      | inl e ↦ e.1 ∙ sym (taken_past (st l).args.words.now (st l).args.s (m l) (suc l.loop-i.i) (omega (arith, e.0.true)))
+      | inr e ↦ e.2 ∙ e.1.ensures ∙ ap front_of (rest_is c.before) ∙ taken_front (st l).requires.0 (m l) (st l).requires.1.fits (suc l.loop-i.i) (omega (arith, e.0.left, more))
     ]
 
 -- ---- the same call put in the same record
@@ -79,69 +79,69 @@ same_put : (s : Sizes) {w w' : List ℤ} {r r' : ℕ} {call call' : CallWords} {
 same_put s a b c d = rw (a, b, c, d)
 
 -- ---- the obligations
-loop_holds : tie.Need-loop-init invariant_loop decreases_loop
+loop_holds : tie.Need-loop-i-init invariant_loop decreases_loop
 unfolding calls_laid
 loop_holds c = (omega arith, left_start c.requires.0, refl)
 
-front_of_requires : tie.Need-front-of-requires invariant_loop decreases_loop
+front_of_requires : tie.Need-front_of-r-requires invariant_loop decreases_loop
 front_of_requires c κs = (left_top c.before).0
 
-rest_of_requires : tie.Need-rest-of-requires invariant_loop decreases_loop
+rest_of_requires : tie.Need-rest_of-left-requires invariant_loop decreases_loop
 rest_of_requires c κs = let l = c.before.before.before in (sized l, left_top l)
 
-add_if1 : tie.Need-overflow-add-if1 invariant_loop decreases_loop
+add_if1 : tie.Need-overflow_add-i invariant_loop decreases_loop
 add_if1 c = omega arith
 
-front_of_requires_2 : tie.Need-front-of-requires-2 invariant_loop decreases_loop
+front_of_requires_2 : tie.Need-front_of-next-requires invariant_loop decreases_loop
 front_of_requires_2 c κs =
     let l = c.before.before.before.before.before in
-    let b = left_in (st l).requires.0 (suc l.loop.i) (omega (arith, c.before.before.before.before.loop-test.true, (st l).requires.1.fits)) in
+    let b = left_in (st l).requires.0 (suc l.loop-i.i) (omega (arith, c.before.before.before.before.loop-i-test.true, (st l).requires.1.fits)) in
     omega (arith, b.0, (st l).requires.0.sized.c_top, ap (λ (x : RoomLeft). x.used) (rest_is c.before))
 
-arriving_at_requires : tie.Need-arriving-at-requires invariant_loop decreases_loop
+arriving_at_requires : tie.Need-arriving_at-requires invariant_loop decreases_loop
 arriving_at_requires c κs = omega arith
 
-put_call_requires : tie.Need-put-call-requires invariant_loop decreases_loop
+put_call_requires : tie.Need-put_call-requires invariant_loop decreases_loop
 put_call_requires c κs =
     let j = c.before.before in
     let front = j.before.before.before in
     let l = front.before.before in
     let k = (st l).requires.0 in
     let n = taken_length (st l).args.words.now (st l).args.s (m l) (st l).requires.1.fits in
-    let b = taken_in k (m l) (st l).requires.1.fits l.loop.i (omega (arith, n, front.before.loop-test.true)) in
+    let b = taken_in k (m l) (st l).requires.1.fits l.loop-i.i (omega (arith, n, front.before.loop-i-test.true)) in
     let e = front_is front in
-    let top = taken_top k (m l) (st l).requires.1.fits (suc l.loop.i) in
+    let top = taken_top k (m l) (st l).requires.1.fits (suc l.loop-i.i) in
     (sized l, (omega (arith, e, b.0), omega (arith, e, b.1), omega (arith, next_is j, top, k.sized.c_top)))
 
-add_i : tie.Need-overflow-add-i invariant_loop decreases_loop
+add_i : tie.Need-overflow_add-i-in-loop-i invariant_loop decreases_loop
 add_i c = omega arith
 
-loop_less : tie.Need-loop-smaller invariant_loop decreases_loop
+loop_less : tie.Need-loop-i-smaller invariant_loop decreases_loop
 loop_less c = omega arith
 
-loop_again : tie.Need-loop-preserved invariant_loop decreases_loop
+loop_again : tie.Need-loop-i-preserved invariant_loop decreases_loop
 loop_again c =
     let read = c.before.before in
     let j = read.before.before in
     let front = j.before.before.before in
     let l = front.before.before in
     let w = (st l).args.words.now in (
-      omega (arith, front.before.loop-test.true),
-      rest_is j.before ∙ ap (left_at w (st l).args.s) (sym (add-one l.loop.i)),
-      c.before.put-call.ensures
-          ∙ same_put (st l).args.s l.loop.invariant.2 (front_is front) read.arriving-at.ensures (next_is j)
-          ∙ laid_more w (st l).args.s (st l).args.calls.now (rs l) l.loop.i,
+      omega (arith, front.before.loop-i-test.true),
+      rest_is j.before ∙ ap (left_at w (st l).args.s) (sym (add-one l.loop-i.i)),
+      c.before.put_call.ensures
+          ∙ same_put (st l).args.s l.loop-i.invariant.2 (front_is front) read.arriving_at.ensures (next_is j)
+          ∙ laid_more w (st l).args.s (st l).args.calls.now (rs l) l.loop-i.i,
     )
 
-same_length : tie.Need-same-length invariant_loop decreases_loop
-same_length c = let l = c.before in ap length l.loop.invariant.2 ∙ laid_length (st l).args.words.now (st l).args.s (st l).args.calls.now (rs l) l.loop.i
+same_length : tie.Need-shape_of-words invariant_loop decreases_loop
+same_length c = let l = c.before in ap length l.loop-i.invariant.2 ∙ laid_length (st l).args.words.now (st l).args.s (st l).args.calls.now (rs l) l.loop-i.i
 
 returns : tie.Need-returns invariant_loop decreases_loop
 returns c =
     let l = c.before in
-    let e : l.loop.i ≡ m l = omega (arith, l.loop.invariant.0, c.loop-test.false) in (
-      l.loop.invariant.2 ∙ ap (calls_laid (st l).args.words.now (st l).args.s (st l).args.calls.now (rs l)) e,
-      l.loop.invariant.1 ∙ ap (left_at (st l).args.words.now (st l).args.s) e,
+    let e : l.loop-i.i ≡ m l = omega (arith, l.loop-i.invariant.0, c.loop-i-test.false) in (
+      l.loop-i.invariant.2 ∙ ap (calls_laid (st l).args.words.now (st l).args.s (st l).args.calls.now (rs l)) e,
+      l.loop-i.invariant.1 ∙ ap (left_at (st l).args.words.now (st l).args.s) e,
     )
 
 pub lay_calls_spec : {M : Type 1} → statement M

@@ -6,19 +6,19 @@ use Rattle.late_reads.specs.Inner.Room.{rest_of}
 use Rattle.late_reads.proofs.words.rest_of.Statement.{statement}
 use Rattle.late_reads.proofs.words.rest_of.Tie as tie
 
-add_t5 : tie.Need-overflow-add-t5
+add_t5 : tie.Need-overflow_add-result
 add_t5 c = search rules
 
-returns : tie.Need-returns
+returns : tie.Need-returns-then-left-eq0
 unfolding rest_of
-returns c = rw (eq-eqb _ _ c.before.if1.true)
+returns c = rw (eq-eqb _ _ c.before.if-left-eq0.true)
 
-next_call_requires : tie.Need-next-call-requires
+next_call_requires : tie.Need-next_call-requires
 next_call_requires c κs = search rules
 
-returns_2 : tie.Need-returns-2
+returns_2 : tie.Need-returns
 unfolding rest_of
-returns_2 c = rw (ne_eqb _ _ c.before.if1.false, c.next-call.ensures)
+returns_2 c = rw (ne_eqb _ _ c.before.if-left-eq0.false, c.next_call.ensures)
 
 pub rest_of_spec : {M : Type 1} → statement M
 rest_of_spec = tie.close (tie.spec add_t5 returns next_call_requires returns_2)

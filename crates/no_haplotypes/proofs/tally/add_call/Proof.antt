@@ -52,20 +52,20 @@ qual_is u = ap (λ (r : RowHeld). r.qual.0) u.unpack-row.ensures
 other_is : (u : tie.After-unpack-row) → u.unpack-row.result.one_minus_qual.0 ≡ (row u).call.one_minus_qual
 other_is u = ap (λ (r : RowHeld). r.one_minus_qual.0) u.unpack-row.ensures
 
+abbrev unpacked : tie.After-mix-m → tie.After-unpack-row
+unpacked m = m.before.before.before.before.before
+
 mix_requires : tie.Need-mix-m-requires
 mix_requires c κs =
-    let u = c.before.before in
+    let u = c.before.before.before.before in
     ((st u).requires.0.0, rw (qual_is u) (qual_small (row_in u)), rw (other_is u) (other_small (row_in u)))
 
 strand_of_requires : tie.Need-strand_of-requires
 strand_of_requires c κs =
-    let u = c.before.before.before.before in
+    let u = unpacked c.before in
     ((st u).requires.0.1.sized, rw (ap (λ (r : RowHeld). r.fragment) u.unpack-row.ensures) (row_in u).fragment_in)
 
 -- ---- both gains
-abbrev unpacked : tie.After-mix-m → tie.After-unpack-row
-unpacked m = m.before.before.before
-
 abbrev mixing : tie.After-direction_of-strand → tie.After-mix-m
 mixing d = d.before.before.before
 

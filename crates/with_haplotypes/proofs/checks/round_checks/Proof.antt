@@ -12,47 +12,47 @@ use Rattle.with_haplotypes.proofs.CheckLaws.{rates_refused, phase_refused, order
 use Rattle.with_haplotypes.proofs.checks.round_checks.Statement.{statement}
 use Rattle.with_haplotypes.proofs.checks.round_checks.Tie as tie
 
-rates_fault_requires : tie.Need-rates-fault-requires
+rates_fault_requires : tie.Need-rates_fault-p-requires
 rates_fault_requires c κs = search rules
 
-returns : tie.Need-returns
+returns : tie.Need-returns-then-p-lt7
 unfolding checked_as
-returns c = rates_refused _ _ _ _ _ _ _ _ c.before.rates-fault.ensures c.if1.true
+returns c = rates_refused _ _ _ _ _ _ _ _ c.before.rates_fault-p.ensures c.if-p-lt7.true
 
 -- the rates are accepted
-good : (c : tie.Else1) → rates_fault c.before.before.before.before.args.rates ≡ 7
-good c = rates_good _ c.before.rates-fault.result c.before.rates-fault.ensures c.if1.false
+good : (c : tie.Else-p-lt7) → rates_fault c.before.before.before.before.args.rates ≡ 7
+good c = rates_good _ c.before.rates_fault-p.result c.before.rates_fault-p.ensures c.if-p-lt7.false
 
-phase_fault_requires : tie.Need-phase-fault-requires
+phase_fault_requires : tie.Need-phase_fault-v-requires
 phase_fault_requires c κs = search rules
 
-returns_2 : tie.Need-returns-2
+returns_2 : tie.Need-returns-then-v-n
 unfolding checked_as
-returns_2 c = phase_refused _ _ _ _ _ _ _ (good c.before.before) _ c.before.phase-fault.ensures c.if2.true
+returns_2 c = phase_refused _ _ _ _ _ _ _ (good c.before.before) _ c.before.phase_fault-v.ensures c.if-v-n.true
 
 -- so is the phase
-clean : (c : tie.Else2) → let s = c.before.before.before.before.before.before in s.args.n < phase_fault s.args.n s.args.phase.now s.args.sets.now
-clean c = rw c.before.phase-fault.ensures at c.if2.false
+clean : (c : tie.Else-v-n) → let s = c.before.before.before.before.before.before in s.args.n < phase_fault s.args.n s.args.phase.now s.args.sets.now
+clean c = rw c.before.phase_fault-v.ensures at c.if-v-n.false
 
-check_orders_requires : tie.Need-check-orders-requires
+check_orders_requires : tie.Need-check_orders-requires
 check_orders_requires c κs = search rules
 
-enum_known_o : tie.Need-enum-known-o
+enum_known_o : tie.Need-enum_known-o
 enum_known_o c = search rules
 
-enum_known_m : tie.Need-enum-known-m
+enum_known_m : tie.Need-enum_known-m
 enum_known_m c = search rules
 
-check_limits_requires : tie.Need-check-limits-requires
+check_limits_requires : tie.Need-check_limits-requires
 check_limits_requires c κs = search rules
 
-returns_3 : tie.Need-returns-3
+returns_3 : tie.Need-returns-in-Bad
 unfolding checked_as ordersAs
-returns_3 c = orders_refused _ _ _ _ _ _ _ (good c.before.before.before.before.before.before) _ (clean c.before.before.before.before) (ap ordersAs (sym c.before.o.given.1) ∙ c.before.before.before.check-orders.ensures)
+returns_3 c = orders_refused _ _ _ _ _ _ _ (good c.before.before.before.before.before.before) _ (clean c.before.before.before.before) (ap ordersAs (sym c.before.o-1.given.1) ∙ c.before.before.before.check_orders.ensures)
 
-returns_4 : tie.Need-returns-4
+returns_4 : tie.Need-returns-in-Good
 unfolding ordersAs
-returns_4 c = orders_passed _ _ _ _ _ _ _ (good c.before.before.before.before.before.before.before) _ _ (clean c.before.before.before.before.before) (ap ordersAs (sym c.before.before.m.given.1) ∙ c.before.before.before.before.check-orders.ensures) c.check-limits.ensures
+returns_4 c = orders_passed _ _ _ _ _ _ _ (good c.before.before.before.before.before.before.before) _ _ (clean c.before.before.before.before.before) (ap ordersAs (sym c.before.before.m-1.given.1) ∙ c.before.before.before.before.check_orders.ensures) c.check_limits.ensures
 
 pub round_checks_spec : {M : Type 1} → statement M
 round_checks_spec =

@@ -11,22 +11,22 @@ use borrow.Author.Rules.{rules}
 use Rattle.with_haplotypes.proofs.finals.final_answer.Statement.{statement}
 use Rattle.with_haplotypes.proofs.finals.final_answer.Tie as tie
 
-max_genotype_requires : tie.Need-max-genotype-requires
+max_genotype_requires : tie.Need-max_genotype-p-requires
 max_genotype_requires c κs = search rules
 
 -- one of the pairs
-inside : (c : tie.After-max-genotype) → c.max-genotype.result < c.before.args.k * c.before.args.k
+inside : (c : tie.After-max_genotype-p) → c.max_genotype-p.result < c.before.args.k * c.before.args.k
 inside c =
     let s = c.before in
-    omega (arith, c.max-genotype.ensures, (genotype_maximum true (drop s.args.at s.args.post.now) s.args.k s.requires.1.k_low).inside)
+    omega (arith, c.max_genotype-p.ensures, (genotype_maximum true (drop s.args.at s.args.post.now) s.args.k s.requires.1.k_low).inside)
 
-genotype_of_requires : tie.Need-genotype-of-requires
+genotype_of_requires : tie.Need-genotype_of-requires
 genotype_of_requires c κs = (c.before.requires.1.k_low, c.before.requires.1.k_high, inside c)
 
-qual_of_requires : tie.Need-qual-of-requires
+qual_of_requires : tie.Need-qual_of-requires
 qual_of_requires c κs = first_small c.before.before.requires.1
 
-gq_of_requires : tie.Need-gq-of-requires
+gq_of_requires : tie.Need-gq_of-requires
 gq_of_requires c κs =
     let m = c.before.before in (m.before.requires.0, m.before.requires.1, inside m)
 
@@ -35,7 +35,7 @@ unfolding final_of
 returns c =
     let q = c.before in
     let g = q.before in
-    rw (g.genotype-of.ensures, q.qual-of.ensures, c.gq-of.ensures, g.before.max-genotype.ensures)
+    rw (g.genotype_of.ensures, q.qual_of.ensures, c.gq_of.ensures, g.before.max_genotype-p.ensures)
 
 pub final_answer_spec : {M : Type 1} → statement M
 final_answer_spec =

@@ -12,84 +12,84 @@ use Rattle.with_haplotypes.specs.declared.finals.FinalAnswer.{FinalAnswer}
 use Rattle.with_haplotypes.proofs.finals.write_finals.Statement.{statement}
 use Rattle.with_haplotypes.proofs.finals.write_finals.Tie as tie
 
-abbrev invariant_loop : tie.invariant_loop
+abbrev invariant_loop : tie.invariant-loop-v
 invariant_loop t words s post quals₀ gqs₀ n v₀ quals gqs v = (v ≤ n) × FinalsWritten words post v quals₀ gqs₀ quals gqs
 
-abbrev decreases_loop : tie.decreases_loop
+abbrev decreases_loop : tie.decreases-loop-v
 decreases_loop t words s post quals₀ gqs₀ n v₀ quals gqs v = n - v
 
-loop_holds : tie.Need-loop-init invariant_loop decreases_loop
+loop_holds : tie.Need-loop-v-init invariant_loop decreases_loop
 unfolding written
 loop_holds c = (omega arith, record { quals_are = refl; gqs_are = refl })
 
-abbrev st : tie.At-loop invariant_loop decreases_loop → tie.Start invariant_loop decreases_loop
+abbrev st : tie.At-loop-v invariant_loop decreases_loop → tie.Start invariant_loop decreases_loop
 st l = l.before.before.before
 
-allele_count_requires : tie.Need-allele-count-requires invariant_loop decreases_loop
+allele_count_requires : tie.Need-allele_count-k-requires invariant_loop decreases_loop
 allele_count_requires c κs =
     let s = st c.before in
-    (s.pre.0.1, c.loop-test.true)
+    (s.requires.0.1, c.loop-v-test.true)
 
-mul_final_answer : tie.Need-overflow-mul-final-answer invariant_loop decreases_loop
-mul_final_answer c = omega (arith, (st c.before.before).pre.0.1.n_top, c.before.loop-test.true)
+mul_final_answer : tie.Need-overflow_mul-v invariant_loop decreases_loop
+mul_final_answer c = omega (arith, (st c.before.before).requires.0.1.n_top, c.before.loop-v-test.true)
 
-final_answer_requires : tie.Need-final-answer-requires invariant_loop decreases_loop
+final_answer_requires : tie.Need-final_answer-r-requires invariant_loop decreases_loop
 final_answer_requires c κs =
     let s = st c.before.before in
-    (s.pre.0.0, rw c.allele-count.ensures (s.pre.0.2 c.before.before.loop.v c.before.loop-test.true))
+    (s.requires.0.0, rw c.allele_count-k.ensures (s.requires.0.2 c.before.before.loop-v.v c.before.loop-v-test.true))
 
-mul_quals : tie.Need-overflow-mul-quals invariant_loop decreases_loop
-mul_quals c = omega (arith, (st c.before.before.before).pre.0.1.n_top, c.before.before.loop-test.true)
+mul_quals : tie.Need-offset_bounds-quals-v invariant_loop decreases_loop
+mul_quals c = omega (arith, (st c.before.before.before).requires.0.1.n_top, c.before.before.loop-v-test.true)
 
-quals_long : (l : tie.At-loop invariant_loop decreases_loop) → length l.loop.quals ≡ length (st l).args.quals.now
-quals_long l = ap length l.loop.invariant.1.quals_are ∙ written_length _ l.loop.v (st l).args.quals.now
+quals_long : (l : tie.At-loop-v invariant_loop decreases_loop) → length l.loop-v.quals ≡ length (st l).args.quals.now
+quals_long l = ap length l.loop-v.invariant.1.quals_are ∙ written_length _ l.loop-v.v (st l).args.quals.now
 
-gqs_long : (l : tie.At-loop invariant_loop decreases_loop) → length l.loop.gqs ≡ length (st l).args.gqs.now
-gqs_long l = ap length l.loop.invariant.1.gqs_are ∙ written_length _ l.loop.v (st l).args.gqs.now
+gqs_long : (l : tie.At-loop-v invariant_loop decreases_loop) → length l.loop-v.gqs ≡ length (st l).args.gqs.now
+gqs_long l = ap length l.loop-v.invariant.1.gqs_are ∙ written_length _ l.loop-v.v (st l).args.gqs.now
 
-slice_write_quals : tie.Need-slice-write-quals invariant_loop decreases_loop
-slice_write_quals c = omega (arith, quals_long c.before.before.before, (st c.before.before.before).pre.1.0, c.before.before.loop-test.true)
+slice_write_quals : tie.Need-bounds-quals-v invariant_loop decreases_loop
+slice_write_quals c = omega (arith, quals_long c.before.before.before, (st c.before.before.before).requires.1.0, c.before.before.loop-v-test.true)
 
-mul_gqs : tie.Need-overflow-mul-gqs invariant_loop decreases_loop
-mul_gqs c = omega (arith, (st c.before.before.before).pre.0.1.n_top, c.before.before.loop-test.true)
+mul_gqs : tie.Need-offset_bounds-gqs-v invariant_loop decreases_loop
+mul_gqs c = omega (arith, (st c.before.before.before).requires.0.1.n_top, c.before.before.loop-v-test.true)
 
-slice_write_gqs : tie.Need-slice-write-gqs invariant_loop decreases_loop
-slice_write_gqs c = omega (arith, gqs_long c.before.before.before, (st c.before.before.before).pre.1.1, c.before.before.loop-test.true)
+slice_write_gqs : tie.Need-bounds-gqs-v invariant_loop decreases_loop
+slice_write_gqs c = omega (arith, gqs_long c.before.before.before, (st c.before.before.before).requires.1.1, c.before.before.loop-v-test.true)
 
-add_v : tie.Need-overflow-add-v invariant_loop decreases_loop
-add_v c = omega (arith, (st c.before.before.before).pre.0.1.n_top, c.before.before.loop-test.true)
+add_v : tie.Need-overflow_add-v invariant_loop decreases_loop
+add_v c = omega (arith, (st c.before.before.before).requires.0.1.n_top, c.before.before.loop-v-test.true)
 
-loop_less : tie.Need-loop-smaller invariant_loop decreases_loop
-loop_less c = omega (arith, c.before.before.loop-test.true)
+loop_less : tie.Need-loop-v-smaller invariant_loop decreases_loop
+loop_less c = omega (arith, c.before.before.loop-v-test.true)
 
-loop_again : tie.Need-loop-preserved invariant_loop decreases_loop
+loop_again : tie.Need-loop-v-preserved invariant_loop decreases_loop
 unfolding final_at
 loop_again c =
     let l = c.before.before.before in
     let s = st l in
     let w = s.args.words.now in
     let post = s.args.post.now in
-    let v = l.loop.v in
-    let e : c.final-answer.result ≡ final_at w post v = c.final-answer.ensures ∙ ap (final_of (drop (9 * v) post)) c.before.allele-count.ensures in (
-      omega (arith, c.before.before.loop-test.true),
+    let v = l.loop-v.v in
+    let e : c.final_answer-r.result ≡ final_at w post v = c.final_answer-r.ensures ∙ ap (final_of (drop (9 * v) post)) c.before.allele_count-k.ensures in (
+      omega (arith, c.before.before.loop-v-test.true),
       record {
-        quals_are = written_on (λ v. (final_at w post v).qual.0) v s.args.quals.now l.loop.quals _ l.loop.invariant.1.quals_are (ap (λ (r : FinalAnswer). r.qual.0) e);
-        gqs_are = written_on (λ v. (final_at w post v).gq.0) v s.args.gqs.now l.loop.gqs _ l.loop.invariant.1.gqs_are (ap (λ (r : FinalAnswer). r.gq.0) e);
+        quals_are = written_on (λ v. (final_at w post v).qual.0) v s.args.quals.now l.loop-v.quals _ l.loop-v.invariant.1.quals_are (ap (λ (r : FinalAnswer). r.qual.0) e);
+        gqs_are = written_on (λ v. (final_at w post v).gq.0) v s.args.gqs.now l.loop-v.gqs _ l.loop-v.invariant.1.gqs_are (ap (λ (r : FinalAnswer). r.gq.0) e);
       },
     )
 
-same_length : tie.Need-same-length invariant_loop decreases_loop
+same_length : tie.Need-shape_of-quals invariant_loop decreases_loop
 same_length c = quals_long c.before
 
-same_length_2 : tie.Need-same-length-2 invariant_loop decreases_loop
+same_length_2 : tie.Need-shape_of-gqs invariant_loop decreases_loop
 same_length_2 c = gqs_long c.before
 
 returns : tie.Need-returns invariant_loop decreases_loop
 returns c =
     let l = c.before in
     let s = st l in
-    let e : l.loop.v ≡ s.args.s.n = omega (arith, l.loop.invariant.0, c.loop-test.false) in
-    rw e at l.loop.invariant.1
+    let e : l.loop-v.v ≡ s.args.s.n = omega (arith, l.loop-v.invariant.0, c.loop-v-test.false) in
+    rw e at l.loop-v.invariant.1
 
 pub write_finals_spec : {M : Type 1} → statement M
 write_finals_spec =
