@@ -91,7 +91,7 @@ returns : tie.Need-returns-then-not-usable
 returns c =
     let u = c.before in
     let s = start u in
-    (share_unusable (fixed s) (read s) s.args.h (call s) (sym (tested u) ∙ not-true u.usable.result c.if-not-usable.true), omega arith)
+    (share_unusable (fixed s) (read s) s.args.h (call s) (sym (tested u) ∙ c.if-not-usable.true), omega arith)
 
 phased_flag_requires : tie.Need-phased_flag-requires
 phased_flag_requires c κs =
@@ -103,7 +103,7 @@ phased_flag_requires c κs =
     (r.case_in, (omega (arith, i.variant_in), omega (arith, i.variant_in, r.phase_long)))
 
 is_usable : (c : tie.Else-not-usable) → usable (cutoff_at (start c.before).args.words.now) (read (start c.before)) (call (start c.before)) ≡ true
-is_usable c = sym (tested c.before) ∙ not-false c.before.usable.result c.if-not-usable.false
+is_usable c = sym (tested c.before) ∙ c.if-not-usable.false
 
 -- the flag read
 abbrev asked : tie.After-phased_flag → tie.After-usable
