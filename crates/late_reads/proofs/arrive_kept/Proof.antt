@@ -5,7 +5,6 @@ use mathlib.Core.Bool.{true}
 use Prim.Native.Nat.{ℕ}
 use native.Mathlib.Omega.{arith}
 use borrow.Author.Rules.{rules}
-use borrow.Author.Tests.{not-true, not-false}
 use lib.IntN.{ℤ, pos, ◌+ℤ◌}
 use Rattle.steps.specs.Logs.{mix_of}
 use Rattle.variants_and_fragments.specs.Words.{within}

@@ -1,13 +1,11 @@
 -- `depart` meets its contract: what is refused is refused by a test of the definition, and past the tests `depart_kept` keeps the promise.
 -- Assumes nothing.
-use mathlib.Core.Path.{◌≡◌, sym, ap, ◌∙◌}
+use mathlib.Core.Path.{◌≡◌, sym, ◌∙◌}
 use mathlib.Core.Bool.{true}
 use borrow.Author.Rules.{rules}
-use borrow.Author.Tests.{not-true, not-false}
 use Rattle.variants_and_fragments.specs.declared.Sizes.{Sizes}
 use Rattle.variants_and_fragments.specs.declared.Refusal.TheVariants.{Fragment}
 use Rattle.variants_and_fragments.specs.Chain.{present_at}
-use Rattle.variants_and_fragments.specs.Check as check
 use Rattle.variants_and_fragments.specs.Refusals.{done}
 use Rattle.late_reads.specs.Values.{values}
 use Rattle.late_reads.specs.LateReads.{LateInput, late_input, kept_outcome}

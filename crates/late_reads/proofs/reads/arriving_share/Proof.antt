@@ -5,7 +5,6 @@ use mathlib.Core.Bool.{true}
 use Prim.Native.Nat.{ℕ, ◌+◌, ◌*◌, ◌<◌, ◌≤◌}
 use native.Mathlib.Omega.{arith}
 use borrow.Author.Rules.{rules, sfits_of}
-use borrow.Author.Tests.{not-true, not-false}
 use lib.IntN.{ℤ, nat_abs}
 use lib.ListN.{length, get_or}
 use mir.Syntax.{w32, w64}
