@@ -8,10 +8,6 @@ use Rattle.exports.proofs.Promised.{filtered_at}
 use Rattle.exports.proofs.filter.condorbed_var_filter.Statement.{statement}
 use Rattle.exports.proofs.filter.condorbed_var_filter.Tie as tie
 
--- where the operation has answered, from the match on its answer
-abbrev called : tie.After-slice_known-2-1 → tie.After-var_filter
-called c = c.before.before
-
 density_of_requires : tie.Need-density_of-requires
 density_of_requires c κs = search rules
 
@@ -36,8 +32,7 @@ same_length c = search rules
 returns : tie.Need-returns-in-Done
 unfolding outcome_of
 returns c =
-    let d = called c.before.before.before in
-    exported _ (filtered_at _ _ _ _ _ _ _ _ _ d.before.before.density_of.ensures d.var_filter.ensures) (answered_done (ap outcome_of c.before.enum_told-1.given.1) c.done.ensures)
+    exported _ (filtered_at _ _ _ _ _ _ _ _ _ c.density_of.ensures c.var_filter.ensures) (answered_done (ap outcome_of c.in-Done.is) c.done.ensures)
 
 same_length_2 : tie.Need-shape_of-filters-in-Refused
 same_length_2 c = search rules
@@ -45,9 +40,7 @@ same_length_2 c = search rules
 returns_2 : tie.Need-returns-in-Refused
 unfolding outcome_of
 returns_2 c =
-    let x = c.before.before.x-1.given in
-    let d = called c.before.before.before.before in
-    exported _ (filtered_at _ _ _ _ _ _ _ _ _ d.before.before.density_of.ensures d.var_filter.ensures) (answered_refused x.0.0 (ap outcome_of x.1) c.refused.ensures)
+    exported _ (filtered_at _ _ _ _ _ _ _ _ _ c.density_of.ensures c.var_filter.ensures) (answered_refused c.in-Refused.x (ap outcome_of c.in-Refused.is) c.refused.ensures)
 
 pub condorbed_var_filter_spec : {M : Type 1} → statement M
 condorbed_var_filter_spec =

@@ -27,10 +27,8 @@ same_length_3 c = search rules
 
 returns : tie.Need-returns
 returns c =
-    let d = c.before.before.before.before in
-    let st = d.before.before.before.before.before.before.before in
-    let f : SFits w64 st.args.total = search rules in
-    exported _ {o = outcome_of d.depart.result} (departed_at _ _ _ _ _ _ (to_z-of_z f) _ d.depart.ensures) (rw c.late_answer.ensures (late_numbers_lem d.depart.result))
+    let f : SFits w64 c.args.total = search rules in
+    exported _ {o = outcome_of c.depart.result} (departed_at _ _ _ _ _ _ (to_z-of_z f) _ c.depart.ensures) (rw c.late_answer.ensures (late_numbers_lem c.depart.result))
 
 pub condorbed_depart_spec : {M : Type 1} → statement M
 condorbed_depart_spec =

@@ -24,13 +24,12 @@ place_requires c κs = search rules
 returns : tie.Need-returns-in-Unsettled
 unfolding outcome_of late_numbers
 returns c =
-    let a = c.before.before.answer-1.given in
-    let f : SFits w64 a.0.0.0 = search rules in
-    rw (a.1, to_z-of_z f)
+    let f : SFits w64 c.in-Unsettled.total.0 = search rules in
+    rw (c.in-Unsettled.is, to_z-of_z f)
 
 returns_2 : tie.Need-returns-in-Refused
 unfolding outcome_of late_numbers
-returns_2 c = rw (c.before.before.before.answer-in-Refused-1.given.1, c.before.number.ensures, c.place.ensures)
+returns_2 c = rw (c.in-Refused.is, c.number.ensures, c.place.ensures)
 
 pub late_answer_spec : {M : Type 1} → statement M
 late_answer_spec =

@@ -9,10 +9,6 @@ use Rattle.exports.proofs.nohap.condorbed_call_genotypes_no_haplotypes.Statement
 }
 use Rattle.exports.proofs.nohap.condorbed_call_genotypes_no_haplotypes.Tie as tie
 
--- where the operation has answered, from the match on its answer
-abbrev called : tie.After-slice_known-4-1 → tie.After-call_genotypes_no_haplotypes
-called c = c.before.before.before.before.before
-
 rates_of_requires : tie.Need-rates_of-requires
 rates_of_requires c κs = search rules
 
@@ -43,8 +39,7 @@ same_length_3 c = search rules
 returns : tie.Need-returns-in-Done
 unfolding outcome_of
 returns c =
-    let d = called c.before.before.before in
-    exported _ (rw (← d.before.before.before.before.rates_of.ensures) d.call_genotypes_no_haplotypes.ensures) (answered_done (ap outcome_of c.before.enum_told-1.given.1) c.done.ensures)
+    exported _ (rw (← c.rates_of.ensures) c.call_genotypes_no_haplotypes.ensures) (answered_done (ap outcome_of c.in-Done.is) c.done.ensures)
 
 same_length_4 : tie.Need-shape_of-variants-in-Refused
 same_length_4 c = search rules
@@ -58,9 +53,7 @@ same_length_6 c = search rules
 returns_2 : tie.Need-returns-in-Refused
 unfolding outcome_of
 returns_2 c =
-    let x = c.before.before.x-1.given in
-    let d = called c.before.before.before.before in
-    exported _ (rw (← d.before.before.before.before.rates_of.ensures) d.call_genotypes_no_haplotypes.ensures) (answered_refused x.0.0 (ap outcome_of x.1) c.refused.ensures)
+    exported _ (rw (← c.rates_of.ensures) c.call_genotypes_no_haplotypes.ensures) (answered_refused c.in-Refused.x (ap outcome_of c.in-Refused.is) c.refused.ensures)
 
 pub condorbed_call_genotypes_no_haplotypes_spec : {M : Type 1} → statement M
 condorbed_call_genotypes_no_haplotypes_spec =

@@ -7,10 +7,6 @@ use Rattle.exports.proofs.Numbers.{exported, answered_done, answered_refused}
 use Rattle.exports.proofs.orders.condorbed_sweep_orders.Statement.{statement}
 use Rattle.exports.proofs.orders.condorbed_sweep_orders.Tie as tie
 
--- where the operation has answered, from the match on its answer
-abbrev called : tie.After-slice_known-2-1 → tie.After-sweep_orders
-called c = c.before.before
-
 sweep_orders_requires : tie.Need-sweep_orders-requires
 sweep_orders_requires c κs = search rules
 
@@ -31,7 +27,7 @@ same_length c = search rules
 
 returns : tie.Need-returns-in-Done
 unfolding outcome_of
-returns c = exported _ (called c.before.before.before).sweep_orders.ensures (answered_done (ap outcome_of c.before.enum_told-1.given.1) c.done.ensures)
+returns c = exported _ c.sweep_orders.ensures (answered_done (ap outcome_of c.in-Done.is) c.done.ensures)
 
 same_length_2 : tie.Need-shape_of-orders-in-Refused
 same_length_2 c = search rules
@@ -39,8 +35,7 @@ same_length_2 c = search rules
 returns_2 : tie.Need-returns-in-Refused
 unfolding outcome_of
 returns_2 c =
-    let x = c.before.before.x-1.given in
-    exported _ (called c.before.before.before.before).sweep_orders.ensures (answered_refused x.0.0 (ap outcome_of x.1) c.refused.ensures)
+    exported _ c.sweep_orders.ensures (answered_refused c.in-Refused.x (ap outcome_of c.in-Refused.is) c.refused.ensures)
 
 pub condorbed_sweep_orders_spec : {M : Type 1} → statement M
 condorbed_sweep_orders_spec =

@@ -7,10 +7,6 @@ use Rattle.exports.proofs.Numbers.{exported, answered_done, answered_refused}
 use Rattle.exports.proofs.phase.condorbed_given_phase.Statement.{statement}
 use Rattle.exports.proofs.phase.condorbed_given_phase.Tie as tie
 
--- where the operation has answered, from the match on its answer
-abbrev called : tie.After-slice_known-6-1 → tie.After-given_phase
-called c = c.before.before.before.before.before.before
-
 given_phase_requires : tie.Need-given_phase-requires
 given_phase_requires c κs = search rules
 
@@ -38,8 +34,7 @@ same_length_3 c = search rules
 returns : tie.Need-returns-in-Done
 unfolding outcome_of
 returns c =
-    let d = called c.before.before.before in
-    exported _ d.given_phase.ensures (answered_done (ap outcome_of c.before.enum_told-1.given.1) c.done.ensures)
+    exported _ c.given_phase.ensures (answered_done (ap outcome_of c.in-Done.is) c.done.ensures)
 
 same_length_4 : tie.Need-shape_of-haplotypes-in-Refused
 same_length_4 c = search rules
@@ -53,9 +48,7 @@ same_length_6 c = search rules
 returns_2 : tie.Need-returns-in-Refused
 unfolding outcome_of
 returns_2 c =
-    let x = c.before.before.x-1.given in
-    let d = called c.before.before.before.before in
-    exported _ d.given_phase.ensures (answered_refused x.0.0 (ap outcome_of x.1) c.refused.ensures)
+    exported _ c.given_phase.ensures (answered_refused c.in-Refused.x (ap outcome_of c.in-Refused.is) c.refused.ensures)
 
 pub condorbed_given_phase_spec : {M : Type 1} → statement M
 condorbed_given_phase_spec =

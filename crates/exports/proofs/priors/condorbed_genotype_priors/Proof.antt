@@ -7,10 +7,6 @@ use Rattle.exports.proofs.Numbers.{exported, answered_done, answered_refused}
 use Rattle.exports.proofs.priors.condorbed_genotype_priors.Statement.{statement}
 use Rattle.exports.proofs.priors.condorbed_genotype_priors.Tie as tie
 
--- where the operation has answered, from the match on its answer
-abbrev called : tie.After-priors-1 → tie.After-genotype_priors
-called c = c.before
-
 rates_of_requires : tie.Need-rates_of-requires
 rates_of_requires c κs = search rules
 
@@ -35,8 +31,7 @@ same_length c = search rules
 returns : tie.Need-returns-in-Done
 unfolding outcome_of
 returns c =
-    let d = called c.before.before.before in
-    exported _ (rw (← d.before.before.rates_of.ensures) d.genotype_priors.ensures) (answered_done (ap outcome_of c.before.enum_told-1.given.1) c.done.ensures)
+    exported _ (rw (← c.rates_of.ensures) c.genotype_priors.ensures) (answered_done (ap outcome_of c.in-Done.is) c.done.ensures)
 
 same_length_2 : tie.Need-shape_of-priors-in-Refused
 same_length_2 c = search rules
@@ -44,9 +39,7 @@ same_length_2 c = search rules
 returns_2 : tie.Need-returns-in-Refused
 unfolding outcome_of
 returns_2 c =
-    let x = c.before.before.x-1.given in
-    let d = called c.before.before.before.before in
-    exported _ (rw (← d.before.before.rates_of.ensures) d.genotype_priors.ensures) (answered_refused x.0.0 (ap outcome_of x.1) c.refused.ensures)
+    exported _ (rw (← c.rates_of.ensures) c.genotype_priors.ensures) (answered_refused c.in-Refused.x (ap outcome_of c.in-Refused.is) c.refused.ensures)
 
 pub condorbed_genotype_priors_spec : {M : Type 1} → statement M
 condorbed_genotype_priors_spec =

@@ -14,22 +14,15 @@ use Rattle.exports.proofs.round.condorbed_call_genotypes_with_haplotypes.Stateme
 }
 use Rattle.exports.proofs.round.condorbed_call_genotypes_with_haplotypes.Tie as tie
 
--- where the operation has answered, from the match on its answer
-abbrev called : tie.After-slice_known-6-1 → tie.After-call_genotypes_with_haplotypes
-called c = c.before.before.before.before.before.before.before.before
-
 -- where its rates were made
-abbrev rated : tie.After-call_genotypes_with_haplotypes → tie.After-rates_of
-rated d = d.before.before.before.before.before.before
-
 -- the totals of a round fit their words, so they come back as they are
-fits_start : (c : tie.After-struct_told-1) → SFits w64 c.before.before.r-1.given.0.0.start.0
+fits_start : (c : tie.After-struct_told-1) → SFits w64 c.in-Done.r.start.0
 fits_start c = search rules
 
-fits_end : (c : tie.After-struct_told-1) → SFits w64 c.before.before.r-1.given.0.0.end.0
+fits_end : (c : tie.After-struct_told-1) → SFits w64 c.in-Done.r.end.0
 fits_end c = search rules
 
-fits_source : (c : tie.After-struct_told-1) → SFits w64 c.before.before.r-1.given.0.0.source.0
+fits_source : (c : tie.After-struct_told-1) → SFits w64 c.in-Done.r.source.0
 fits_source c = search rules
 
 rates_of_requires : tie.Need-rates_of-requires
@@ -68,11 +61,8 @@ same_length_5 c = search rules
 returns : tie.Need-returns-in-Done
 unfolding outcome_of round_numbers
 returns c =
-    let known = c.before.before in
-    let r = known.r-1.given in
-    let d = called known.before.before in
-    exported _ (called_at _ _ _ _ _ _ _ _ _ _ _ (rated d).rates_of.ensures d.call_genotypes_with_haplotypes.ensures)
-    (rw (ap outcome_of r.1, to_z-of_z (fits_start c), to_z-of_z (fits_end c), to_z-of_z (fits_source c)) (round_done r.0.0))
+    exported _ (called_at _ _ _ _ _ _ _ _ _ _ _ c.rates_of.ensures c.call_genotypes_with_haplotypes.ensures)
+    (rw (ap outcome_of c.in-Done.is, to_z-of_z (fits_start c), to_z-of_z (fits_end c), to_z-of_z (fits_source c)) (round_done c.in-Done.r))
 
 same_length_6 : tie.Need-shape_of-haplotypes-in-Refused
 same_length_6 c = search rules
@@ -92,11 +82,8 @@ same_length_10 c = search rules
 returns_2 : tie.Need-returns-in-Refused
 unfolding outcome_of round_numbers
 returns_2 c =
-    let known = c.before.before.before in
-    let x = known.x-1.given in
-    let d = called known.before.before in
-    exported _ (called_at _ _ _ _ _ _ _ _ _ _ _ (rated d).rates_of.ensures d.call_genotypes_with_haplotypes.ensures)
-    (rw (ap outcome_of x.1, c.before.number.ensures, c.place.ensures) (round_refused x.0.0))
+    exported _ (called_at _ _ _ _ _ _ _ _ _ _ _ c.rates_of.ensures c.call_genotypes_with_haplotypes.ensures)
+    (rw (ap outcome_of c.in-Refused.is, c.number.ensures, c.place.ensures) (round_refused c.in-Refused.x))
 
 pub condorbed_call_genotypes_with_haplotypes_spec : {M : Type 1} → statement M
 condorbed_call_genotypes_with_haplotypes_spec =
