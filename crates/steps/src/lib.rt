@@ -1,5 +1,6 @@
 // The stand-in arithmetic of document 01, section 1: log probabilities in steps, probabilities and Phred values, as separate units.
 #![tactic(auto)]
+
 ghost use Rattle.std.specs.Prelude.{◌≡◌, ℕ, ◌^◌, ◌<◌, ◌≤◌, true, map, length, pos, int_le, slice_index_or};
 ghost use Rattle.steps.specs.Table.{knots};
 ghost use Rattle.steps.specs.Logs.{mark, steps, ln_add_exp, ln_sum_exp};

@@ -1,5 +1,6 @@
 // A case of variants and fragments: its check, and the types that every crate over it shares.
 #![tactic(auto)]
+
 ghost use Rattle.std.specs.Prelude.{◌≡◌};
 ghost use Rattle.variants_and_fragments.specs.Check.{outcome_of, check_case_outcome, check_case_and_haplotypes_outcome};
 

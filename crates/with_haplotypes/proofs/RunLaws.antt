@@ -125,7 +125,7 @@ module _ {w : List ℤ} {b : List ℕ} {rates : Rates} {z : RoundSizes} {ks ph o
 
     pub begins : RunStart C (sweep_reads ks ph x.pri x.pile_ends x.piles) (sweep_state state.hap lik state.post) orders (plan_of z)
     begins = record {
-      standing = record { held = case_held; haps = G.Good-start; liks = liks_here; room = omega (arith, n_is, G.post_long) };
+      standing = record { held = case_held; haps = G.good_start; liks = liks_here; room = omega (arith, n_is, G.post_long) };
       n_is = sym n_is;
       some_order = omega (arith, G.good_orders.good.some);
       some_sweep = G.good_orders.limit_low;
@@ -165,7 +165,7 @@ module _ {w : List ℤ} {b : List ℕ} {rates : Rates} {z : RoundSizes} {ks ph o
     left_good =
         let e = R.demand3.ends in
         rw (e.reached, orders_here)
-        (after_good C case_held.good (order_of_sweep run) (orders_good z G.given phased state.hap orders z.limit G.good_orders) state.hap (suc e.last) G.Good-start)
+        (after_good C case_held.good (order_of_sweep run) (orders_good z G.given phased state.hap orders z.limit G.good_orders) state.hap (suc e.last) G.good_start)
 
     pub run_made : (a : RoundAnswer) → a.sweeps ≡ r.sweeps → a.settled ≡ r.settled → a.start.0 ≡ phased_total C state.hap → a.end.0 ≡ phased_total C after.hap → a.source.0 ≡ source_total C after.hap → RunMade run state after a
     unfolding result

@@ -17,38 +17,38 @@ use Rattle.with_haplotypes.proofs.call_genotypes_with_haplotypes.Statement.{stat
 use Rattle.with_haplotypes.proofs.call_genotypes_with_haplotypes.Tie as tie
 
 -- the start, the sizes of an accepted case, and what is known of it
-abbrev st : tie.In-Accepted-2 → tie.Start
-st c = c.before.before.before.before.before.before.before.before.before
+abbrev st : tie.In-Accepted → tie.Start
+st c = c.before.before.before.before.before.before.before.before
 
-abbrev sizes : tie.In-Accepted-2 → Sizes
-sizes c = c.s-1.given.0.0
+abbrev sizes : tie.In-Accepted → Sizes
+sizes c = c.in-Accepted.s
 
-accepted : (c : tie.In-Accepted-2) → check_case_outcome (st c).args.words.now (st c).args.bases.now ≡ done (sizes c)
-accepted c = is_done _ _ _ (ap check.outcome_of (sym c.s-1.given.1) ∙ c.before.before.check_case.ensures)
+accepted : (c : tie.In-Accepted) → check_case_outcome (st c).args.words.now (st c).args.bases.now ≡ done (sizes c)
+accepted c = is_done _ _ _ c.in-Accepted.ensures
 
-inside : (c : tie.In-Accepted-2) → CaseIn (st c).args.words.now (sizes c)
+inside : (c : tie.In-Accepted) → CaseIn (st c).args.words.now (sizes c)
 inside c = case_in _ _ _ (accepted c)
 
 -- what the checks answer, of the lengths of the lent slices
 abbrev checks_is : tie.After-round_checks → Outcome ℕ
 checks_is c =
-    let k = c.before.before.before.before.before in
+    let k = c.before.before.before.before in
     let a = (st k).args in
     round_checks (sizes k).n a.rates a.phase.now a.sets.now a.orders.now a.limit (round_short (sizes k).n (sizes k).f (length a.haplotypes.now) (length a.likelihoods.now) (length a.posteriors.now) (length a.quals.now) (length a.gqs.now))
 
 checked : (c : tie.After-round_checks) → checked_as c.round_checks.result ≡ checks_is c
-checked c = rw (← c.before.before.round_short-short.ensures) c.round_checks.ensures
+checked c = rw (← c.round_short-short.ensures) c.round_checks.ensures
 
 -- where the round is called: what the checks answered, and the number of orders
 abbrev checks : tie.After-round_accepted-arg-in-Good-4-1 → tie.After-round_checks
-checks c = c.before.before.before.before.before.before.before.before
+checks c = c.before.before.before.before.before.before
 
-abbrev orders : tie.After-round_accepted-arg-in-Good-4-1 → tie.In-Good-2
-orders c = c.before.before.before.before.before.before
+abbrev orders : tie.After-round_accepted-arg-in-Good-4-1 → tie.In-Good
+orders c = c.before.before.before.before.before
 
-passed : (c : tie.After-round_accepted-arg-in-Good-4-1) → checks_is (checks c) ≡ done (orders c).m-1.given.0.0
+passed : (c : tie.After-round_accepted-arg-in-Good-4-1) → checks_is (checks c) ≡ done (orders c).in-Good.m
 unfolding checked_as
-passed c = sym (ap checked_as (sym (orders c).m-1.given.1) ∙ checked (checks c))
+passed c = rw (← (checks c).round_short-short.ensures) (sym (orders c).in-Good.ensures)
 
 check_case_requires : tie.Need-check_case-requires
 check_case_requires c κs = search rules
@@ -63,10 +63,10 @@ table_requires : tie.Need-table-t-requires
 table_requires c κs = search rules
 
 round_short_requires : tie.Need-round_short-short-requires
-round_short_requires c κs = let k = inside c.before.before in (k.sized.n_top, k.sized.f_top)
+round_short_requires c κs = let k = inside c.before in (k.sized.n_top, k.sized.f_top)
 
 round_checks_requires : tie.Need-round_checks-requires
-round_checks_requires c κs = (c.before.before.table-t.ensures, (inside c.before.before.before.before).sized.n_top)
+round_checks_requires c κs = (c.table-t.ensures, (inside c.before.before.before).sized.n_top)
 
 enum_known_x_2 : tie.Need-enum_known-x-in-Refused-round_checks
 enum_known_x_2 c = search rules
@@ -76,14 +76,14 @@ enum_known_m c = search rules
 
 round_accepted_requires : tie.Need-round_accepted-requires
 unfolding checked_as
-round_accepted_requires c κs = admits _ _ _ _ _ (accepted (checks c).before.before.before.before.before) (passed c)
+round_accepted_requires c κs = admits _ _ _ _ _ (accepted (checks c).before.before.before.before) (passed c)
 
 returns : tie.Need-returns-in-Refused
-returns c = answer_case _ _ _ _ (ap check.outcome_of (sym c.before.x-1.given.1) ∙ c.before.before.before.check_case.ensures)
+returns c = answer_case _ _ _ _ c.in-Refused.ensures
 
 returns_2 : tie.Need-returns-in-Refused-round_checks
 unfolding checked_as
-returns_2 c = let k = c.before.before.before in answer_checks _ _ _ _ _ (accepted k.before.before.before.before.before) (ap checked_as (sym c.before.x-in-Refused-round_checks-1.given.1) ∙ checked k)
+returns_2 c = let k = c.before in answer_checks _ _ _ _ _ (accepted k.before.before.before.before) (rw (← k.round_short-short.ensures) c.in-Refused-round_checks.ensures)
 
 same_length : tie.Need-shape_of-haplotypes
 same_length c = search rules
@@ -104,7 +104,7 @@ returns_3 : tie.Need-returns-in-Good
 unfolding checked_as
 returns_3 c =
     let r = c.before.before.before.before.before.before.before.before in
-    answer_done _ _ _ _ _ (accepted (checks r.before).before.before.before.before.before) (passed r.before) _ _ r.round_accepted.ensures
+    answer_done _ _ _ _ _ (accepted (checks r.before).before.before.before.before) (passed r.before) _ _ r.round_accepted.ensures
 
 pub call_genotypes_with_haplotypes_spec : {M : Type 1} → statement M
 call_genotypes_with_haplotypes_spec =

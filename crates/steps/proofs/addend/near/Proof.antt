@@ -1,7 +1,6 @@
 -- `steps::addend::near` meets its contract: from T[1604] on the knots are 0, and so is A from 51,328 on.
 -- Assumes nothing.
-use Rattle.std.proofs.Common.{◌≡◌, ◌+◌, ◌-◌, ◌*◌, ◌/◌, ◌%◌, ◌∙◌, arith}
-use Rattle.steps.specs.Knots.{T}
+use Rattle.std.proofs.Common.{◌∙◌, arith}
 use Rattle.steps.proofs.Addends.{line, on_line, far, flat}
 use Rattle.steps.proofs.addend.near.Statement.{statement}
 use Rattle.steps.proofs.addend.near.Tie as tie

@@ -5,7 +5,6 @@ use mathlib.Core.Bool.{true}
 use Prim.Native.Nat.{ℕ, ◌-◌, ◌≤◌, ◌<◌}
 use native.Mathlib.Omega.{arith}
 use borrow.Author.Count.{below_none, below_more}
-use borrow.Author.Tests.{not-true, not-false}
 use Rattle.variants_and_fragments.proofs.First.{first_at, first_end}
 use Rattle.variants_and_fragments.specs.Alleles.{base_ok_at}
 use borrow.Author.Rules.{rules}

@@ -1,6 +1,5 @@
 -- `calls::first_bad_call` meets its contract. The loop's invariant: the records passed are right, or not reached.
 -- Assumes nothing.
-use borrow.Author.Tests.{not-true, not-false}
 use mathlib.Core.Path.{◌≡◌, sym, ◌∙◌}
 use mathlib.Core.Bool.{true}
 use mathlib.Core.Logic.{⊎_elim}

@@ -12,7 +12,6 @@ use Rattle.variants_and_fragments.proofs.First.{first_le}
 use Rattle.variants_and_fragments.proofs.Outcomes.{unless_on, unless_at, each_on, each_at}
 use Rattle.variants_and_fragments.proofs.Walks.{clear_marked}
 use borrow.Author.Rules.{rules}
-use borrow.Author.Tests.{not-true, not-false}
 use Rattle.variants_and_fragments.proofs.chains.check_chains.Statement.{statement}
 use Rattle.variants_and_fragments.proofs.chains.check_chains.Tie as tie
 

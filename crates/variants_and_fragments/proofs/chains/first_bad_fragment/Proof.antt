@@ -3,7 +3,6 @@
 use Rattle.variants_and_fragments.proofs.Walks.{reached_at}
 use native.Mathlib.Numerals.{add-one}
 use borrow.Author.Count.{below_none, below_more}
-use borrow.Author.Tests.{not-true, not-false}
 use mathlib.Core.Path.{◌≡◌, refl, sym, ◌∙◌}
 use mathlib.Core.Bool.{true}
 use Prim.Native.Nat.{ℕ, ◌≤◌, ◌<◌, ◌-◌}

@@ -2,7 +2,7 @@
 -- Assumes nothing.
 use mathlib.Core.Path.{refl, sym, ◌∙◌}
 use Prim.Native.Nat.{◌≤◌}
-use borrow.Author.Tests.{not-true, not-false}
+use native.Mathlib.Omega.{arith}
 use Rattle.variants_and_fragments.specs.Chain.{reached}
 use Rattle.variants_and_fragments.specs.Layout.{max_strand, strand_at}
 use Rattle.variants_and_fragments.proofs.Bools.{true_false}
@@ -19,7 +19,7 @@ strand_of_requires : tie.Need-strand_of-strand-requires
 strand_of_requires c κs = search rules
 
 returns : tie.Need-returns-then-strand-gt-MAX_STRAND
-returns c = record { ok = frag_strand _ _ _ (rw c.before.strand_of-strand.ensures at c.if-strand-gt-MAX_STRAND.true); marked = λ z. true_false z refl }
+returns c = record { ok = frag_strand _ _ _ (omega (arith, c.before.strand_of-strand.ensures, c.if-strand-gt-MAX_STRAND.true)); marked = λ z. true_false z refl }
 
 first_ok_requires : tie.Need-first_ok-requires
 first_ok_requires c κs = search rules

@@ -3,7 +3,6 @@
 use mathlib.Core.Path.{refl, sym, ◌∙◌}
 use native.Mathlib.Omega.{arith}
 use borrow.Author.Rules.{rules}
-use borrow.Author.Tests.{not-true, not-false}
 use Rattle.variants_and_fragments.specs.Chain.{free_ok}
 use Rattle.variants_and_fragments.proofs.Free.{marked_chains}
 use Rattle.variants_and_fragments.proofs.chains.free_ok.Statement.{statement}

@@ -18,10 +18,8 @@ invariant_loop words s seen₀ c used t₀ k₀ seen t k = Walking words s (next
 abbrev decreases_loop : tie.decreases-loop-k
 decreases_loop words s seen₀ c used t₀ k₀ seen t k = suc c - k
 
--- where record t is not passed yet: the loop's head, and the entry
-abbrev lp : tie.Else-seen-t-gt0 invariant_loop decreases_loop → tie.At-loop-k invariant_loop decreases_loop
-lp c = c.before.before.before.before
-
+-- The goals at the test of record t's flag are answered in the last term: a name of theirs would hold the number that the code tests.
+-- from the loop's head to the entry
 abbrev st : tie.At-loop-k invariant_loop decreases_loop → tie.Start invariant_loop decreases_loop
 st c = c.before.before
 
@@ -41,14 +39,6 @@ returns c = let l = c.before.before in walk_end (st l).requires.0 l.loop-k.invar
 slice_read_if2 : tie.Need-bounds-seen-t invariant_loop decreases_loop
 slice_read_if2 c = search rules
 
-same_length_2 : tie.Need-shape_of-seen-then-seen-t-gt0 invariant_loop decreases_loop
-same_length_2 c = search rules
-
-returns_2 : tie.Need-returns-then-seen-t-gt0 invariant_loop decreases_loop
-returns_2 c =
-    let l = c.before.before.before.before in
-    walk_hit (st l).requires.0 l.loop-k.invariant.0 (omega (arith, c.before.before.before.loop-k-test.true)) c.before.before.if-t-eq0.false (λ q. omega (arith, q, c.if-seen-t-gt0.true))
-
 next_call_requires : tie.Need-next_call-next-requires invariant_loop decreases_loop
 next_call_requires c κs = search rules
 
@@ -58,8 +48,8 @@ same_length_3 c = search rules
 returns_3 : tie.Need-returns-then-used-next invariant_loop decreases_loop
 returns_3 c =
     let e = c.before.before in
-    let l = lp e in
-    walk_link (st l).requires.0 l.loop-k.invariant.0 (omega (arith, e.before.before.before.loop-k-test.true)) e.before.before.if-t-eq0.false (omega (arith, e.if-seen-t-gt0.false))
+    let l = e.before.before.before.before in
+    walk_link (st l).requires.0 l.loop-k.invariant.0 (omega (arith, e.before.before.before.loop-k-test.true)) e.before.before.if-t-eq0.false (omega arith)
     (next_in _ _ _ (st l).requires.0 ∙ lt-leb _ _ (rw c.before.next_call-next.ensures at c.if-used-next.true))
 
 slice_write_seen : tie.Need-bounds-seen-t-in-loop-k invariant_loop decreases_loop
@@ -71,10 +61,10 @@ loop_less c = search rules
 loop_again : tie.Need-loop-k-preserved invariant_loop decreases_loop
 loop_again c =
     let e = c.before.before in
-    let l = lp e in
+    let l = e.before.before.before.before in
     let n = c.before.next_call-next.ensures in
     let top = rw n at c.if-used-next.false in
-    (walk_on (st l).requires.0 l.loop-k.invariant.0 (omega (arith, e.before.before.before.loop-k-test.true)) e.before.before.if-t-eq0.false (omega (arith, e.if-seen-t-gt0.false)) (next_in _ _ _ (st l).requires.0 ∙ le-leb _ _ top) top _ n, simp length-set l.loop-k.invariant.1)
+    (walk_on (st l).requires.0 l.loop-k.invariant.0 (omega (arith, e.before.before.before.loop-k-test.true)) e.before.before.if-t-eq0.false (omega arith) (next_in _ _ _ (st l).requires.0 ∙ le-leb _ _ top) top _ n, simp length-set l.loop-k.invariant.1)
 
 same_length_4 : tie.Need-shape_of-seen invariant_loop decreases_loop
 same_length_4 c = search rules
@@ -93,8 +83,9 @@ walk_free_spec =
     same_length
     returns
     slice_read_if2
-    same_length_2
-    returns_2
+    (λ c. search rules)
+    (λ c. let l = c.before.before.before.before in
+    walk_hit (st l).requires.0 l.loop-k.invariant.0 (omega (arith, c.before.before.before.loop-k-test.true)) c.before.before.if-t-eq0.false (λ q. omega (arith, q)))
     next_call_requires
     same_length_3
     returns_3

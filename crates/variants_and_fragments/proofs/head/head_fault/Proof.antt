@@ -2,7 +2,6 @@
 -- Assumes nothing.
 use mathlib.Core.Path.{sym, ◌∙◌}
 use borrow.Author.Rules.{rules}
-use borrow.Author.Tests.{not-true, not-false}
 use Rattle.variants_and_fragments.proofs.Heads.{head_short, head_variants, head_fragments, head_calls, head_cutoff, head_used, head_free, head_right, head_length}
 use Rattle.variants_and_fragments.proofs.head.head_fault.Statement.{statement}
 use Rattle.variants_and_fragments.proofs.head.head_fault.Tie as tie

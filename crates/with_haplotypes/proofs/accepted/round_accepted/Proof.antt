@@ -128,7 +128,7 @@ normalize_all_requires c κs =
 write_finals_requires : tie.Need-write_finals-requires
 unfolding run_in_scratch_requires
 write_finals_requires c κs =
-    let n = c.before.before.before.before.before in
+    let n = c.before.before.before.before in
     let r = n.before.before.before.before.before.before.before.before.before in
     let s = start r.before in
     let R = run_here s.requires.0 (start_here s.requires.0 _ _ _ (lent _) s.requires.1.haplotypes_long (phase r.before).write_phase.ensures.0) (r.run_in_scratch-r.ensures _ (run_in_scratch_requires r.before r.run_in_scratch-r.lifetimes).holds) in
@@ -152,8 +152,8 @@ same_length_5 c = search rules
 returns : tie.Need-returns
 unfolding run_in_scratch_requires
 returns c =
-    let F = c.before.before.before.before.write_finals.ensures in
-    let n = c.before.before.before.before.before.before.before.before.before.before in
+    let F = c.write_finals.ensures in
+    let n = c.before.before.before.before.before.before.before.before.before in
     let r = n.before.before.before.before.before.before.before.before.before in
     let s = start r.before in
     let w = phase r.before in

@@ -5,7 +5,7 @@ use Prim.Native.Nat.{◌<◌}
 use borrow.Author.Rules.{rules}
 use Rattle.genotype_probs.specs.Inner.Rates.{rates_fault}
 use Rattle.haplotype_assembly.specs.Inner.GivenPhase.{phase_fault}
-use Rattle.shuffle.specs.Inner.Answers.{checked_as as ordersAs}
+use Rattle.shuffle.specs.Inner.Answers.{checked_as as orders_as}
 use Rattle.genotype_probs.proofs.AcceptedPriors.{rates_good}
 use Rattle.with_haplotypes.specs.Inner.Checks.{checked_as}
 use Rattle.with_haplotypes.proofs.CheckLaws.{rates_refused, phase_refused, orders_refused, orders_passed}
@@ -20,7 +20,7 @@ unfolding checked_as
 returns c = rates_refused _ _ _ _ _ _ _ _ c.before.rates_fault-p.ensures c.if-p-lt7.true
 
 -- the rates are accepted
-good : (c : tie.Else-p-lt7) → rates_fault c.before.before.before.before.args.rates ≡ 7
+good : (c : tie.Else-p-lt7) → rates_fault c.args.rates ≡ 7
 good c = rates_good _ c.before.rates_fault-p.result c.before.rates_fault-p.ensures c.if-p-lt7.false
 
 phase_fault_requires : tie.Need-phase_fault-v-requires
@@ -47,12 +47,12 @@ check_limits_requires : tie.Need-check_limits-requires
 check_limits_requires c κs = search rules
 
 returns_3 : tie.Need-returns-in-Bad
-unfolding checked_as ordersAs
-returns_3 c = orders_refused _ _ _ _ _ _ _ (good c.before.before.before.before.before.before) _ (clean c.before.before.before.before) (ap ordersAs (sym c.before.o-1.given.1) ∙ c.before.before.before.check_orders.ensures)
+unfolding checked_as orders_as
+returns_3 c = orders_refused _ _ _ _ _ _ _ (good c.before.before.before.before) _ (clean c.before.before) c.in-Bad.ensures
 
 returns_4 : tie.Need-returns-in-Good
-unfolding ordersAs
-returns_4 c = orders_passed _ _ _ _ _ _ _ (good c.before.before.before.before.before.before.before) _ _ (clean c.before.before.before.before.before) (ap ordersAs (sym c.before.before.m-1.given.1) ∙ c.before.before.before.before.check_orders.ensures) c.check_limits.ensures
+unfolding orders_as
+returns_4 c = orders_passed _ _ _ _ _ _ _ (good c.before.before.before.before.before) _ _ (clean c.before.before.before) c.in-Good.ensures c.check_limits.ensures
 
 pub round_checks_spec : {M : Type 1} → statement M
 round_checks_spec =

@@ -8,90 +8,66 @@ use Rattle.with_haplotypes.proofs.RunLaws.{known, all_ones, calls_asked, liks_he
 use Rattle.with_haplotypes.proofs.run.run_prepared.Statement.{statement}
 use Rattle.with_haplotypes.proofs.run.run_prepared.Tie as tie
 
--- the start, the likelihoods written, the total before the run, and the run
-abbrev st : tie.After-write-likelihoods-arg2 → tie.Start
-st c = c.before.before.before.before.before.before.before.before.before.before.before.before
-
-abbrev wl : tie.After-standing_total-start → tie.After-write_likelihoods
-wl c = c.before.before.before.before.before
-
-abbrev first : tie.After-run_sweeps-r → tie.After-standing_total-start
-first c = c.before.before.before.before.before
-
-abbrev ran : tie.After-ones-all → tie.After-run_sweeps-r
-ran c = c.before.before.before.before.before
-
 lines_requires : tie.Need-lines-l-requires
 lines_requires c κs = search rules
 
 write_likelihoods_requires : tie.Need-write_likelihoods-requires
 write_likelihoods_requires c κs =
-    let p = (st c).requires in
+    let p = c.requires in
     let q = calls_asked p.given p.prepared _ _ p.given.good_start p.given.ph_long in
     (q.0, q.1, omega (arith, p.given.liks_long))
 
 standing_total_requires : tie.Need-standing_total-start-requires
 standing_total_requires c κs =
-    let w = c.before.before.before.before in
-    let p = (st w.before).requires in
-    let a = standing_asks p.given p.prepared p.given.good_start (liks_here p.given p.prepared w.write_likelihoods.ensures) in
-    ((w.before.before.before.lines-l.ensures, a.0), a.1)
+    let p = c.requires in
+    let a = standing_asks p.given p.prepared p.given.good_start (liks_here p.given p.prepared c.write_likelihoods.ensures) in
+    ((c.lines-l.ensures, a.0), a.1)
 
 run_sweeps_requires : tie.Need-run_sweeps-r-requires
 run_sweeps_requires c κs =
-    let w = wl c.before.before.before.before in
-    let p = (st w.before).requires in
-    (w.before.before.before.lines-l.ensures, record { case = _; holds = begins p.given p.prepared w.write_likelihoods.ensures })
+    let p = c.requires in
+    (c.lines-l.ensures, record { case = _; holds = begins p.given p.prepared c.write_likelihoods.ensures })
 
 ones_requires : tie.Need-ones-all-requires
 ones_requires c κs = search rules
 
 standing_total_requires_2 : tie.Need-standing_total-end-requires
 standing_total_requires_2 c κs =
-    let o = c.before.before.before in
-    let w = wl (first (ran o)) in
-    let p = (st w.before).requires in
-    let r = (ran o).run_sweeps-r.ensures _ (begins p.given p.prepared w.write_likelihoods.ensures) in
+    let p = c.requires in
+    let r = c.run_sweeps-r.ensures _ (begins p.given p.prepared c.write_likelihoods.ensures) in
     let a = standing_asks p.given p.prepared (left_good p.given p.prepared r) r.liks in
-    ((w.before.before.before.lines-l.ensures, a.0), a.1)
+    ((c.lines-l.ensures, a.0), a.1)
 
 slice_aggregate_total : tie.Need-slice_bounds-total-end
 slice_aggregate_total c = search rules
 
 total_requires : tie.Need-total-source-requires
 total_requires c κs =
-    let o = c.before.before.before.before.before.before.before in
-    let w = wl (first (ran o)) in
-    let p = (st w.before).requires in
-    let r = (ran o).run_sweeps-r.ensures _ (begins p.given p.prepared w.write_likelihoods.ensures) in
+    let p = c.requires in
+    let r = c.run_sweeps-r.ensures _ (begins p.given p.prepared c.write_likelihoods.ensures) in
     let k = known p.given.given in
-    ((w.before.before.before.lines-l.ensures, k.sized.f_top), total_asks p.given p.prepared _ (left_good p.given p.prepared r) (omega (arith, k.sized.n_top, o.ones-all.ensures.0)))
+    ((c.lines-l.ensures, k.sized.f_top), total_asks p.given p.prepared _ (left_good p.given p.prepared r) (omega (arith, k.sized.n_top, c.ones-all.ensures.0)))
 
 same_length : tie.Need-shape_of-hap
 same_length c = search rules
 
 same_length_2 : tie.Need-shape_of-lik
 same_length_2 c =
-    let r = ran c.before.before.before.before.before.before.before.before in
-    r.run_sweeps-r.auto.lik ∙ (wl (first r)).write_likelihoods.auto.lik
+    c.run_sweeps-r.auto.lik ∙ c.write_likelihoods.auto.lik
 
 same_length_3 : tie.Need-shape_of-post
 same_length_3 c = search rules
 
 returns : tie.Need-returns
 returns c p =
-    let e = c.before.before.before.before in
-    let o = e.before.before.before.before in
-    let b = first (ran o) in
-    let w = wl b in
-    let begun = begins p.given p.prepared w.write_likelihoods.ensures in
-    let r = (ran o).run_sweeps-r.ensures _ begun in
+    let begun = begins p.given p.prepared c.write_likelihoods.ensures in
+    let r = c.run_sweeps-r.ensures _ begun in
     let g = left_good p.given p.prepared r in
     let k = known p.given.given in
     run_made p.given p.prepared r _ refl refl
-    (b.standing_total-start.ensures ∙ phased_total_lem p.given p.prepared p.given.good_start begun.standing.liks)
-    (e.standing_total-end.ensures ∙ phased_total_lem p.given p.prepared g r.liks)
-    (c.total-source.ensures.0 ∙ source_total_lem p.given p.prepared _ g (omega (arith, k.sized.n_top, o.ones-all.ensures.0)) (λ v h. all_ones _ o.ones-all.ensures.1 v (omega (arith, k.sized.n_top, o.ones-all.ensures.0))))
+    (c.standing_total-start.ensures ∙ phased_total_lem p.given p.prepared p.given.good_start begun.standing.liks)
+    (c.standing_total-end.ensures ∙ phased_total_lem p.given p.prepared g r.liks)
+    (c.total-source.ensures.0 ∙ source_total_lem p.given p.prepared _ g (omega (arith, k.sized.n_top, c.ones-all.ensures.0)) (λ v h. all_ones _ c.ones-all.ensures.1 v (omega (arith, k.sized.n_top, c.ones-all.ensures.0))))
 
 pub run_prepared_spec : {M : Type 1} → statement M
 run_prepared_spec =
