@@ -1,5 +1,6 @@
 // The case of the sweeps in lent slices: each read's likelihoods and the totals, from the rows.
 #![tactic(auto)]
+
 pub mod likelihoods;
 pub mod sweep_case;
 pub mod totals;

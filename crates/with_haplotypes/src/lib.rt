@@ -1,5 +1,6 @@
 // One round of calling genotypes with haplotypes, after HapCUT2: document 01, sections 6 and 7.
 #![tactic(auto)]
+
 ghost use Rattle.with_haplotypes.specs.Round.{round_input};
 ghost use Rattle.with_haplotypes.specs.Promise.{round_slices, outcome_of, CalledWithHaplotypes};
 

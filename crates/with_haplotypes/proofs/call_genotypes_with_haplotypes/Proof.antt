@@ -1,13 +1,12 @@
 -- `call_genotypes_with_haplotypes` meets its contract: each way out is one answer of `RoundAnswers`.
 -- Assumes nothing.
-use mathlib.Core.Path.{◌≡◌, sym, ap, ◌∙◌}
+use mathlib.Core.Path.{◌≡◌, sym}
 use Prim.Native.Nat.{ℕ}
 use borrow.Author.Rules.{rules}
 use lib.ListN.{length}
 use Rattle.variants_and_fragments.specs.declared.Sizes.{Sizes}
 use Rattle.variants_and_fragments.specs.Inner.Accepted.{CaseIn}
 use Rattle.variants_and_fragments.specs.Check.{check_case_outcome}
-use Rattle.variants_and_fragments.specs.Check as check
 use Rattle.variants_and_fragments.specs.Refusals.{Outcome, done}
 use Rattle.variants_and_fragments.proofs.Accepted.{case_in}
 use Rattle.variants_and_fragments.proofs.Outcomes.{is_done}

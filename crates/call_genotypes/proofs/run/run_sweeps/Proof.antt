@@ -3,7 +3,6 @@ use mathlib.Core.Path.{refl}
 use Prim.Native.Nat.{ℕ, ◌+◌, ◌-◌, ◌*◌, ◌%◌, ◌^◌, ◌<◌}
 use native.Mathlib.Omega.{arith}
 use borrow.Author.Rules.{rules}
-use borrow.Author.Tests.{not-true, not-false}
 use Rattle.sweeps.specs.Sweeps.{SweepCase}
 use Rattle.likelihoods.specs.Inner.Held.{sweep_reads}
 use Rattle.call_genotypes.specs.Inner.Scores.{sweep_state}

@@ -1,5 +1,5 @@
 -- `call_genotypes::score::far_mixes` meets its contract: above, ln(1 + exp(..)) of each distance is that distance; below, it is 0. Assumes nothing.
-use mathlib.Core.Path.{◌≡◌, sym, ap, ◌∙◌}
+use mathlib.Core.Path.{◌≡◌, sym, ◌∙◌}
 use mathlib.Core.Bool.{cond}
 use Prim.Native.Nat.{◌+◌, ◌^◌, ◌≤◌}
 use native.Mathlib.Omega.{arith}

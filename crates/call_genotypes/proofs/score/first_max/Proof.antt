@@ -1,6 +1,6 @@
 -- `call_genotypes::score::first_max` meets its contract. The loop's invariant: b is the first of the greatest among the first g, and best
 -- is number b. Assumes nothing.
-use mathlib.Core.Path.{◌≡◌, ap}
+use mathlib.Core.Path.{◌≡◌}
 use mathlib.Core.Bool.{cond}
 use mathlib.Core.Logic.{⊎_elim}
 use Prim.Native.Nat.{ℕ, ◌≤◌, ◌-◌, ◌+◌}

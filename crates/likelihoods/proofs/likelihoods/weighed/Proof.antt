@@ -1,7 +1,7 @@
 -- `likelihoods::likelihoods::weighed` meets its contract: a product of a byte and a quality does not wrap, and with 1 it is the quality.
 -- Assumes nothing.
 use mathlib.Core.Path.{◌≡◌}
-use Prim.Native.Nat.{◌*◌, ◌^◌, ◌<◌, ◌≤◌}
+use Prim.Native.Nat.{◌^◌, ◌<◌, ◌≤◌}
 use native.Mathlib.Nat.{mul-le-mul}
 use native.Mathlib.Omega.{arith}
 use borrow.Author.Rules.{rules}

@@ -1,6 +1,6 @@
 -- `checks::round_checks` meets its contract: each way out is one law of CheckLaws.
 -- Assumes nothing.
-use mathlib.Core.Path.{◌≡◌, sym, ap, ◌∙◌}
+use mathlib.Core.Path.{◌≡◌}
 use Prim.Native.Nat.{◌<◌}
 use borrow.Author.Rules.{rules}
 use Rattle.genotype_probs.specs.Inner.Rates.{rates_fault}
