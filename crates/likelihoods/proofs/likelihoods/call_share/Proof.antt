@@ -1,15 +1,15 @@
 -- `likelihoods::likelihoods::call_share` meets its contract: a row that is there has its pair and its flag.
 -- Assumes nothing.
-use mathlib.Core.Path.{◌≡◌, ap, ◌∙◌}
+use mathlib.Core.Path.{◌≡◌, sym, ap, ◌∙◌}
 use Prim.Native.Nat.{ℕ, ◌+◌, ◌*◌, ◌<◌, ◌≤◌}
 use native.Mathlib.Omega.{arith}
 use borrow.Author.Rules.{rules}
-use lib.IntN.{ℤ, nat_abs}
-use lib.ListN.{length}
+use lib.IntN.{ℤ, pos, nat_abs}
+use lib.ListN.{length, get_or}
 use Rattle.variants_and_fragments.specs.Case.{Call}
 use Rattle.pileup.specs.declared.row.Row.{Row}
 use Rattle.sweeps.specs.Sweeps.{call_term}
-use Rattle.likelihoods.specs.Inner.Likelihoods.{call_at, allele_on}
+use Rattle.likelihoods.specs.Inner.Likelihoods.{call_at, flagged, allele_on, call_share}
 use Rattle.likelihoods.proofs.CallShares.{term_small, term_of, share_flagged, share_unflagged}
 use Rattle.likelihoods.proofs.likelihoods.call_share.Statement.{statement}
 use Rattle.likelihoods.proofs.likelihoods.call_share.Tie as tie
@@ -83,30 +83,40 @@ term s = call_term (call s) (allele_on s.args.hap.now s.args.h (call s).variant)
 small : (s : tie.Start) → nat_abs (term s) ≤ 262144
 small s = term_small 262144 (call s) _ (small_quals s).0 (small_quals s).1
 
+-- the flag of the call, as it is read
+abbrev flag : tie.After-unpack-row → ℕ
+flag u = get_or (start u).args.mask.now u.unpack-row.result.variant 0
+
+flag_is : (u : tie.After-unpack-row) → flag u ≡ get_or (start u).args.mask.now (call (start u)).variant 0
+flag_is u = ap (λ (v : ℕ). get_or (start u).args.mask.now v 0) (variant_is u)
+
+-- what is to hold of a result
+abbrev Shared : tie.Start → ℤ → Type 0
+Shared s x = (x ≡ call_share (flagged s.args.mask.now) (allele_on s.args.hap.now s.args.h) (call s)) × (nat_abs x ≤ 262144)
+
 -- the term, where the flag is 1
-result_is : (c : tie.Then-flag-eq1) → let r = c.before in r.call_term-y.result.0 ≡ term (start (unpacking r.before.before))
-result_is c =
-    let r = c.before in
+result_is : (r : tie.After-call_term-y) → flag (unpacking r.before.before) ≡ 1 → r.call_term-y.result.0 ≡ term (start (unpacking r.before.before))
+result_is r e =
     let w = r.before.before in
     let u = unpacking w in
-    let q = w.weighed-qual.ensures c.if-flag-eq1.true ∙ qual_is u in
-    let o = w.weighed-one_minus_qual.ensures c.if-flag-eq1.true ∙ other_is u in
+    let q = w.weighed-qual.ensures e ∙ qual_is u in
+    let o = w.weighed-one_minus_qual.ensures e ∙ other_is u in
     r.call_term-y.ensures
     ∙ term_of (call (start u)) _ _ _ _ _ (allele_is u) (ap (λ (v : ℕ). allele_on (start u).args.hap.now (start u).args.h v) (variant_is u)) q o
 
-returns : tie.Need-returns-then-flag-eq1
-returns c =
-    let u = unpacking c.before.before.before in
+counted : (r : tie.After-call_term-y) → flag (unpacking r.before.before) ≡ 1 → Shared (start (unpacking r.before.before)) r.call_term-y.result.0
+counted r e =
+    let u = unpacking r.before.before in
     let s = start u in (
-      result_is c ∙ share_flagged s.args.rows.now s.args.hap.now s.args.mask.now s.args.i s.args.h (rw (variant_is u) at c.if-flag-eq1.true),
-      rw (result_is c) (small s),
+      result_is r e ∙ share_flagged s.args.rows.now s.args.hap.now s.args.mask.now s.args.i s.args.h (sym (flag_is u) ∙ e),
+      rw (result_is r e) (small s),
     )
 
-returns_2 : tie.Need-returns-else-flag-eq1
-returns_2 c =
-    let u = unpacking c.before.before.before in
+left_out : (r : tie.After-call_term-y) → (flag (unpacking r.before.before) ≡ 1 → ⊥) → Shared (start (unpacking r.before.before)) (pos 0)
+left_out r e =
+    let u = unpacking r.before.before in
     let s = start u in
-    (share_unflagged s.args.rows.now s.args.hap.now s.args.mask.now s.args.i s.args.h (rw (variant_is u) at c.if-flag-eq1.false), omega arith)
+    (share_unflagged s.args.rows.now s.args.hap.now s.args.mask.now s.args.i s.args.h (λ x. e (flag_is u ∙ x)), omega arith)
 
 pub call_share_spec : {M : Type 1} → statement M
 call_share_spec =
@@ -122,5 +132,5 @@ call_share_spec =
     add_call_term
     shared_slice_read_call_term
     call_term_requires
-    returns
-    returns_2)
+    (λ c. counted c.before (omega arith))
+    (λ c. left_out c.before (λ e. omega arith)))
