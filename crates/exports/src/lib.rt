@@ -3,6 +3,7 @@
 // One file per operation. A new one joins with its file here, its promise in specs/Promises.antt, its answer's laws in proofs/Numbers.antt where
 // it returns values, and its lines in each file of capi/.
 #![tactic(auto)]
+
 mod answers;
 mod check;
 mod filter;

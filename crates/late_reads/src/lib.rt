@@ -1,6 +1,7 @@
 // Reads that come late (requests 1 and 3): a fragment arrives or departs, its call records are taken or freed, and the likelihoods, the
 // counts and the phased total are updated.
 #![tactic(auto)]
+
 ghost use Rattle.std.specs.Prelude.{true, ◌≡◌, ◌<◌};
 ghost use Rattle.variants_and_fragments.specs.Chain.{present_at};
 ghost use Rattle.late_reads.specs.Values.{values};

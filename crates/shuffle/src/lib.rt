@@ -1,5 +1,6 @@
 // Sweep orders: the operation `sweep_orders`, and the check of lent orders (document 01, section 7, refusal 8).
 #![tactic(auto)]
+
 ghost use Rattle.std.specs.Prelude.{◌≡◌, ◌≤◌};
 ghost use Rattle.variants_and_fragments.specs.Refusals.{outcome_of};
 ghost use Rattle.shuffle.specs.Answers.{orders_outcome, SweepOrders};

@@ -3,7 +3,7 @@
 use mathlib.Core.Path.{◌≡◌, refl, ap, ◌∙◌}
 use mathlib.Core.Logic.{◌⊎◌, inl, inr}
 use mathlib.Core.List.{List, [], ◌∷◌}
-use Prim.Native.Nat.{ℕ, ◌<◌, ◌≤◌}
+use Prim.Native.Nat.{ℕ, ◌<◌}
 use lib.Dec.{T, eqb, eqb→eq, eqb_refl}
 use lib.Signed.{◌≤ℤ◌, ≤ℤ_refl}
 use Rattle.shuffle.specs.Permutation.{member}

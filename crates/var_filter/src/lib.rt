@@ -1,5 +1,6 @@
 // `var_filter`: the filter value of each variant, by a window that slides along them.
 #![tactic(auto)]
+
 ghost use Rattle.std.specs.Prelude.{◌≡◌, List, ℕ, ◌≤◌, ◌<◌, length};
 ghost use Rattle.variants_and_fragments.specs.Inner.Accepted.{CaseIn};
 ghost use Rattle.variants_and_fragments.specs.Refusals.{outcome_of};

@@ -22,33 +22,33 @@ lent c =
     (values c.args.likelihoods.now c.args.counts.now c.args.total.0)
 
 -- ---- past the case and what is lent with it
-abbrev st : tie.In-Accepted-2 → tie.Start
-st c = c.before.before.before.before.before.before.before.before.before
+abbrev st : tie.In-Accepted → tie.Start
+st c = c.before.before.before.before.before
 
-abbrev sizes : tie.In-Accepted-2 → Sizes
-sizes c = c.kept-in-Accepted-1.given.0.0
+abbrev sizes : tie.In-Accepted → Sizes
+sizes c = c.in-Accepted.s
 
-accepted : (c : tie.In-Accepted-2) → kept_outcome (lent (st c)) ≡ done (sizes c)
-accepted c = check_done _ _ (ap check.outcome_of (sym c.kept-in-Accepted-1.given.1) ∙ c.before.before.check_kept-kept.ensures)
+accepted : (c : tie.In-Accepted) → kept_outcome (lent (st c)) ≡ done (sizes c)
+accepted c = check_done _ _ c.in-Accepted.ensures
 
-kept : (c : tie.In-Accepted-2) → Kept (lent (st c)).words (sizes c) (lent (st c)).phase (lent (st c)).haplotypes (lent (st c)).kept
+kept : (c : tie.In-Accepted) → Kept (lent (st c)).words (sizes c) (lent (st c)).phase (lent (st c)).haplotypes (lent (st c)).kept
 kept c = kept_past (lent (st c)) (sizes c) (accepted c)
 
 -- ---- past the arriving calls
-abbrev from : tie.After-arriving_fault-fault → tie.In-Accepted-2
-from c = c.before.before.before
+abbrev from : tie.After-arriving_fault-fault → tie.In-Accepted
+from c = c.before
 
-abbrev tests : tie.In-Accepted-2 → Outcome Sizes
+abbrev tests : tie.In-Accepted → Outcome Sizes
 tests c = arriving_tests (lent (st c)).words (sizes c) (st c).args.fragment (st c).args.strand (st c).args.calls.now
 
 tested : (c : tie.After-arriving_fault-fault) → check.outcome_of c.arriving_fault-fault.result ≡ tests (from c)
 tested c = rw (to_z-of_z (st (from c)).ranges.strand) at c.arriving_fault-fault.ensures
 
-abbrev past : tie.In-Accepted-fault → tie.In-Accepted-2
-past c = from c.before.before
+abbrev past : tie.In-Accepted-fault → tie.In-Accepted
+past c = from c.before
 
-right : (c : tie.In-Accepted-fault) → tests (past c) ≡ done c.enum_told-1.given.0.0
-right c = check_done _ _ (ap check.outcome_of (sym c.enum_told-1.given.1) ∙ tested c.before.before)
+right : (c : tie.In-Accepted-fault) → tests (past c) ≡ done c.in-Accepted-fault.field-0
+right c = check_done _ _ (ap check.outcome_of (sym c.in-Accepted-fault.is) ∙ tested c.before)
 
 -- ---- the obligations
 check_kept_requires : tie.Need-check_kept-kept-requires
@@ -61,7 +61,7 @@ enum_known_kept_2 : tie.Need-enum_known-kept-in-Accepted-1
 enum_known_kept_2 c = search rules
 
 arriving_fault_requires : tie.Need-arriving_fault-fault-requires
-arriving_fault_requires c κs = (kept c.before.before).ready.case_in
+arriving_fault_requires c κs = (kept c).ready.case_in
 
 enum_known_fault : tie.Need-enum_known-fault
 enum_known_fault c = search rules
@@ -85,7 +85,7 @@ same_length_3 : tie.Need-shape_of-counts-in-Refused
 same_length_3 c = search rules
 
 returns : tie.Need-returns-in-Refused
-returns c = late_refuses _ (arrive_stops _ _ _ _ _ (ap check.outcome_of (sym c.before.kept-1.given.1) ∙ c.before.before.before.check_kept-kept.ensures))
+returns c = late_refuses _ (arrive_stops _ _ _ _ _ c.in-Refused.ensures)
 
 same_length_4 : tie.Need-shape_of-words-in-Refused-fault
 same_length_4 c = search rules
@@ -98,8 +98,8 @@ same_length_6 c = search rules
 
 returns_2 : tie.Need-returns-in-Refused-fault
 returns_2 c =
-    let f = c.before.before.before in
-    late_refuses _ (arriving_stops _ _ _ _ _ (accepted (from f)) _ (ap check.outcome_of (sym c.before.fault-1.given.1) ∙ tested f))
+    let f = c.before in
+    late_refuses _ (arriving_stops _ _ _ _ _ (accepted (from f)) _ (ap check.outcome_of (sym c.in-Refused-fault.is) ∙ tested f))
 
 same_length_7 : tie.Need-shape_of-words-in-Accepted-fault
 same_length_7 c = search rules

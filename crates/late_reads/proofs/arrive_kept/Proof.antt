@@ -5,7 +5,6 @@ use mathlib.Core.Bool.{true}
 use Prim.Native.Nat.{ℕ}
 use native.Mathlib.Omega.{arith}
 use borrow.Author.Rules.{rules}
-use borrow.Author.Tests.{not-true, not-false}
 use lib.IntN.{ℤ, pos, ◌+ℤ◌}
 use Rattle.steps.specs.Logs.{mix_of}
 use Rattle.variants_and_fragments.specs.Words.{within}
@@ -31,7 +30,7 @@ abbrev weighed : tie.After-mixed → tie.After-arriving_likelihoods-read
 weighed m = m.before.before.before.before
 
 abbrev start : tie.After-mixed → tie.Start
-start m = (weighed m).before.before.before.before.before
+start m = (weighed m).before.before.before.before
 
 abbrev read : tie.Start → ℕ → ℤ
 read s h = likelihood_on (fixed_at s.args.words.now s.args.phase.now s.args.haplotypes.now) (arriving_read s.args.arrival.strand s.args.calls.now) h
@@ -71,11 +70,11 @@ same_length c = search rules
 returns : tie.Need-returns-then-not-total_ok
 returns c =
     let s = entry c.before in
-    refuses_total (arrival s.requires.0 s.requires.1) (sym (total_fits c.before) ∙ not-true c.before.total_ok.result c.if-not-total_ok.true)
+    refuses_total (arrival s.requires.0 s.requires.1) (sym (total_fits c.before) ∙ c.if-not-total_ok.true)
 
 arriving_fits_requires : tie.Need-arriving_fits-requires
 arriving_fits_requires c κs =
-    let s = entry c.before.before.before in
+    let s = entry c.before in
     (s.requires.0.ready.case_in, (s.requires.1, (counts_in s.requires.0, s.requires.0.counts_long)))
 
 same_length_2 : tie.Need-shape_of-words-then-not-arriving_fits
@@ -86,17 +85,17 @@ same_length_3 c = search rules
 
 -- where the total is in range, and the counts are tested
 abbrev total_kept : tie.After-arriving_fits → tie.Else-not-total_ok
-total_kept a = a.before.before.before
+total_kept a = a.before
 
 total_good : (e : tie.Else-not-total_ok) → within lowest_total (pos 0) (sum (entry e.before)) ≡ true
-total_good e = sym (total_fits e.before) ∙ not-false e.before.total_ok.result e.if-not-total_ok.false
+total_good e = sym (total_fits e.before) ∙ e.if-not-total_ok.false
 
 returns_2 : tie.Need-returns-then-not-arriving_fits
 returns_2 c =
     let a = c.before in
     let e = total_kept a in
     let s = entry e.before in
-    refuses_counts (arrival s.requires.0 s.requires.1) (total_good e) (sym a.arriving_fits.ensures ∙ not-true a.arriving_fits.result c.if-not-arriving_fits.true)
+    refuses_counts (arrival s.requires.0 s.requires.1) (total_good e) (sym a.arriving_fits.ensures ∙ c.if-not-arriving_fits.true)
 
 -- where everything is written
 abbrev origin : tie.Else-not-arriving_fits → tie.Start
@@ -110,12 +109,12 @@ put_likelihoods_requires c κs =
 
 count_arriving_requires : tie.Need-count_arriving-requires
 count_arriving_requires c κs =
-    let s = origin c.before.before.before.before.before in
+    let s = origin c.before.before.before.before in
     (s.requires.0.ready.case_in, (s.requires.1, (counts_in s.requires.0, s.requires.0.counts_long)))
 
 lay_arrival_requires : tie.Need-lay_arrival-requires
 lay_arrival_requires c κs =
-    let s = origin c.before.before.before.before.before.before.before.before in
+    let s = origin c.before.before.before.before.before.before.before in
     (s.requires.0.ready.case_in, s.requires.1)
 
 same_length_4 : tie.Need-shape_of-words
@@ -132,14 +131,14 @@ unfolding arrived
 returns_3 c =
     let laid = c.before in
     let counted = laid.before.before.before in
-    let put = counted.before.before.before.before in
+    let put = counted.before.before.before in
     let k = put.before.before in
     let a = k.before in
     let e = total_kept a in
     let m = e.before.before in
     let s = start (shared m) in
     let l = (weighed (shared m)).arriving_likelihoods-read.ensures in
-    updates (arrival s.requires.0 s.requires.1) _ (sum_is m) (total_good e) (sym a.arriving_fits.ensures ∙ not-false a.arriving_fits.result k.if-not-arriving_fits.false)
+    updates (arrival s.requires.0 s.requires.1) _ (sum_is m) (total_good e) (sym a.arriving_fits.ensures ∙ k.if-not-arriving_fits.false)
     (same_slices laid.lay_arrival.ensures (put.put_likelihoods.ensures ∙ same_put s.args.likelihoods.now s.args.arrival.fragment l.0.0 l.1.0) counted.count_arriving.ensures)
 
 pub arrive_kept_spec : {M : Type 1} → statement M

@@ -1,13 +1,11 @@
 -- `depart` meets its contract: what is refused is refused by a test of the definition, and past the tests `depart_kept` keeps the promise.
 -- Assumes nothing.
-use mathlib.Core.Path.{◌≡◌, sym, ap, ◌∙◌}
+use mathlib.Core.Path.{◌≡◌, sym, ◌∙◌}
 use mathlib.Core.Bool.{true}
 use borrow.Author.Rules.{rules}
-use borrow.Author.Tests.{not-true, not-false}
 use Rattle.variants_and_fragments.specs.declared.Sizes.{Sizes}
 use Rattle.variants_and_fragments.specs.declared.Refusal.TheVariants.{Fragment}
 use Rattle.variants_and_fragments.specs.Chain.{present_at}
-use Rattle.variants_and_fragments.specs.Check as check
 use Rattle.variants_and_fragments.specs.Refusals.{done}
 use Rattle.late_reads.specs.Values.{values}
 use Rattle.late_reads.specs.LateReads.{LateInput, late_input, kept_outcome}
@@ -25,24 +23,24 @@ lent c =
     (values c.args.likelihoods.now c.args.counts.now c.args.total.0)
 
 -- ---- past the case and what is lent with it
-abbrev st : tie.In-Accepted-2 → tie.Start
-st c = c.before.before.before.before.before.before.before.before.before
+abbrev st : tie.In-Accepted → tie.Start
+st c = c.before.before.before.before.before
 
-abbrev sizes : tie.In-Accepted-2 → Sizes
-sizes c = c.kept-in-Accepted-1.given.0.0
+abbrev sizes : tie.In-Accepted → Sizes
+sizes c = c.in-Accepted.s
 
-accepted : (c : tie.In-Accepted-2) → kept_outcome (lent (st c)) ≡ done (sizes c)
-accepted c = check_done _ _ (ap check.outcome_of (sym c.kept-in-Accepted-1.given.1) ∙ c.before.before.check_kept-kept.ensures)
+accepted : (c : tie.In-Accepted) → kept_outcome (lent (st c)) ≡ done (sizes c)
+accepted c = check_done _ _ c.in-Accepted.ensures
 
-kept : (c : tie.In-Accepted-2) → Kept (lent (st c)).words (sizes c) (lent (st c)).phase (lent (st c)).haplotypes (lent (st c)).kept
+kept : (c : tie.In-Accepted) → Kept (lent (st c)).words (sizes c) (lent (st c)).phase (lent (st c)).haplotypes (lent (st c)).kept
 kept c = kept_past (lent (st c)) (sizes c) (accepted c)
 
 -- ---- past the fragment's number and past the test whether it is present
-abbrev from1 : tie.Else-n-f → tie.In-Accepted-2
-from1 c = c.before.before
+abbrev from1 : tie.Else-n-f → tie.In-Accepted
+from1 c = c.before
 
 abbrev below2 : tie.After-is_present → tie.Else-n-f
-below2 c = c.before.before
+below2 c = c.before
 
 present : (c : tie.Else-not-is_present) → let k = from1 (below2 c.before) in present_at (lent (st k)).words (sizes k) (st k).args.fragment ≡ true
 present c = sym c.before.is_present.ensures ∙ c.if-not-is_present.false
@@ -67,10 +65,10 @@ same_length_3 : tie.Need-shape_of-counts-then-n-f
 same_length_3 c = search rules
 
 returns : tie.Need-returns-then-n-f
-returns c = late_refuses (Fragment _) (depart_past _ _ _ (accepted c.before.before) c.if-n-f.true)
+returns c = late_refuses (Fragment _) (depart_past _ _ _ (accepted c.before) c.if-n-f.true)
 
 is_present_requires : tie.Need-is_present-requires
-is_present_requires c κs = ((kept (from1 c.before)).ready.case_in.sized, c.before.if-n-f.false)
+is_present_requires c κs = ((kept (from1 c)).ready.case_in.sized, c.if-n-f.false)
 
 same_length_4 : tie.Need-shape_of-words-then-not-is_present
 same_length_4 c = search rules
@@ -102,7 +100,7 @@ same_length_9 : tie.Need-shape_of-counts-in-Refused
 same_length_9 c = search rules
 
 returns_3 : tie.Need-returns-in-Refused
-returns_3 c = late_refuses _ (depart_stops _ _ _ (ap check.outcome_of (sym c.before.kept-1.given.1) ∙ c.before.before.before.check_kept-kept.ensures))
+returns_3 c = late_refuses _ (depart_stops _ _ _ c.in-Refused.ensures)
 
 same_length_10 : tie.Need-shape_of-words-else-not-is_present
 same_length_10 c = search rules

@@ -5,7 +5,6 @@ use mathlib.Core.Bool.{true}
 use Prim.Native.Nat.{ℕ, ◌+◌, ◌*◌, ◌^◌, ◌≤◌}
 use native.Mathlib.Omega.{arith}
 use borrow.Author.Rules.{rules}
-use borrow.Author.Tests.{not-true, not-false}
 use lib.IntN.{ℤ, pos, neg_ℤ, nat_abs, ◌+ℤ◌, ◌-ℤ◌}
 use lib.ListN.{get_or}
 use mir.Syntax.{w64}
@@ -100,11 +99,11 @@ total_fits t = t.total_ok.ensures ∙ ap (within lowest_total (pos 0)) (rest_is 
 returns : tie.Need-returns-then-not-total_ok
 returns c =
     let s = entry c.before in
-    refuses_total (departure s.requires.0 s.args.f s.requires.1.0) (sym (total_fits c.before) ∙ not-true c.before.total_ok.result c.if-not-total_ok.true)
+    refuses_total (departure s.requires.0 s.args.f s.requires.1.0) (sym (total_fits c.before) ∙ c.if-not-total_ok.true)
 
 departing_fits_requires : tie.Need-departing_fits-requires
 departing_fits_requires c κs =
-    let s = entry c.before.before.before in
+    let s = entry c.before in
     (s.requires.0.ready.case_in, (s.requires.1.0, (counts_in s.requires.0, s.requires.0.counts_long)))
 
 same_length : tie.Need-shape_of-words-then-not-departing_fits
@@ -115,17 +114,17 @@ same_length_2 c = search rules
 
 -- where the total is in range, and the counts are tested
 abbrev total_kept : tie.After-departing_fits → tie.Else-not-total_ok
-total_kept a = a.before.before.before
+total_kept a = a.before
 
 total_good : (e : tie.Else-not-total_ok) → within lowest_total (pos 0) (rest (entry e.before)) ≡ true
-total_good e = sym (total_fits e.before) ∙ not-false e.before.total_ok.result e.if-not-total_ok.false
+total_good e = sym (total_fits e.before) ∙ e.if-not-total_ok.false
 
 returns_2 : tie.Need-returns-then-not-departing_fits
 returns_2 c =
     let a = c.before in
     let e = total_kept a in
     let s = entry e.before in
-    refuses_counts (departure s.requires.0 s.args.f s.requires.1.0) (total_good e) (sym a.departing_fits.ensures ∙ not-true a.departing_fits.result c.if-not-departing_fits.true)
+    refuses_counts (departure s.requires.0 s.args.f s.requires.1.0) (total_good e) (sym a.departing_fits.ensures ∙ c.if-not-departing_fits.true)
 
 put_likelihoods_requires : tie.Need-put_likelihoods-requires
 put_likelihoods_requires c κs = search rules
@@ -136,12 +135,12 @@ origin c = entry (total_kept c.before).before
 
 count_departing_requires : tie.Need-count_departing-requires
 count_departing_requires c κs =
-    let s = origin c.before.before.before.before.before in
+    let s = origin c.before.before.before.before in
     (s.requires.0.ready.case_in, (s.requires.1.0, (counts_in s.requires.0, s.requires.0.counts_long)))
 
 lay_departure_requires : tie.Need-lay_departure-requires
 lay_departure_requires c κs =
-    let s = origin c.before.before.before.before.before.before.before.before in
+    let s = origin c.before.before.before.before.before.before.before in
     (s.requires.0.ready.case_in, s.requires.1.0)
 
 same_length_3 : tie.Need-shape_of-words
@@ -158,13 +157,13 @@ unfolding departed
 returns_3 c =
     let gone = c.before in
     let counted = gone.before.before.before in
-    let put = counted.before.before.before.before in
+    let put = counted.before.before.before in
     let k = put.before.before in
     let a = k.before in
     let e = total_kept a in
     let m = e.before.before in
     let s = start (shared m) in
-    updates (departure s.requires.0 s.args.f s.requires.1.0) _ (rest_is m) (total_good e) (sym a.departing_fits.ensures ∙ not-false a.departing_fits.result k.if-not-departing_fits.false)
+    updates (departure s.requires.0 s.args.f s.requires.1.0) _ (rest_is m) (total_good e) (sym a.departing_fits.ensures ∙ k.if-not-departing_fits.false)
     (same_slices gone.lay_departure.ensures put.put_likelihoods.ensures counted.count_departing.ensures)
 
 pub depart_kept_spec : {M : Type 1} → statement M

@@ -1,5 +1,5 @@
 -- `sweep_orders` meets its contract: the outcome of the case's check, then that of the slice's length, one law per return. Assumes nothing.
-use Rattle.std.proofs.Common.{◌≡◌, ℕ, ltb, length, sym, ap, ◌∙◌, arith, rules, le-ltb, lt-ltb}
+use Rattle.std.proofs.Common.{◌≡◌, ℕ, ltb, length, sym, ◌∙◌, arith, rules, le-ltb, lt-ltb}
 use Rattle.variants_and_fragments.specs.declared.Sizes.{Sizes}
 use Rattle.variants_and_fragments.specs.Refusals.{Outcome, done, unless}
 use Rattle.variants_and_fragments.specs.Check.{check_case_outcome, outcome_of}

@@ -3,10 +3,10 @@ use borrow.Author.Rules.{rules}
 use Rattle.exports.proofs.answers.refused.Statement.{statement}
 use Rattle.exports.proofs.answers.refused.Tie as tie
 
-number_requires : tie.Need-number-requires
+number_requires : tie.Need-number-n-requires
 number_requires c κs = search rules
 
-place_requires : tie.Need-place-requires
+place_requires : tie.Need-place-p-requires
 place_requires c κs = search rules
 
 returns : tie.Need-returns

@@ -13,24 +13,22 @@ use Rattle.exports.proofs.late.condorbed_depart.Tie as tie
 depart_requires : tie.Need-depart-requires
 depart_requires c κs = search rules
 
-late_answer_requires : tie.Need-late-answer-requires
+late_answer_requires : tie.Need-late_answer-requires
 late_answer_requires c κs = search rules
 
-same_length : tie.Need-same-length
+same_length : tie.Need-shape_of-words
 same_length c = search rules
 
-same_length_2 : tie.Need-same-length-2
+same_length_2 : tie.Need-shape_of-likelihoods
 same_length_2 c = search rules
 
-same_length_3 : tie.Need-same-length-3
+same_length_3 : tie.Need-shape_of-counts
 same_length_3 c = search rules
 
 returns : tie.Need-returns
 returns c =
-    let d = c.before.before.before.before in
-    let st = d.before.before.before.before.before.before.before in
-    let f : SFits w64 st.args.total = search rules in
-    exported _ {o = outcome_of d.depart.result} (departed_at _ _ _ _ _ _ (to_z-of_z f) _ d.depart.ensures) (rw c.late-answer.ensures (late_numbers_lem d.depart.result))
+    let f : SFits w64 c.args.total = search rules in
+    exported _ {o = outcome_of c.depart.result} (departed_at _ _ _ _ _ _ (to_z-of_z f) _ c.depart.ensures) (rw c.late_answer.ensures (late_numbers_lem c.depart.result))
 
 pub condorbed_depart_spec : {M : Type 1} → statement M
 condorbed_depart_spec =

@@ -9,10 +9,10 @@ use borrow.Author.Rules.{rules}
 use Rattle.exports.proofs.late.late_answer.Statement.{statement}
 use Rattle.exports.proofs.late.late_answer.Tie as tie
 
-enum_known_answer : tie.Need-enum-known-answer
+enum_known_answer : tie.Need-enum_known-answer
 enum_known_answer c = search rules
 
-enum_known_answer_2 : tie.Need-enum-known-answer-2
+enum_known_answer_2 : tie.Need-enum_known-answer-in-Refused-1
 enum_known_answer_2 c = search rules
 
 number_requires : tie.Need-number-requires
@@ -21,16 +21,15 @@ number_requires c κs = search rules
 place_requires : tie.Need-place-requires
 place_requires c κs = search rules
 
-returns : tie.Need-returns
+returns : tie.Need-returns-in-Unsettled
 unfolding outcome_of late_numbers
 returns c =
-    let a = c.before.before.answer.given in
-    let f : SFits w64 a.0.0.0 = search rules in
-    rw (a.1, to_z-of_z f)
+    let f : SFits w64 c.in-Unsettled.total.0 = search rules in
+    rw (c.in-Unsettled.is, to_z-of_z f)
 
-returns_2 : tie.Need-returns-2
+returns_2 : tie.Need-returns-in-Refused
 unfolding outcome_of late_numbers
-returns_2 c = rw (c.before.before.before.answer2.given.1, c.before.number.ensures, c.place.ensures)
+returns_2 c = rw (c.in-Refused.is, c.number.ensures, c.place.ensures)
 
 pub late_answer_spec : {M : Type 1} → statement M
 late_answer_spec =

@@ -9,58 +9,51 @@ use Rattle.exports.proofs.nohap.condorbed_call_genotypes_no_haplotypes.Statement
 }
 use Rattle.exports.proofs.nohap.condorbed_call_genotypes_no_haplotypes.Tie as tie
 
--- where the operation has answered, from the match on its answer
-abbrev called : tie.After-slice-known4 → tie.After-call-genotypes-no-haplotypes
-called c = c.before.before.before.before.before
-
-rates_of_requires : tie.Need-rates-of-requires
+rates_of_requires : tie.Need-rates_of-requires
 rates_of_requires c κs = search rules
 
-call_genotypes_no_haplotypes_requires : tie.Need-call-genotypes-no-haplotypes-requires
+call_genotypes_no_haplotypes_requires : tie.Need-call_genotypes_no_haplotypes-requires
 call_genotypes_no_haplotypes_requires c κs = search rules
 
-enum_told : tie.Need-enum-told
+enum_told : tie.Need-enum_told-1
 enum_told c = search rules
 
 done_requires : tie.Need-done-requires
 done_requires c κs = search rules
 
-enum_known_x : tie.Need-enum-known-x
+enum_known_x : tie.Need-enum_known-x
 enum_known_x c = search rules
 
 refused_requires : tie.Need-refused-requires
 refused_requires c κs = search rules
 
-same_length : tie.Need-same-length
+same_length : tie.Need-shape_of-variants-in-Done
 same_length c = search rules
 
-same_length_2 : tie.Need-same-length-2
+same_length_2 : tie.Need-shape_of-quals-in-Done
 same_length_2 c = search rules
 
-same_length_3 : tie.Need-same-length-3
+same_length_3 : tie.Need-shape_of-gqs-in-Done
 same_length_3 c = search rules
 
-returns : tie.Need-returns
+returns : tie.Need-returns-in-Done
 unfolding outcome_of
 returns c =
-    let d = called c.before.before.before in
-    exported _ (rw (← d.before.before.before.before.rates_of.ensures) d.call-genotypes-no-haplotypes.ensures) (answered_done (ap outcome_of c.before.enum_told.given.1) c.done.ensures)
+    exported _ (rw (← c.rates_of.ensures) c.call_genotypes_no_haplotypes.ensures) (answered_done (ap outcome_of c.in-Done.is) c.done.ensures)
 
-same_length_4 : tie.Need-same-length-4
+same_length_4 : tie.Need-shape_of-variants-in-Refused
 same_length_4 c = search rules
 
-same_length_5 : tie.Need-same-length-5
+same_length_5 : tie.Need-shape_of-quals-in-Refused
 same_length_5 c = search rules
 
-same_length_6 : tie.Need-same-length-6
+same_length_6 : tie.Need-shape_of-gqs-in-Refused
 same_length_6 c = search rules
 
-returns_2 : tie.Need-returns-2
+returns_2 : tie.Need-returns-in-Refused
 unfolding outcome_of
 returns_2 c =
-    let x = c.before.before.x.given in
-    let d = called c.before.before.before.before in
-    exported _ (rw (← d.before.before.before.before.rates_of.ensures) d.call-genotypes-no-haplotypes.ensures) (answered_refused x.0.0 (ap outcome_of x.1) c.refused.ensures)
+    exported _ (rw (← c.rates_of.ensures) c.call_genotypes_no_haplotypes.ensures) (answered_refused c.in-Refused.x (ap outcome_of c.in-Refused.is) c.refused.ensures)
 
 pub condorbed_call_genotypes_no_haplotypes_spec : {M : Type 1} → statement M
 condorbed_call_genotypes_no_haplotypes_spec =

@@ -7,40 +7,35 @@ use Rattle.exports.proofs.Numbers.{exported, answered_done, answered_refused}
 use Rattle.exports.proofs.orders.condorbed_sweep_orders.Statement.{statement}
 use Rattle.exports.proofs.orders.condorbed_sweep_orders.Tie as tie
 
--- where the operation has answered, from the match on its answer
-abbrev called : tie.After-slice-known2 → tie.After-sweep-orders
-called c = c.before.before
-
-sweep_orders_requires : tie.Need-sweep-orders-requires
+sweep_orders_requires : tie.Need-sweep_orders-requires
 sweep_orders_requires c κs = search rules
 
-enum_told : tie.Need-enum-told
+enum_told : tie.Need-enum_told-1
 enum_told c = search rules
 
 done_requires : tie.Need-done-requires
 done_requires c κs = search rules
 
-enum_known_x : tie.Need-enum-known-x
+enum_known_x : tie.Need-enum_known-x
 enum_known_x c = search rules
 
 refused_requires : tie.Need-refused-requires
 refused_requires c κs = search rules
 
-same_length : tie.Need-same-length
+same_length : tie.Need-shape_of-orders-in-Done
 same_length c = search rules
 
-returns : tie.Need-returns
+returns : tie.Need-returns-in-Done
 unfolding outcome_of
-returns c = exported _ (called c.before.before.before).sweep-orders.ensures (answered_done (ap outcome_of c.before.enum_told.given.1) c.done.ensures)
+returns c = exported _ c.sweep_orders.ensures (answered_done (ap outcome_of c.in-Done.is) c.done.ensures)
 
-same_length_2 : tie.Need-same-length-2
+same_length_2 : tie.Need-shape_of-orders-in-Refused
 same_length_2 c = search rules
 
-returns_2 : tie.Need-returns-2
+returns_2 : tie.Need-returns-in-Refused
 unfolding outcome_of
 returns_2 c =
-    let x = c.before.before.x.given in
-    exported _ (called c.before.before.before.before).sweep-orders.ensures (answered_refused x.0.0 (ap outcome_of x.1) c.refused.ensures)
+    exported _ c.sweep_orders.ensures (answered_refused c.in-Refused.x (ap outcome_of c.in-Refused.is) c.refused.ensures)
 
 pub condorbed_sweep_orders_spec : {M : Type 1} → statement M
 condorbed_sweep_orders_spec =

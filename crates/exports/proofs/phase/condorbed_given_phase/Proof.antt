@@ -7,55 +7,48 @@ use Rattle.exports.proofs.Numbers.{exported, answered_done, answered_refused}
 use Rattle.exports.proofs.phase.condorbed_given_phase.Statement.{statement}
 use Rattle.exports.proofs.phase.condorbed_given_phase.Tie as tie
 
--- where the operation has answered, from the match on its answer
-abbrev called : tie.After-slice-known6 → tie.After-given-phase
-called c = c.before.before.before.before.before.before
-
-given_phase_requires : tie.Need-given-phase-requires
+given_phase_requires : tie.Need-given_phase-requires
 given_phase_requires c κs = search rules
 
-enum_told : tie.Need-enum-told
+enum_told : tie.Need-enum_told-1
 enum_told c = search rules
 
 done_requires : tie.Need-done-requires
 done_requires c κs = search rules
 
-enum_known_x : tie.Need-enum-known-x
+enum_known_x : tie.Need-enum_known-x
 enum_known_x c = search rules
 
 refused_requires : tie.Need-refused-requires
 refused_requires c κs = search rules
 
-same_length : tie.Need-same-length
+same_length : tie.Need-shape_of-haplotypes-in-Done
 same_length c = search rules
 
-same_length_2 : tie.Need-same-length-2
+same_length_2 : tie.Need-shape_of-phased-in-Done
 same_length_2 c = search rules
 
-same_length_3 : tie.Need-same-length-3
+same_length_3 : tie.Need-shape_of-names-in-Done
 same_length_3 c = search rules
 
-returns : tie.Need-returns
+returns : tie.Need-returns-in-Done
 unfolding outcome_of
 returns c =
-    let d = called c.before.before.before in
-    exported _ d.given-phase.ensures (answered_done (ap outcome_of c.before.enum_told.given.1) c.done.ensures)
+    exported _ c.given_phase.ensures (answered_done (ap outcome_of c.in-Done.is) c.done.ensures)
 
-same_length_4 : tie.Need-same-length-4
+same_length_4 : tie.Need-shape_of-haplotypes-in-Refused
 same_length_4 c = search rules
 
-same_length_5 : tie.Need-same-length-5
+same_length_5 : tie.Need-shape_of-phased-in-Refused
 same_length_5 c = search rules
 
-same_length_6 : tie.Need-same-length-6
+same_length_6 : tie.Need-shape_of-names-in-Refused
 same_length_6 c = search rules
 
-returns_2 : tie.Need-returns-2
+returns_2 : tie.Need-returns-in-Refused
 unfolding outcome_of
 returns_2 c =
-    let x = c.before.before.x.given in
-    let d = called c.before.before.before.before in
-    exported _ d.given-phase.ensures (answered_refused x.0.0 (ap outcome_of x.1) c.refused.ensures)
+    exported _ c.given_phase.ensures (answered_refused c.in-Refused.x (ap outcome_of c.in-Refused.is) c.refused.ensures)
 
 pub condorbed_given_phase_spec : {M : Type 1} → statement M
 condorbed_given_phase_spec =

@@ -14,34 +14,27 @@ use Rattle.exports.proofs.round.condorbed_call_genotypes_with_haplotypes.Stateme
 }
 use Rattle.exports.proofs.round.condorbed_call_genotypes_with_haplotypes.Tie as tie
 
--- where the operation has answered, from the match on its answer
-abbrev called : tie.After-slice-known6 → tie.After-call-genotypes-with-haplotypes
-called c = c.before.before.before.before.before.before.before.before
-
 -- where its rates were made
-abbrev rated : tie.After-call-genotypes-with-haplotypes → tie.After-rates-of
-rated d = d.before.before.before.before.before.before
-
 -- the totals of a round fit their words, so they come back as they are
-fits_start : (c : tie.After-struct-told) → SFits w64 c.before.before.r.given.0.0.start.0
+fits_start : (c : tie.After-struct_told-1) → SFits w64 c.in-Done.r.start.0
 fits_start c = search rules
 
-fits_end : (c : tie.After-struct-told) → SFits w64 c.before.before.r.given.0.0.end.0
+fits_end : (c : tie.After-struct_told-1) → SFits w64 c.in-Done.r.end.0
 fits_end c = search rules
 
-fits_source : (c : tie.After-struct-told) → SFits w64 c.before.before.r.given.0.0.source.0
+fits_source : (c : tie.After-struct_told-1) → SFits w64 c.in-Done.r.source.0
 fits_source c = search rules
 
-rates_of_requires : tie.Need-rates-of-requires
+rates_of_requires : tie.Need-rates_of-requires
 rates_of_requires c κs = search rules
 
-call_genotypes_with_haplotypes_requires : tie.Need-call-genotypes-with-haplotypes-requires
+call_genotypes_with_haplotypes_requires : tie.Need-call_genotypes_with_haplotypes-requires
 call_genotypes_with_haplotypes_requires c κs = search rules
 
-enum_known_r : tie.Need-enum-known-r
+enum_known_r : tie.Need-enum_known-r
 enum_known_r c = search rules
 
-enum_known_x : tie.Need-enum-known-x
+enum_known_x : tie.Need-enum_known-x
 enum_known_x c = search rules
 
 number_requires : tie.Need-number-requires
@@ -50,53 +43,47 @@ number_requires c κs = search rules
 place_requires : tie.Need-place-requires
 place_requires c κs = search rules
 
-same_length : tie.Need-same-length
+same_length : tie.Need-shape_of-haplotypes-in-Done
 same_length c = search rules
 
-same_length_2 : tie.Need-same-length-2
+same_length_2 : tie.Need-shape_of-likelihoods-in-Done
 same_length_2 c = search rules
 
-same_length_3 : tie.Need-same-length-3
+same_length_3 : tie.Need-shape_of-posteriors-in-Done
 same_length_3 c = search rules
 
-same_length_4 : tie.Need-same-length-4
+same_length_4 : tie.Need-shape_of-quals-in-Done
 same_length_4 c = search rules
 
-same_length_5 : tie.Need-same-length-5
+same_length_5 : tie.Need-shape_of-gqs-in-Done
 same_length_5 c = search rules
 
-returns : tie.Need-returns
+returns : tie.Need-returns-in-Done
 unfolding outcome_of round_numbers
 returns c =
-    let known = c.before.before in
-    let r = known.r.given in
-    let d = called known.before.before in
-    exported _ (called_at _ _ _ _ _ _ _ _ _ _ _ (rated d).rates_of.ensures d.call-genotypes-with-haplotypes.ensures)
-    (rw (ap outcome_of r.1, to_z-of_z (fits_start c), to_z-of_z (fits_end c), to_z-of_z (fits_source c)) (round_done r.0.0))
+    exported _ (called_at _ _ _ _ _ _ _ _ _ _ _ c.rates_of.ensures c.call_genotypes_with_haplotypes.ensures)
+    (rw (ap outcome_of c.in-Done.is, to_z-of_z (fits_start c), to_z-of_z (fits_end c), to_z-of_z (fits_source c)) (round_done c.in-Done.r))
 
-same_length_6 : tie.Need-same-length-6
+same_length_6 : tie.Need-shape_of-haplotypes-in-Refused
 same_length_6 c = search rules
 
-same_length_7 : tie.Need-same-length-7
+same_length_7 : tie.Need-shape_of-likelihoods-in-Refused
 same_length_7 c = search rules
 
-same_length_8 : tie.Need-same-length-8
+same_length_8 : tie.Need-shape_of-posteriors-in-Refused
 same_length_8 c = search rules
 
-same_length_9 : tie.Need-same-length-9
+same_length_9 : tie.Need-shape_of-quals-in-Refused
 same_length_9 c = search rules
 
-same_length_10 : tie.Need-same-length-10
+same_length_10 : tie.Need-shape_of-gqs-in-Refused
 same_length_10 c = search rules
 
-returns_2 : tie.Need-returns-2
+returns_2 : tie.Need-returns-in-Refused
 unfolding outcome_of round_numbers
 returns_2 c =
-    let known = c.before.before.before in
-    let x = known.x.given in
-    let d = called known.before.before in
-    exported _ (called_at _ _ _ _ _ _ _ _ _ _ _ (rated d).rates_of.ensures d.call-genotypes-with-haplotypes.ensures)
-    (rw (ap outcome_of x.1, c.before.number.ensures, c.place.ensures) (round_refused x.0.0))
+    exported _ (called_at _ _ _ _ _ _ _ _ _ _ _ c.rates_of.ensures c.call_genotypes_with_haplotypes.ensures)
+    (rw (ap outcome_of c.in-Refused.is, c.number.ensures, c.place.ensures) (round_refused c.in-Refused.x))
 
 pub condorbed_call_genotypes_with_haplotypes_spec : {M : Type 1} → statement M
 condorbed_call_genotypes_with_haplotypes_spec =

@@ -6,7 +6,6 @@ use Prim.Native.Nat.{ℕ, ◌≤◌, ◌<◌, ◌-◌}
 use native.Mathlib.Omega.{arith}
 use borrow.Author.Rules.{rules}
 use borrow.Author.Count.{below_none, below_more}
-use borrow.Author.Tests.{not-true, not-false}
 use Rattle.variants_and_fragments.proofs.First.{first_at, first_end}
 use Rattle.late_reads.specs.Arriving.{arriving_rises}
 use Rattle.late_reads.proofs.arriving.first_not_rising.Statement.{statement}

@@ -4,7 +4,6 @@ use mathlib.Core.Path.{◌≡◌, sym, ◌∙◌}
 use Prim.Native.Nat.{◌-◌}
 use native.Mathlib.Omega.{arith}
 use borrow.Author.Rules.{rules, sfits_of}
-use borrow.Author.Tests.{not-true, not-false}
 use lib.IntN.{negsuc}
 use mir.Facts.{to_z-of_z}
 use mir.Syntax.{w32}
@@ -30,7 +29,7 @@ decreases_loop words s f counts c cutoff strand r₀ k₀ r k = s.c - k
 
 -- the loop's head where a call was read, the entry, and the read
 abbrev lp : tie.After-chain_call invariant_loop decreases_loop → tie.At-loop-k invariant_loop decreases_loop
-lp c = c.before.before.before.before.before.before
+lp c = c.before.before.before.before
 
 abbrev st : tie.At-loop-k invariant_loop decreases_loop → tie.Start invariant_loop decreases_loop
 st l = l.before.before.before.before
@@ -44,13 +43,13 @@ strand_is l = l.before.before.strand_of-strand.ensures
 
 -- the turn, once its call is as the counts see it
 turn : (c : tie.After-chain_call invariant_loop decreases_loop) → let l = lp c in let a = (st l).args in
-    ChainTurn a.words.now a.s a.f l.loop-k.k l.loop-k.r c.before.before.before.before.read_call-step.result.next c.chain_call.result
+    ChainTurn a.words.now a.s a.f l.loop-k.k l.loop-k.r c.read_call-step.result.next c.chain_call.result
 turn c =
     let l = lp c in
-    let got = c.before.before.before.before.read_call-step in
+    let got = c.read_call-step in
     let cutoff = l.before.before.before.cutoff_of-cutoff in
-    chain_turn (st l).args.f got.result l.loop-k.invariant.0 c.before.before.before.before.before.loop-k-test.true got.ensures
-    c.before.before.read-1.given.1 c.chain_call.ensures (to_z-of_z (sfits_of {w = w32} cutoff.ok) ∙ cutoff.ensures) (strand_is l)
+    chain_turn (st l).args.f got.result l.loop-k.invariant.0 c.loop-k-test.true got.ensures
+    c.in-Call.is c.chain_call.ensures (to_z-of_z (sfits_of {w = w32} cutoff.type_inv) ∙ cutoff.ensures) (strand_is l)
 
 tested : (c : tie.After-call_fits invariant_loop decreases_loop) → let l = lp c.before in let a = (st l).args in let w = a.words.now in
     c.call_fits.result ≡ call_fits (negsuc 0) (read l).strand (counted_call (cutoff_at w) (read l) (call_from w a.s l.loop-k.r)) a.counts.now
@@ -68,7 +67,7 @@ loop_holds c =
     )
 
 returns : tie.Need-returns-in-End invariant_loop decreases_loop
-returns c = let l = c.before.before.before.before in fit_end l.loop-k.invariant.1 (chain_over _ _ l.loop-k.k l.loop-k.r (ended _ _ _ _ c.before.before.read_call-step.ensures c.enum_told-1.given.1))
+returns c = let l = c.before.before.before in fit_end l.loop-k.invariant.1 (chain_over _ _ l.loop-k.k l.loop-k.r (ended _ _ _ _ c.read_call-step.ensures c.in-End.is))
 
 call_fits_requires : tie.Need-call_fits-requires invariant_loop decreases_loop
 call_fits_requires c κs =

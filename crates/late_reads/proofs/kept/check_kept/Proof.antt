@@ -5,7 +5,7 @@ use mathlib.Core.List.{List, [], ◌∷◌}
 use Prim.Native.Nat.{ℕ, ◌*◌}
 use native.Mathlib.Omega.{arith}
 use borrow.Author.Rules.{rules}
-use borrow.Author.Tests.{eq-eqb, ne_eqb, not-true, not-false}
+use borrow.Author.Tests.{eq-eqb, ne_eqb}
 use lib.Dec.{eqb}
 use lib.ListN.{length}
 use Rattle.variants_and_fragments.specs.declared.Sizes.{Sizes}
@@ -41,29 +41,29 @@ abbrev phase_line : LateInput → Sizes → Outcome Sizes
 phase_line input s = unless (eqb (length input.phase) s.n) 7 s.n (long_line input s)
 
 -- ---- the start and the sizes, from each place that is come to
-abbrev from : tie.In-Accepted-2 → LateInput
-from c = lent c.before.before.before.before.before.before
+abbrev from : tie.In-Accepted → LateInput
+from c = lent c.before.before.before.before.before
 
-abbrev sizes : tie.In-Accepted-2 → Sizes
-sizes c = c.checked-in-Accepted-1.given.0.0
+abbrev sizes : tie.In-Accepted → Sizes
+sizes c = c.in-Accepted.s
 
-abbrev case1 : tie.Else-phase-n → tie.In-Accepted-2
-case1 c = c.before.before
+abbrev case1 : tie.Else-phase-n → tie.In-Accepted
+case1 c = c.before
 
 abbrev phase2 : tie.After-earlier-short → tie.Else-phase-n
 phase2 c = c.before.before.before.before.before.before
 
-abbrev case2 : tie.After-earlier-short → tie.In-Accepted-2
+abbrev case2 : tie.After-earlier-short → tie.In-Accepted
 case2 c = case1 (phase2 c)
 
 -- ---- past each test
-checked : (c : tie.In-Accepted-2) → outcome_of (Accepted (sizes c)) ≡ check_case_and_haplotypes_outcome (from c).words (from c).bases (from c).haplotypes
-checked c = ap outcome_of (sym c.checked-in-Accepted-1.given.1) ∙ c.before.before.check_case_and_haplotypes-checked.ensures
+checked : (c : tie.In-Accepted) → outcome_of (Accepted (sizes c)) ≡ check_case_and_haplotypes_outcome (from c).words (from c).bases (from c).haplotypes
+checked c = c.in-Accepted.ensures
 
-inside : (c : tie.In-Accepted-2) → CaseIn (from c).words (sizes c)
+inside : (c : tie.In-Accepted) → CaseIn (from c).words (sizes c)
 inside c = checked_in _ _ _ _ (check_done _ _ (checked c))
 
-after_case : (c : tie.In-Accepted-2) → phase_line (from c) (sizes c) ≡ kept_outcome (from c)
+after_case : (c : tie.In-Accepted) → phase_line (from c) (sizes c) ≡ kept_outcome (from c)
 unfolding kept_outcome
 after_case c = check_past _ _ _ (checked c)
 
@@ -96,7 +96,7 @@ enum_known_checked_2 c = search rules
 
 returns : tie.Need-returns-then-phase-n
 unfolding outcome_of
-returns c = unless_at _ 7 _ _ (ne_eqb _ _ c.if-phase-n.true) ∙ after_case c.before.before
+returns c = unless_at _ 7 _ _ (ne_eqb _ _ c.if-phase-n.true) ∙ after_case c.before
 
 mul_short_of : tie.Need-overflow_mul-n
 mul_short_of c = omega (arith, (inside (case1 c)).sized.n_top)
@@ -141,7 +141,7 @@ returns_3 c = unless_at _ 10 0 _ (sym c.before.in_range.ensures ∙ c.if-not-in_
 
 returns_4 : tie.Need-returns-in-Refused
 unfolding outcome_of kept_outcome
-returns_4 c = check_stops _ _ c.before.checked-1.given.0.0 (ap outcome_of (sym c.before.checked-1.given.1) ∙ c.before.before.before.check_case_and_haplotypes-checked.ensures)
+returns_4 c = check_stops _ _ c.in-Refused.x c.in-Refused.ensures
 
 returns_5 : tie.Need-returns-else-not-in_range
 unfolding outcome_of

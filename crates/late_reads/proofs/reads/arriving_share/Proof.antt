@@ -5,7 +5,6 @@ use mathlib.Core.Bool.{true}
 use Prim.Native.Nat.{ℕ, ◌+◌, ◌*◌, ◌<◌, ◌≤◌}
 use native.Mathlib.Omega.{arith}
 use borrow.Author.Rules.{rules, sfits_of}
-use borrow.Author.Tests.{not-true, not-false}
 use lib.IntN.{ℤ, nat_abs}
 use lib.ListN.{length, get_or}
 use mir.Syntax.{w32, w64}
@@ -91,7 +90,7 @@ returns : tie.Need-returns-then-not-usable
 returns c =
     let u = c.before in
     let s = start u in
-    (share_unusable (fixed s) (read s) s.args.h (call s) (sym (tested u) ∙ not-true u.usable.result c.if-not-usable.true), omega arith)
+    (share_unusable (fixed s) (read s) s.args.h (call s) (sym (tested u) ∙ c.if-not-usable.true), omega arith)
 
 phased_flag_requires : tie.Need-phased_flag-requires
 phased_flag_requires c κs =
@@ -103,7 +102,7 @@ phased_flag_requires c κs =
     (r.case_in, (omega (arith, i.variant_in), omega (arith, i.variant_in, r.phase_long)))
 
 is_usable : (c : tie.Else-not-usable) → usable (cutoff_at (start c.before).args.words.now) (read (start c.before)) (call (start c.before)) ≡ true
-is_usable c = sym (tested c.before) ∙ not-false c.before.usable.result c.if-not-usable.false
+is_usable c = sym (tested c.before) ∙ c.if-not-usable.false
 
 -- the flag read
 abbrev asked : tie.After-phased_flag → tie.After-usable

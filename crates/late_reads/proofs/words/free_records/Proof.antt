@@ -34,11 +34,11 @@ chain st = chain_of st.args.words.now st.args.s st.args.f
 linked : (st : tie.Start) → Linked st.args.words.now st.args.s (link_ok st.args.words.now st.args.s) (first_record_at st.args.words.now st.args.s st.args.f) (chain st)
 linked st = chain_linked st.requires.0.sized.used_top (st.requires.0.frags st.args.f st.requires.1)
 
-first_is : (c : tie.After-first_call-first) → c.first_call-first.result ≡ get_or (chain c.before.before) 0 0
-first_is c = c.first_call-first.ensures ∙ linked_first (linked c.before.before)
+first_is : (c : tie.After-first_call-first) → c.first_call-first.result ≡ get_or (chain c.before) 0 0
+first_is c = c.first_call-first.ensures ∙ linked_first (linked c.before)
 
 -- it has records
-first_some : (e : tie.Else-first-eq0) → get_or (chain e.before.before.before) 0 0 ≡ 0 → ⊥
+first_some : (e : tie.Else-first-eq0) → get_or (chain e.before.before) 0 0 ≡ 0 → ⊥
 first_some e z = e.if-first-eq0.false (first_is e.before ∙ z)
 
 -- ---- the obligations
@@ -51,7 +51,7 @@ same_length c = search rules
 returns : tie.Need-returns-then-first-eq0
 unfolding freed_words
 returns c =
-    let st = c.before.before.before in
+    let st = c.before.before in
     let w = st.args.words.now in
     let e : chain_of w st.args.s st.args.f ≡ [] = sym (start_chain w _ st.args.f _ c.before.first_call-first.ensures) ∙ chain_end w st.args.s _ _ c.if-first-eq0.true in
     rw e refl
@@ -61,8 +61,8 @@ last_record_requires c κs = search rules
 
 put_next_requires : tie.Need-put_next-requires
 put_next_requires c κs =
-    let e = c.before.before.before in
-    let st = e.before.before.before in
+    let e = c.before.before in
+    let st = e.before.before in
     let last = c.before.last_record-last.ensures in
     let n = place_in (chain st) 0 (first_some e) in
     let b = linked_in (linked st) (length (chain st) - 1) (omega arith) in
@@ -71,8 +71,8 @@ put_next_requires c κs =
 
 put_free_requires : tie.Need-put_free-requires
 put_free_requires c κs =
-    let e = c.before.before.before.before.before.before in
-    let st = e.before.before.before in
+    let e = c.before.before.before.before.before in
+    let st = e.before.before in
     let z = st.requires.0.sized in
     (search rules, omega (arith, e.before.first_call-first.ensures, record_top st.args.s (first_call_at st.args.words.now st.args.s st.args.f), z.used_top, z.c_top))
 
@@ -83,8 +83,8 @@ returns_2 : tie.Need-returns
 returns_2 c =
     let put = c.before.before.before.before in
     let last = put.before.before in
-    let e = last.before.before in
-    let st = e.before.before.before in
+    let e = last.before in
+    let st = e.before.before in
     c.before.put_free.ensures ∙ rw (put.put_next.ensures, last.last_record-last.ensures, first_is e.before) (freed_some st.args.words.now st.args.s (chain st) (first_some e))
 
 pub free_records_spec : {M : Type 1} → statement M

@@ -34,8 +34,8 @@ m c = whole_calls c.before.args.calls.now
 -- the first call: the first record that is taken, or 0 for none
 first_is : (c : tie.Joined-m-eq0) → c.if-m-eq0.first ≡ get_or (taken (w c) (s c) (m c)) 0 0
 first_is c = elim c.if-m-eq0.branch-raw [
-  | inl e ↦ e.1 ∙ sym (taken_past (w c) (s c) (m c) 0 (omega (arith, e.0.true)))
-  | inr e ↦ e.2 ∙ e.1.ensures ∙ ap front_of (left_start c.before.requires.0) ∙ taken_front c.before.requires.0 (m c) c.before.requires.1.fits 0 (omega (arith, e.0.left))
+  | inl e ↦ e.first-is ∙ sym (taken_past (w c) (s c) (m c) 0 (omega (arith, e.if-m-eq0.true)))
+  | inr e ↦ e.first-is ∙ e.front_of-first.ensures ∙ ap front_of (left_start c.before.requires.0) ∙ taken_front c.before.requires.0 (m c) c.before.requires.1.fits 0 (omega (arith, e.if-m-eq0.false))
 ]
 
 first_top : (c : tie.Joined-m-eq0) → c.if-m-eq0.first ≤ 16384
@@ -66,7 +66,7 @@ lay_calls_requires : tie.Need-lay_calls-left-requires
 lay_calls_requires c κs = search rules
 
 cast_put_first : tie.Need-overflow_cast-first
-cast_put_first c = record { sfits = omega (arith, first_top c.before.before.before.before) }
+cast_put_first c = record { sfits = omega (arith, first_top c.before.before.before.before.before) }
 
 put_first_requires : tie.Need-put_first-requires
 put_first_requires c κs = search rules
@@ -76,12 +76,12 @@ put_strand_requires c κs = search rules
 
 put_used_requires : tie.Need-put_used-requires
 put_used_requires c κs =
-    let l = c.before.before.before.before.before.before.before.before.before in
+    let l = c.before.before.before.before.before.before.before.before.before.before in
     (search rules, (left_top l).0)
 
 put_free_requires : tie.Need-put_free-requires
 put_free_requires c κs =
-    let l = c.before.before.before.before.before.before.before.before.before.before.before.before in
+    let l = c.before.before.before.before.before.before.before.before.before.before.before.before.before in
     (search rules, (left_top l).1)
 
 same_length : tie.Need-shape_of-words
@@ -94,7 +94,7 @@ returns c =
     let used = free.before.before.before in
     let strand = used.before.before.before in
     let first = strand.before.before.before.before in
-    let laid = first.before.before.before in
+    let laid = first.before.before.before.before in
     let j = laid.before.before in
     let z : SFits w32 j.before.args.arrival.strand = search strand.before.struct_told-1.given in
     free.put_free.ensures

@@ -42,7 +42,7 @@ module _ (l : tie.At-loop-i invariant_loop decreases_loop) where
   sized : Sized l.loop-i.words st.args.s
   sized = subst (λ (x : List ℤ). Sized x st.args.s) (sym l.loop-i.invariant.2) (sized_laid st.args.words.now st.args.s st.args.calls.now rs l.loop-i.i st.requires.0.sized)
 
-  left_top : (l.loop-i.false.used ≤ 16384) × (l.loop-i.false.free ≤ st.args.s.c)
+  left_top : (l.loop-i.left.used ≤ 16384) × (l.loop-i.left.free ≤ st.args.s.c)
   left_top =
       let b = left_in st.requires.0 l.loop-i.i (omega (arith, l.loop-i.invariant.0, st.requires.1.fits)) in
       let z = st.requires.0.sized in
@@ -56,22 +56,22 @@ front_is c =
     let l = c.before.before in
     c.front_of-r.ensures ∙ ap front_of l.loop-i.invariant.1 ∙ taken_front (st l).requires.0 (m l) (st l).requires.1.fits l.loop-i.i c.before.loop-i-test.true
 
-rest_is : (c : tie.After-rest_of-left invariant_loop decreases_loop) → let l = c.before.before.before.before in c.rest_of-left.result ≡ left_at (st l).args.words.now (st l).args.s (suc l.loop-i.i)
+rest_is : (c : tie.After-rest_of-left invariant_loop decreases_loop) → let l = c.before.before.before in c.rest_of-left.result ≡ left_at (st l).args.words.now (st l).args.s (suc l.loop-i.i)
 rest_is c =
-    let l = c.before.before.before.before in
+    let l = c.before.before.before in
     let s = (st l).args.s in
     c.rest_of-left.ensures
     ∙ ap (rest_of l.loop-i.words s) l.loop-i.invariant.1
     ∙ ap (λ (x : List ℤ). rest_of x s (left_at (st l).args.words.now s l.loop-i.i)) l.loop-i.invariant.2
-    ∙ taken_rest (st l).requires.0 (m l) (st l).requires.1.fits l.loop-i.i c.before.before.before.loop-i-test.true (st l).args.calls.now
+    ∙ taken_rest (st l).requires.0 (m l) (st l).requires.1.fits l.loop-i.i c.loop-i-test.true (st l).args.calls.now
 
-next_is : (c : tie.Joined-i-m invariant_loop decreases_loop) → let l = c.before.before.before.before.before in c.if-i-m.next ≡ get_or (rs l) (suc l.loop-i.i) 0
+next_is : (c : tie.Joined-i-m invariant_loop decreases_loop) → let l = c.before.before.before.before in c.if-i-m.next ≡ get_or (rs l) (suc l.loop-i.i) 0
 next_is c =
-    let l = c.before.before.before.before.before in
-    let more = c.before.before.before.before.loop-i-test.true in
+    let l = c.before.before.before.before in
+    let more = c.loop-i-test.true in
     elim c.if-i-m.branch-raw [
-      | inl e ↦ e.1 ∙ sym (taken_past (st l).args.words.now (st l).args.s (m l) (suc l.loop-i.i) (omega (arith, e.0.true)))
-      | inr e ↦ e.2 ∙ e.1.ensures ∙ ap front_of (rest_is c.before) ∙ taken_front (st l).requires.0 (m l) (st l).requires.1.fits (suc l.loop-i.i) (omega (arith, e.0.left, more))
+      | inl e ↦ e.next-is ∙ sym (taken_past (st l).args.words.now (st l).args.s (m l) (suc l.loop-i.i) (omega (arith, e.if-i-m.true)))
+      | inr e ↦ e.next-is ∙ e.front_of-next.ensures ∙ ap front_of (rest_is c.before) ∙ taken_front (st l).requires.0 (m l) (st l).requires.1.fits (suc l.loop-i.i) (omega (arith, e.if-i-m.false, more))
     ]
 
 -- ---- the same call put in the same record
@@ -87,15 +87,15 @@ front_of_requires : tie.Need-front_of-r-requires invariant_loop decreases_loop
 front_of_requires c κs = (left_top c.before).0
 
 rest_of_requires : tie.Need-rest_of-left-requires invariant_loop decreases_loop
-rest_of_requires c κs = let l = c.before.before.before in (sized l, left_top l)
+rest_of_requires c κs = let l = c.before.before in (sized l, left_top l)
 
 add_if1 : tie.Need-overflow_add-i invariant_loop decreases_loop
 add_if1 c = omega arith
 
 front_of_requires_2 : tie.Need-front_of-next-requires invariant_loop decreases_loop
 front_of_requires_2 c κs =
-    let l = c.before.before.before.before.before in
-    let b = left_in (st l).requires.0 (suc l.loop-i.i) (omega (arith, c.before.before.before.before.loop-i-test.true, (st l).requires.1.fits)) in
+    let l = c.before.before.before.before in
+    let b = left_in (st l).requires.0 (suc l.loop-i.i) (omega (arith, c.loop-i-test.true, (st l).requires.1.fits)) in
     omega (arith, b.0, (st l).requires.0.sized.c_top, ap (λ (x : RoomLeft). x.used) (rest_is c.before))
 
 arriving_at_requires : tie.Need-arriving_at-requires invariant_loop decreases_loop
@@ -104,11 +104,11 @@ arriving_at_requires c κs = omega arith
 put_call_requires : tie.Need-put_call-requires invariant_loop decreases_loop
 put_call_requires c κs =
     let j = c.before.before in
-    let front = j.before.before.before in
+    let front = j.before.before in
     let l = front.before.before in
     let k = (st l).requires.0 in
     let n = taken_length (st l).args.words.now (st l).args.s (m l) (st l).requires.1.fits in
-    let b = taken_in k (m l) (st l).requires.1.fits l.loop-i.i (omega (arith, n, front.before.loop-i-test.true)) in
+    let b = taken_in k (m l) (st l).requires.1.fits l.loop-i.i (omega (arith, n, front.loop-i-test.true)) in
     let e = front_is front in
     let top = taken_top k (m l) (st l).requires.1.fits (suc l.loop-i.i) in
     (sized l, (omega (arith, e, b.0), omega (arith, e, b.1), omega (arith, next_is j, top, k.sized.c_top)))
@@ -123,10 +123,10 @@ loop_again : tie.Need-loop-i-preserved invariant_loop decreases_loop
 loop_again c =
     let read = c.before.before in
     let j = read.before.before in
-    let front = j.before.before.before in
+    let front = j.before.before in
     let l = front.before.before in
     let w = (st l).args.words.now in (
-      omega (arith, front.before.loop-i-test.true),
+      omega (arith, front.loop-i-test.true),
       rest_is j.before ∙ ap (left_at w (st l).args.s) (sym (add-one l.loop-i.i)),
       c.before.put_call.ensures
           ∙ same_put (st l).args.s l.loop-i.invariant.2 (front_is front) read.arriving_at.ensures (next_is j)

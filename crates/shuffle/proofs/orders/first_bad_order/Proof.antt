@@ -2,7 +2,6 @@
 -- Assumes nothing.
 use Rattle.std.proofs.Common.{◌≡◌, ℕ, ◌+◌, ◌-◌, ◌*◌, ◌<◌, ◌≤◌, true, length, get_or, sym, refl, ap, ◌∙◌, arith, rules, below_none, below_more}
 use lib.ListN.{get_or-replicate}
-use borrow.Author.Tests.{not-true, not-false}
 use Rattle.variants_and_fragments.proofs.First.{first_at, first_end}
 use Rattle.shuffle.specs.Permutation.{permutes}
 use Rattle.shuffle.specs.Orders.{order_at}
