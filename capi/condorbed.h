@@ -1,6 +1,6 @@
 /*
- * Condorbed: the genotyping core of longshot, proved. Link with libexports.a, which `rt staticlib exports` writes
- * (x86-64 Linux).
+ * Condorbed: the genotyping core of longshot, proved. Link with target/staticlib/libexports.a, which
+ * `tools/build library` writes (x86-64 Linux).
  *
  * docs/FORMAT.md describes the case (words and bases, section 1), log probabilities in steps (section 2), what each
  * function reads, writes and returns (section 3) and the refusals (section 4).

@@ -1,4 +1,4 @@
-//! A safe wrapper of libexports.a, which `rt staticlib exports` writes.
+//! A safe wrapper of target/staticlib/libexports.a, which `tools/build library` writes.
 //!
 //! The operations require nothing of their slices, and Rust's references have true lengths and do not overlap where
 //! they are `&mut`: so every call is safe. A call answers its result, or `Refused`, which leaves every slice as it was.

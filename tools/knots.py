@@ -6,11 +6,12 @@ Run at the repository's root. e(k) is the greatest e with e^128 * 2^k <= 2^5120;
 with 2^(t + 163840) <= (2^40 + e(k))^4096.
 """
 
+import textwrap
+
 LAST = 1664
 
 SPEC = """-- Written by tools/knots.py. The knots T[0] to T[1664] of document 01, section 1. `Knots.antt` has their rule. Assumes nothing.
-use mathlib.Core.List.{List, [], _∷_}
-use Prim.Native.Nat.{ℕ}
+use Rattle.std.specs.Prelude.{ℕ, List, [], ◌∷◌}
 
 unfoldable pub knots : List ℕ
 knots =
@@ -18,8 +19,7 @@ knots =
 """
 
 ROOTS = """-- Written by tools/knots.py. e(k) for each knot T[k], the witness of its rule. Assumes nothing.
-use mathlib.Core.List.{List, [], _∷_}
-use Prim.Native.Nat.{ℕ}
+use Rattle.std.specs.Prelude.{ℕ, List, [], ◌∷◌}
 
 unfoldable pub roots : List ℕ
 roots =
@@ -56,6 +56,12 @@ def rows(numbers, width):
     return " ∷\n    ".join(lines)
 
 
+def filled(numbers):
+    """The lines of a constant's elements, as rt fmt lays them out."""
+    text = ", ".join(str(n) for n in numbers) + ","
+    return textwrap.fill(text, 99, initial_indent="    ", subsequent_indent="    ") + "\n"
+
+
 def table():
     """The roots and the knots."""
     roots = [root(k) for k in range(LAST + 1)]
@@ -69,7 +75,7 @@ def main():
     with open("crates/steps/specs/Inner/Table.antt", "w", encoding="utf-8") as spec:
         spec.write(ROOTS % rows(roots, 8))
     with open("crates/steps/src/knots.rt", "w", encoding="utf-8") as code:
-        code.write(CODE % "".join("    %d,\n" % t for t in knots))
+        code.write(CODE % filled(knots))
 
 
 if __name__ == "__main__":

@@ -4,7 +4,7 @@
 Run as python3 tools/lines.py at the repository's root; tools/knots.py stands beside it.
 """
 
-from knots import table
+from knots import filled, table
 
 # From here on the knots are 0.
 FLAT = 1604
@@ -24,7 +24,7 @@ def main():
     pieces += [(0, 32), (0, 0)]
     numbers = [n for piece in pieces for n in piece]
     with open("crates/steps/src/lines.rt", "w", encoding="utf-8") as code:
-        code.write(CODE % (len(numbers), "".join("    %d,\n" % n for n in numbers)))
+        code.write(CODE % (len(numbers), filled(numbers)))
 
 
 if __name__ == "__main__":

@@ -2,7 +2,7 @@
 """A soak of the library: random arrivals and departures on one case at full size, each against a model that keeps up.
 
 tools/soak.py [SEED] [STEPS] [OPTIONS], by default 1 and 100000. It needs gcc and target/staticlib/libexports.a, which
-`rt staticlib exports` writes. After every step the answer and all lent slices are compared with those of the class Kept,
+`tools/build library` writes. After every step the answer and all lent slices are compared with those of the class Kept,
 which updates its own. At the start, at every 1,000th step and at the end also: each lent element by itself; likelihoods,
 counts and total against those that tools/model.py takes afresh from the words; the library's check of the case; and a
 walk that must find each used record once, in a fragment's chain or in the free chain. The first difference ends the run
@@ -54,7 +54,7 @@ class Library:
 
     def __init__(self):
         if not ARCHIVE.exists():
-            sys.exit("%s is not there: `rt staticlib exports` writes it" % ARCHIVE.relative_to(ROOT))
+            sys.exit("%s is not there: `tools/build library` writes it" % ARCHIVE.relative_to(ROOT))
         SHARED.parent.mkdir(parents=True, exist_ok=True)
         whole = ["-Wl,--whole-archive", ARCHIVE, "-Wl,--no-whole-archive"]
         subprocess.run(["gcc", "-shared", "-o", SHARED] + whole, check=True)

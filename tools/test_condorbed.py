@@ -281,11 +281,13 @@ def test_faults():
 # ---- Proving and building, with a stand-in for `rt` in a copy of the repository's files.
 
 STAND_IN = """#!/bin/sh
-echo "logic=proved steps"
-echo "rt: steps proved (12 s)"
-echo "rt: condorbed %s"
-[ %d = 1 ] || { echo "rt: FAILED: condorbed"; exit 1; }
-/bin/mkdir -p target/bin && /bin/cp %s target/bin/condorbed
+case "$1 ${PWD##*/}" in
+"lib steps") echo "logic=proved functions=1" ;;
+"run condorbed")
+    [ %d = 1 ] || { echo "fn condorbed::main: not proved"; exit 1; }
+    /bin/mkdir -p out && /bin/cp %s out/condorbed ;;
+*) exit 2 ;;
+esac
 """
 
 
@@ -295,7 +297,7 @@ def copied(folder):
     shutil.copy(ROOT / "condorbed", root)
     shutil.copytree(ROOT / "tools", root / "tools", ignore=shutil.ignore_patterns("__pycache__"))
     shutil.copytree(ROOT / "samples", root / "samples")
-    (root / "crates.txt").write_text("# crates\nsteps:\nexports: steps\ncondorbed: steps io libc\n")
+    (root / "crates.txt").write_text("# crates\ncondorbed: steps itoa\nexports staticlib: steps\nsteps:\n")
     for name in ("steps", "condorbed"):
         (root / "crates" / name / "src").mkdir(parents=True)
         (root / "crates" / name / "src" / "lib.rt").write_text("")
@@ -304,7 +306,7 @@ def copied(folder):
 
 def stand_in(root, good):
     (root / "bin").mkdir(exist_ok=True)
-    (root / "bin" / "rt").write_text(STAND_IN % ("proved (3 s)" if good else "NOT PROVED (exit 1, 3 s)", good, PROGRAM))
+    (root / "bin" / "rt").write_text(STAND_IN % (good, PROGRAM))
     (root / "bin" / "rt").chmod(0o755)
 
 
@@ -318,16 +320,17 @@ def test_build():
         root = copied(folder)
         told, said, status = build(root, NO_RT)
         expect("status without rt", (told, status), ("", 1))
-        expect_in("what is said without rt", said, "there is no program yet", "`rt` is not found", "docs/START-HERE.md")
+        expect_in("what is said without rt", said, "there is no program yet", "`rt` is not found", "START-HERE.md")
         stand_in(root, False)
         told, said, status = build(root)
         expect("status of a failed proof", (told, status), ("", 1))
-        expect_in("what is said of a failed proof", said, "rt: condorbed NOT PROVED", "the check failed", "target/log")
+        expect_in("what is said of a failed proof", said, "condorbed NOT PROVED (exit 1, 0 s): target/log/condorbed.out",
+                  "the check failed", "target/log/NAME.out")
         stand_in(root, True)
         told, said, status = build(root)
         expect("answers after the first build", (told, status), (wanted, 0))
         expect_in("progress", said, "there is no program yet: proving 2 crates", "some 6 to 10 minutes",
-                  "1 of 2 crates, 0 min 00 s: steps proved (12 s)", "2 of 2 crates", "proved and built")
+                  "1 of 2 crates, 0 min 00 s: steps proved (0 s)", "2 of 2 crates", "proved and built")
         expect("the second use goes straight on", build(root, NO_RT), (wanted, "", 0))
         test_stale(root, wanted)
 

@@ -33,7 +33,9 @@ USE = re.compile(r"^(?:pub |ghost )*use (\S+)\.\{(.*)\};?\s*$")
 ALIAS = re.compile(r"^(?:ghost )?use (\S+) as (\S+?);?\s*$")
 HEAD = re.compile(r"^(?:unfoldable |abbrev |pub )*(record |data )?([^\s:(){}]+)\s")
 NESTED = re.compile(r"^  (?:unfoldable |abbrev |pub )*([^\s:(){}]+)\s+:\s")
-PATH = re.compile(r"^Rattle·([a-z_]+)(?:·specs)?\.specs\.(.+)$")
+PATH = re.compile(r"^Rattle\.([a-z_]+)\.specs\.(.+)$")
+# A clause of a contract, with its name where the contract has several.
+CLAUSE = re.compile(r"ensures (?:\w+ )?(\{.*\})")
 
 
 def code(line):
@@ -43,6 +45,12 @@ def code(line):
 
 def words(lines):
     return {word for line in lines for word in BREAKS.split(code(line)) if word}
+
+
+def fronts(word):
+    """The word, and what stands before each of its dots: a field is written close to its record."""
+    parts = word.split(".")
+    return [".".join(parts[:length]) for length in range(len(parts), 0, -1)]
 
 
 class Module:
@@ -139,16 +147,17 @@ class Specs:
     def meant(self, key, word):
         """What a word in a definition of this module means: nothing, if it is no definition of specs."""
         module = self.modules[key]
-        if word in module.definitions:
-            return key, word
-        return self.brought(module.uses, module.aliases, word)
+        own = next((name for name in fronts(word) if name in module.definitions), None)
+        return (key, own) if own else self.brought(module.uses, module.aliases, word)
 
     def brought(self, uses, named, word):
         """What a word means by imports: a name, or a module's alias and a name there."""
-        if word in uses:
-            return self.find(*uses[word])
-        alias, _, rest = word.partition(".")
-        return self.find(named[alias], rest) if alias in named and rest else None
+        for name in fronts(word):
+            alias, _, rest = name.partition(".")
+            found = self.find(*uses[name]) if name in uses else alias in named and rest and self.find(named[alias], rest)
+            if found:
+                return found
+        return None
 
     def promises(self):
         """What the promises of the public operations and of the static library name."""
@@ -160,7 +169,7 @@ class Specs:
             uses, named = imports(text.split("\n")), aliases(text.split("\n"))
             for name in names:
                 contract = re.search(r"fn %s\b.*?\n\{" % name, text, re.S).group(0)
-                for word in words(re.findall(r"ensures \{.*\}", contract)):
+                for word in words(CLAUSE.findall(contract)):
                     yield self.brought(uses, named, word)
 
     def sentences(self):

@@ -1,7 +1,7 @@
 #!/usr/bin/env python3
 """Replays inputs that the program cannot read, and slices as long as its arrays and one longer.
 
-Run at the repository's root, after rt check condorbed: python3 tools/unreadable.py
+Run at the repository's root, after tools/build program: python3 tools/unreadable.py
 Each answer is written here from the protocol's text; a difference ends the script with status 1.
 """
 import subprocess
