@@ -7,7 +7,9 @@ use native.Mathlib.Omega.{arith}
 use native.Mathlib.Decide.{dec_lt, ℕ_discrete}
 use borrow.Author.Tests.{eq-eqb, ne_eqb, eqb-true}
 use mathlib.Core.List.{List, [], ◌∷◌}
-use lib.ListN.{length, get_or}
+use lib.ListN.{length, get_or, take, drop}
+use Rattle.std.proofs.Common.{length-take, length-drop}
+use Rattle.std.proofs.lemmas.List.{get_or-take, get_or-drop}
 use Rattle.variants_and_fragments.specs.First.{first_fail_from, first_fail, holds_below}
 use Rattle.variants_and_fragments.specs.Inner.First.{first_false}
 
@@ -88,6 +90,26 @@ false_none [] h i = refl
 false_none (true ∷ bs) h zero = refl
 false_none (true ∷ bs) h (suc i) = false_none bs (omega arith) i
 false_none (false ∷ bs) h i = absurd (omega arith)
+
+-- what a chain of tests decides of each number below n
+pub decides : (p q : ℕ → Bool) (n m : ℕ) (r : Bool) → m ≡ n → ((i : ℕ) → i < n → q i ≡ p i)
+    → (r ≡ true → (i : ℕ) → i < m → q i ≡ true) × (((i : ℕ) → i < m → q i ≡ true) → r ≡ true) → r ≡ holds_below p n
+unfolding first_fail
+decides p q n m true e same d = sym (below_all p n (omega (arith, all_from p 0 n (λ i _ l. sym (same i (omega arith)) ∙ d.0 refl i (omega arith)))))
+decides p q n m false e same d = go (holds_below p n) refl
+  where
+    go : (b : Bool) → holds_below p n ≡ b → false ≡ b
+    go true h = d.1 (λ i l. same i (omega arith) ∙ all_below p n h i (omega arith))
+    go false h = refl
+
+-- the same of the elements of a part of a list
+pub part_decides : {A : Type 0} (p : ℕ → Bool) (test : A → Bool) (d : A) (xs : List A) (at n m : ℕ) (r : Bool) → m ≡ n → at + n ≤ length xs
+    → ((i : ℕ) → i < n → test (get_or xs (at + i) d) ≡ p i)
+    → (r ≡ true → (i : ℕ) → i < length (take m (drop at xs)) → test (get_or (take m (drop at xs)) i d) ≡ true) × (((i : ℕ) → i < length (take m (drop at xs)) → test (get_or (take m (drop at xs)) i d) ≡ true) → r ≡ true)
+    → r ≡ holds_below p n
+part_decides p test d xs at n m r e long same =
+    decides p (λ i. test (get_or (take m (drop at xs)) i d)) n (length (take m (drop at xs))) r (simp (length-take, length-drop) (omega arith))
+    (λ i l. ap test (get_or-take m (drop at xs) i d (omega arith) ∙ get_or-drop at xs i d) ∙ same i l)
 
 -- ---- a test of each number below n, as a loop decides it: false where one fails, true at the end
 pub one_fails : (p : ℕ → Bool) (n i : ℕ) → ((j : ℕ) → j < i → p j ≡ true) → i < n → p i ≡ false → false ≡ holds_below p n

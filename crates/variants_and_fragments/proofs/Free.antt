@@ -1,7 +1,7 @@
 -- The free chain (request 3). In an accepted case it is linked from the head's word 5 to the zero that ends it, and each used record is in just one
 -- chain. No record comes twice, since each is tested for that, so that C + 1 steps are enough: there are C records (proofs/Pigeon).
 -- Assumes nothing.
-use mathlib.Core.Path.{◌≡◌, refl}
+use mathlib.Core.Path.{◌≡◌, refl, ◌∙◌}
 use mathlib.Core.Bool.{Bool, true, false, not, ◌&&◌, ◌||◌}
 use mathlib.Core.List.{List, [], ◌∷◌, ◌++◌}
 use Prim.Native.Nat.{ℕ, zero, suc, ◌+◌, ◌≤◌}
@@ -15,7 +15,7 @@ use Rattle.variants_and_fragments.specs.First.{holds_below}
 use Rattle.variants_and_fragments.specs.Layout.{max_calls}
 use Rattle.variants_and_fragments.specs.Chain.{next_call_at, next_ok, chain_from, memb, good_chain, reached, is_reached, in_chain, free_chain}
 use Rattle.variants_and_fragments.specs.Inner.Accepted.{CaseIn}
-use Rattle.variants_and_fragments.specs.Inner.Chain.{flag, Marked}
+use Rattle.variants_and_fragments.specs.Inner.Chain.{Marked}
 use Rattle.variants_and_fragments.proofs.Bools.{both}
 use Rattle.variants_and_fragments.proofs.Chain.{next_top}
 use Rattle.variants_and_fragments.proofs.First.{first_cong}
@@ -24,16 +24,16 @@ use Rattle.variants_and_fragments.proofs.Pigeon.{distinct, Within, none, more, p
 use Rattle.variants_and_fragments.proofs.Walks.{chain_on}
 
 -- ---- flags: where the flags mark what it and the fragments reach, a used record is in a chain where it is marked
-pub marked_chains : (w : List ℤ) (s : Sizes) (seen : List ℕ) → s.used ≤ max_calls → Marked seen (free_chain w s ++ reached w s s.f)
-    → holds_below (λ i. not (eqb (get_or seen (suc i) 0) 0)) s.used ≡ holds_below (λ i. in_chain w s (suc i)) s.used
+pub marked_chains : (w : List ℤ) (s : Sizes) (seen : List Bool) → s.used ≤ max_calls → Marked seen (free_chain w s ++ reached w s s.f)
+    → holds_below (λ i. get_or seen (suc i) false) s.used ≡ holds_below (λ i. in_chain w s (suc i)) s.used
 unfolding holds_below in_chain is_reached
-marked_chains w s seen top m = rw (first_cong (λ i. not (eqb (get_or seen (suc i) 0) 0)) (λ i. memb (suc i) (reached w s s.f) || memb (suc i) (free_chain w s)) s.used (λ i l. rw (m.marks (suc i) (omega arith), memb_append (suc i) (free_chain w s) (reached w s s.f)) (by_flag (memb (suc i) (free_chain w s)) (memb (suc i) (reached w s s.f))))) refl
+marked_chains w s seen top m = rw (first_cong (λ i. get_or seen (suc i) false) (λ i. memb (suc i) (reached w s s.f) || memb (suc i) (free_chain w s)) s.used (λ i l. m.marks (suc i) (omega arith) ∙ memb_append (suc i) (free_chain w s) (reached w s s.f) ∙ or_comm (memb (suc i) (free_chain w s)) (memb (suc i) (reached w s s.f)))) refl
   where
-    by_flag : (a b : Bool) → not (eqb (flag (a || b)) 0) ≡ (b || a)
-    by_flag true true = refl
-    by_flag true false = refl
-    by_flag false true = refl
-    by_flag false false = refl
+    or_comm : (a b : Bool) → (a || b) ≡ (b || a)
+    or_comm true true = refl
+    or_comm true false = refl
+    or_comm false true = refl
+    or_comm false false = refl
 
 -- ---- a good free chain is linked: the records passed are distinct, so that there are no C + 1 of them
 free_from : (w : List ℤ) (s : Sizes) → s.used ≤ s.c → (k r : ℕ) (past l : List ℕ) → r ≤ s.used → distinct (past ++ l) ≡ true → Within s.used past → length past + k ≡ suc s.c

@@ -1,10 +1,10 @@
 -- The place of the head's fault, test by test: the tests before it hold, and its own fails; and the head's lines of the outcome as one test at
 -- that place.
 -- Assumes nothing.
-use mathlib.Core.Path.{◌≡◌, refl}
+use mathlib.Core.Path.{◌≡◌, refl, ◌∙◌}
 use mathlib.Core.Bool.{Bool, true, false, cond}
 use mathlib.Core.List.{List, [], ◌∷◌}
-use Prim.Native.Nat.{◌≤◌, ◌<◌}
+use Prim.Native.Nat.{ℕ, ◌≤◌, ◌<◌}
 use native.Mathlib.Omega.{arith}
 use borrow.Author.Tests.{le-leb, lt-leb, eq-eqb, ne_eqb}
 use lib.Dec.{leb, eqb, lit<}
@@ -12,10 +12,11 @@ use lib.IntN.{ℤ, pos}
 use lib.ListN.{length}
 use Rattle.variants_and_fragments.specs.declared.Sizes.{Sizes}
 use Rattle.variants_and_fragments.specs.Inner.First.{first_false}
-use Rattle.variants_and_fragments.specs.Refusals.{Outcome, unless}
+use Rattle.variants_and_fragments.specs.Refusals.{Outcome, refused, done, unless}
 use Rattle.variants_and_fragments.specs.Words.{word, within}
 use Rattle.variants_and_fragments.specs.Layout.{head_words, max_variants, max_fragments, max_calls, lowest_quality, variants_field, fragments_field, calls_field, used_field, free_field, total_words, sizes_of, cutoff_at}
-use Rattle.variants_and_fragments.specs.Inner.Head.{head_fault}
+use Rattle.variants_and_fragments.specs.Inner.Head.{head_fault, head_lines, head_outcome}
+use Rattle.variants_and_fragments.proofs.Outcomes.{unless_on, unless_at}
 use Rattle.variants_and_fragments.proofs.Ranges.{upto_nat}
 
 pub head_short : (w : List ℤ) → length w < head_words → 0 ≡ head_fault w
@@ -96,19 +97,6 @@ module _ (w : List ℤ) (s : Sizes) (e : s ≡ sizes_of w) (long : head_words �
               head_length h = let t : eqb (length w) (total_words (sizes_of w)) ≡ false = rw e at (ne_eqb _ _ h) in simp (le-leb _ _ long, n_test, f_test, c_test, cutoff_in, used_test, free_test, t)
 
 -- ---- the head's lines of the table
--- what is left past them is `rest`
-abbrev pub head_lines : {X : Type 0} → List ℤ → Outcome X → Outcome X
-head_lines w rest =
-    unless (leb head_words (length w)) 1 0
-    (unless (within (pos 0) (pos max_variants) (word w variants_field)) 1 0
-    (unless (within (pos 0) (pos max_fragments) (word w fragments_field)) 1 1
-    (unless (within (pos 0) (pos max_calls) (word w calls_field)) 1 2
-    (unless (within lowest_quality (pos 0) (cutoff_at w)) 1 3
-    (unless (within (pos 0) (pos (sizes_of w).c) (word w used_field)) 1 4
-    (unless (within (pos 0) (pos (sizes_of w).used) (word w free_field)) 1 5
-    (unless (eqb (length w) (total_words (sizes_of w))) 1 6
-    rest)))))))
-
 lines : {X : Type 0} (a n f c q u z l : Bool) (rest : Outcome X)
     → unless (leb 7 (cond a (first_false (n ∷ f ∷ c ∷ q ∷ u ∷ z ∷ l ∷ [])) 0)) 1 (cond a (first_false (n ∷ f ∷ c ∷ q ∷ u ∷ z ∷ l ∷ [])) 0) rest
     ≡ unless a 1 0 (unless n 1 0 (unless f 1 1 (unless c 1 2 (unless q 1 3 (unless u 1 4 (unless z 1 5 (unless l 1 6 rest)))))))
@@ -126,3 +114,10 @@ lines true true true true true true true true rest = refl
 pub head_lines_lem : {X : Type 0} (w : List ℤ) (rest : Outcome X) → unless (leb 7 (head_fault w)) 1 (head_fault w) rest ≡ head_lines w rest
 unfolding head_fault
 head_lines_lem w rest = lines (leb head_words (length w)) _ _ _ _ _ _ _ rest
+
+-- the outcome at a fault of the head, and where there is none
+pub head_refused : (w : List ℤ) (p : ℕ) → p ≡ head_fault w → p < 7 → refused 1 p ≡ head_outcome w
+head_refused w p e l = rw e (unless_at _ 1 (head_fault w) _ (lt-leb 7 (head_fault w) (omega arith)) ∙ head_lines_lem w _)
+
+pub head_done : (w : List ℤ) (s : Sizes) → s ≡ sizes_of w → 7 ≡ head_fault w → done s ≡ head_outcome w
+head_done w s e p = rw e (unless_on _ 1 (head_fault w) _ (le-leb 7 (head_fault w) (omega arith)) ∙ head_lines_lem w _)

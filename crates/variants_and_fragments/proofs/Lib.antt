@@ -20,6 +20,7 @@ pub mod Records
 pub mod Heads
 pub mod Chain
 pub mod Outcomes
+pub mod Parts
 pub mod Ranges
 pub mod Short
 pub mod Bools

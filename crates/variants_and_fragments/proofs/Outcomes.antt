@@ -1,7 +1,7 @@
 -- The laws of outcomes: a test that stops, one that goes on, what it says that an outcome is done, and what an operation promises at each
 -- return.
 -- Assumes nothing.
-use mathlib.Core.Path.{◌≡◌, refl, sym}
+use mathlib.Core.Path.{◌≡◌, refl, sym, ap, ◌∙◌}
 use mathlib.Core.Bool.{Bool, true, false}
 use mathlib.Core.List.{List}
 use Prim.Native.Nat.{ℕ, ◌+◌, ◌≤◌, ◌<◌}
@@ -10,12 +10,13 @@ use borrow.Author.Tests.{le-leb, lt-leb, leb-true, eq-eqb, ne_eqb, eqb-true}
 use lib.IntN.{ℤ}
 use Rattle.variants_and_fragments.specs.declared.Sizes.{Sizes}
 use Rattle.variants_and_fragments.specs.declared.Refusal.{Refusal}
-use Rattle.variants_and_fragments.specs.declared.Answered.TheVariants.{Done, Refused}
-use Rattle.variants_and_fragments.specs.declared.Checked.TheVariants.{Accepted, Refused as NotAccepted}
+use Rattle.std.proofs.Common.{Ok, Err}
+use Rattle.variants_and_fragments.specs.declared.laid.Case.{Case}
 use Rattle.variants_and_fragments.specs.First.{first_fail_from}
-use Rattle.variants_and_fragments.specs.Refusals.{Outcome, refused, done, refusal, outcome_of, unless, each, and_then, smallest_short, long_enough, afterwards, Promise}
+use Rattle.variants_and_fragments.specs.Refusals.{Outcome, refused, done, refusal, unless, each, and_then, smallest_short, long_enough, afterwards, Promise}
 use Rattle.variants_and_fragments.specs.Check.{check_case_outcome}
 use Rattle.variants_and_fragments.specs.Check as check
+use Rattle.variants_and_fragments.proofs.First.{from_is, all_from}
 
 -- ---- one test
 pub unless_on : {X : Type 0} (b : Bool) (n p : ℕ) (rest : Outcome X) → b ≡ true → rest ≡ unless b n p rest
@@ -47,6 +48,34 @@ module _ {X : Type 0} (n : ℕ) (test : ℕ → Bool) (i k : ℕ) (rest : Outcom
   pub each_past : (x : X) → each n test i k rest ≡ done x → (i + k ≤ first_fail_from test i k) × (rest ≡ done x)
   unfolding each
   each_past x h = let p = unless_past _ n _ rest x h in (leb-true _ _ p.0, p.1)
+
+  -- where each before r holds and that of r fails
+  pub each_fails : (r : ℕ) → i ≤ r → r < i + k → ((j : ℕ) → i ≤ j → j < r → test j ≡ true) → test r ≡ false → refused n r ≡ each n test i k rest
+  each_fails r lo hi good bad = let e = from_is test i k r lo (omega arith) good (λ _. bad) in ap (refused n) e ∙ each_at (omega (arith, e))
+
+  -- where each holds
+  pub each_holds : ((j : ℕ) → i ≤ j → j < i + k → test j ≡ true) → rest ≡ each n test i k rest
+  each_holds good = each_on (all_from test i k good)
+
+-- what follows matters only where each holds
+module _ (n : ℕ) (test : ℕ → Bool) (i k : ℕ) where
+  past : {X : Type 0} {a p : ℕ} (b : Bool) (m q : ℕ) (rest : Outcome X) → ◌≡◌ {A = Outcome Unit} (refused a p) (unless b m q (done tt)) → ◌≡◌ {A = Outcome X} (refused a p) (unless b m q rest)
+  unfolding unless
+  past true m q rest e = absurd (not_done e)
+  past {X} {a} {p} false m q rest e = let x : a ≡ m = cc in let y : p ≡ q = cc in rw (x, y) refl
+
+  on : {X : Type 0} (b : Bool) (m q : ℕ) (rest : Outcome X) → ◌≡◌ {A = Outcome Unit} (done tt) (unless b m q (done tt)) → rest ≡ unless b m q rest
+  unfolding unless
+  on true m q rest e = refl
+  on false m q rest e = absurd (not_done (sym e))
+
+  pub each_stops : {X : Type 0} (rest : Outcome X) (x : Refusal) → refusal x ≡ each {X = Unit {0}} n test i k (done tt) → refusal x ≡ each n test i k rest
+  unfolding each
+  each_stops rest x e = past _ _ _ rest e
+
+  pub each_passes : {X : Type 0} (rest : Outcome X) → ◌≡◌ {A = Outcome Unit} (done tt) (each n test i k (done tt)) → rest ≡ each n test i k rest
+  unfolding each
+  each_passes rest e = on _ _ _ rest e
 
 -- ---- 10
 module _ {X : Type 0} (slices : List (ℕ × ℕ)) (rest : Outcome X) where
@@ -93,32 +122,30 @@ module _ {X Y : Type 0} (next : X → Outcome Y) where
   then_then (refused n p) first = refl
   then_then (done z) first = refl
 
--- ---- after a check, which answers sizes or a refusal
+-- a refusal stops what is asked next
+pub then_refused : {X Y : Type 0} (o : Outcome X) (next : X → Outcome Y) (x : Refusal) → refusal x ≡ o → refusal x ≡ and_then o next
+unfolding and_then
+then_refused o next x e = rw (← e)
+
+-- ---- after a check, which answers a case or a refusal
 module _ {Y : Type 0} (o : Outcome Sizes) (next : Sizes → Outcome Y) where
   -- where it refuses, so does the operation
-  pub check_stops : (x : Refusal) → check.outcome_of (NotAccepted x) ≡ o → refusal x ≡ and_then o next
-  unfolding check.outcome_of and_then
+  pub check_stops : (x : Refusal) → check.outcome_of (Err x) ≡ o → refusal x ≡ and_then o next
+  unfolding and_then
   check_stops x e = rw (← e)
 
   -- past it
-  pub check_past : (s : Sizes) → check.outcome_of (Accepted s) ≡ o → next s ≡ and_then o next
-  unfolding check.outcome_of and_then
-  check_past s e = rw (← e)
-
-pub check_done : (o : Outcome Sizes) (s : Sizes) → check.outcome_of (Accepted s) ≡ o → o ≡ done s
-unfolding check.outcome_of
-check_done o s e = sym e
+  pub check_past : (case : Case) → check.outcome_of (Ok case) ≡ o → next case.laid.sizes ≡ and_then o next
+  unfolding and_then
+  check_past case e = rw (← e)
 
 -- the same of the check of the case
 module _ {Y : Type 0} (w : List ℤ) (b : List ℕ) (next : Sizes → Outcome Y) where
-  pub case_stops : (x : Refusal) → check.outcome_of (NotAccepted x) ≡ check_case_outcome w b → refusal x ≡ and_then (check_case_outcome w b) next
+  pub case_stops : (x : Refusal) → check.outcome_of (Err x) ≡ check_case_outcome w b → refusal x ≡ and_then (check_case_outcome w b) next
   case_stops = check_stops (check_case_outcome w b) next
 
-  pub case_past : (s : Sizes) → check.outcome_of (Accepted s) ≡ check_case_outcome w b → next s ≡ and_then (check_case_outcome w b) next
+  pub case_past : (case : Case) → check.outcome_of (Ok case) ≡ check_case_outcome w b → next case.laid.sizes ≡ and_then (check_case_outcome w b) next
   case_past = check_past (check_case_outcome w b) next
-
-pub is_done : (w : List ℤ) (b : List ℕ) (s : Sizes) → check.outcome_of (Accepted s) ≡ check_case_outcome w b → check_case_outcome w b ≡ done s
-is_done w b = check_done (check_case_outcome w b)
 
 -- ---- what an operation promises
 module _ {X Slices : Type 0} {outcome : Outcome X} {new before : Slices} where
@@ -131,13 +158,3 @@ module _ {X Slices : Type 0} {outcome : Outcome X} {new before : Slices} where
   pub promise_done : {after : Slices} (x : X) → done x ≡ outcome → after ≡ new → Promise outcome new before (done x) after
   unfolding afterwards
   promise_done x e w = record { answers = e; slices = w }
-
--- the same of an operation that returns nothing but done
-module _ {Slices : Type 0} {outcome : Outcome Unit} {new before : Slices} where
-  pub refuses : (x : Refusal) → refusal x ≡ outcome → Promise outcome new before (outcome_of (Refused x)) before
-  unfolding outcome_of
-  refuses x e = promise_refused x e
-
-  pub does : {after : Slices} → done tt ≡ outcome → after ≡ new → Promise outcome new before (outcome_of Done) after
-  unfolding outcome_of
-  does e w = promise_done tt e w

@@ -16,10 +16,10 @@ use Rattle.variants_and_fragments.specs.declared.Sizes.{Sizes}
 use Rattle.variants_and_fragments.specs.Layout.{call_ok}
 use Rattle.variants_and_fragments.specs.Chain.{first_call_at, next_call_at, is_record, chain_from, chain_of, memb, reached, is_reached, reached_call_ok}
 use Rattle.variants_and_fragments.specs.Inner.Layout.{Sized}
-use Rattle.variants_and_fragments.specs.Inner.Chain.{record_of, first_record_at, flag, Marked, Closed, ReachMarked}
+use Rattle.variants_and_fragments.specs.Inner.Chain.{record_of, first_record_at, Marked, Closed, ReachMarked}
 use Rattle.variants_and_fragments.proofs.Bools.{or_off, true_false}
 use Rattle.variants_and_fragments.proofs.Chain.{record_bounds, record_some, record_top, record_chain}
-use Rattle.variants_and_fragments.proofs.Walks.{chain_step, memb_middle, flag_off, flag_on, mark_more}
+use Rattle.variants_and_fragments.proofs.Walks.{chain_step, memb_middle, mark_more}
 use Rattle.variants_and_fragments.proofs.Pigeon.{distinct, Within, none, more, pigeon, memb_head, memb_more, memb_append, memb_left}
 
 -- ---- lists of records
@@ -46,14 +46,14 @@ module _ (w : List ℤ) (s : Sizes) where
       go true e h rest = elim (ℕ_discrete x t) [ yes q ↦ rw q (start e) | no n ↦ rest e (sym (memb_tail x t (chain_from w s k (next_call_at w s t)) n) ∙ h) ]
 
   module _ {l m : List ℕ} (same : (x : ℕ) → memb x l ≡ memb x m) where
-    same_marked : {seen : List ℕ} → Marked seen l → Marked seen m
-    same_marked i = record { long = i.long; marks = λ x le. i.marks x le ∙ ap flag (same x) }
+    same_marked : {seen : List Bool} → Marked seen l → Marked seen m
+    same_marked i = record { long = i.long; marks = λ x le. i.marks x le ∙ same x }
 
     same_closed : Closed w s l → Closed w s m
     same_closed i = record { closed = λ x h k. sym (same (next_call_at w s x)) ∙ i.closed x (same x ∙ h) k }
 
 -- ---- the loop's invariant: r is where the walk goes on, k how many records it marked
-pub record Reaching (w : List ℤ) (s : Sizes) (f : ℕ) (seen : List ℕ) (r k : ℕ) : Type 0 where
+pub record Reaching (w : List ℤ) (s : Sizes) (f : ℕ) (seen : List Bool) (r k : ℕ) : Type 0 where
   -- those that it marked
   pub passed : List ℕ
   pub r_top : r ≤ s.used
@@ -67,7 +67,7 @@ pub record Reaching (w : List ℤ) (s : Sizes) (f : ℕ) (seen : List ℕ) (r k 
   pub goes : (x : ℕ) → memb x (passed ++ reached w s f) ≡ true → is_record s (next_call_at w s x) ≡ true → memb (next_call_at w s x) (r ∷ passed ++ reached w s f) ≡ true
 
 -- before the first turn
-pub reach_start : (w : List ℤ) (s : Sizes) (f : ℕ) (seen : List ℕ) (r : ℕ) → r ≡ first_record_at w s f → ReachMarked w s f seen → Reaching w s f seen r 0
+pub reach_start : (w : List ℤ) (s : Sizes) (f : ℕ) (seen : List Bool) (r : ℕ) → r ≡ first_record_at w s f → ReachMarked w s f seen → Reaching w s f seen r 0
 unfolding chain_of distinct
 reach_start w s f seen r e m = record {
   passed = [];
@@ -81,7 +81,7 @@ reach_start w s f seen r e m = record {
   goes = λ x h k. memb_more _ r _ (m.whole.closed x h k);
 }
 
-module _ {w : List ℤ} {s : Sizes} {f : ℕ} {seen : List ℕ} {r k : ℕ} (sized : Sized w s) (i : Reaching w s f seen r k) where
+module _ {w : List ℤ} {s : Sizes} {f : ℕ} {seen : List Bool} {r k : ℕ} (sized : Sized w s) (i : Reaching w s f seen r k) where
   -- what is marked
   abbrev marked : List ℕ
   marked = i.passed ++ reached w s f
@@ -89,7 +89,7 @@ module _ {w : List ℤ} {s : Sizes} {f : ℕ} {seen : List ℕ} {r k : ℕ} (siz
   r_in : r ≤ 16384
   r_in = omega (arith, i.r_top, sized.used_top, sized.c_top)
 
-  flagged : get_or seen r 0 ≡ flag (memb r marked)
+  flagged : get_or seen r false ≡ memb r marked
   flagged = i.now_marked.marks r r_in
 
   -- ---- the walk stops where r is no record, or marked
@@ -117,8 +117,8 @@ module _ {w : List ℤ} {s : Sizes} {f : ℕ} {seen : List ℕ} {r k : ℕ} (siz
   reach_end e = reach_done (λ h. absurd (omega (arith, (record_bounds s r h).0)))
 
   -- at a record marked before
-  pub reach_hit : (get_or seen r 0 ≡ 0 → ⊥) → ReachMarked w s (suc f) seen
-  reach_hit h = reach_done (λ _. flag_on _ (λ e. h (flagged ∙ e)))
+  pub reach_hit : get_or seen r false ≡ true → ReachMarked w s (suc f) seen
+  reach_hit h = reach_done (λ _. sym flagged ∙ h)
 
   -- ---- a record that is not marked is a new one
   fresh : memb r marked ≡ false → distinct (r ∷ i.passed) ≡ true
@@ -134,12 +134,12 @@ module _ {w : List ℤ} {s : Sizes} {f : ℕ} {seen : List ℕ} {r k : ℕ} (siz
       go h false e = absurd (omega (arith, pigeon s.used (r ∷ i.passed) (fresh e) (more (record_bounds s r h).0 i.r_top i.used), i.count, sized.used_top))
 
   -- before that the walk marks it and goes on at its next
-  pub reach_on : k < s.c → (r ≡ 0 → ⊥) → get_or seen r 0 ≡ 0 → (t : ℕ) → t ≡ record_of s (next_call_at w s r) → Reaching w s f (set seen r 1) t (k + 1)
+  pub reach_on : k < s.c → (r ≡ 0 → ⊥) → get_or seen r false ≡ false → (t : ℕ) → t ≡ record_of s (next_call_at w s r) → Reaching w s f (set seen r true) t (k + 1)
   reach_on h n free t e = record {
     passed = r ∷ i.passed;
     r_top = rw e (record_top s (next_call_at w s r));
     now_marked = mark_more r r_in i.now_marked;
-    apart = fresh (flag_off _ (sym flagged ∙ free));
+    apart = fresh (sym flagged ∙ free);
     used = more {x = r} (omega arith) i.r_top i.used;
     count = omega (arith, i.count);
     has = λ x. i.has x ∙ rw (chain_step w s s.c k r h (omega arith) i.r_top, e, record_chain) (sym (memb_middle x r i.passed _));
@@ -151,16 +151,16 @@ module _ {w : List ℤ} {s : Sizes} {f : ℕ} {seen : List ℕ} {r k : ℕ} (siz
   }
 
 -- ---- all fragments
-pub reach_none : (w : List ℤ) (s : Sizes) (seen : List ℕ) → Marked seen [] → ReachMarked w s 0 seen
+pub reach_none : (w : List ℤ) (s : Sizes) (seen : List Bool) → Marked seen [] → ReachMarked w s 0 seen
 unfolding reached memb
 reach_none w s seen m = record { marked = m; whole = record { closed = λ x h z. true_false h refl } }
 
 -- a record that is marked as reached is tested, and no other
-module _ (w : List ℤ) (s : Sizes) (seen : List ℕ) (r : ℕ) (top : r ≤ 16384) (m : Marked seen (reached w s s.f)) where
-  pub call_tested : (get_or seen r 0 ≡ 0 → ⊥) → call_ok w s r ≡ reached_call_ok w s r
+module _ (w : List ℤ) (s : Sizes) (seen : List Bool) (r : ℕ) (top : r ≤ 16384) (m : Marked seen (reached w s s.f)) where
+  pub call_tested : get_or seen r false ≡ true → call_ok w s r ≡ reached_call_ok w s r
   unfolding reached_call_ok is_reached
-  call_tested h = rw (flag_on (memb r (reached w s s.f)) (λ e. h (m.marks r top ∙ e)))
+  call_tested h = rw (sym (m.marks r top) ∙ h) refl
 
-  pub call_untested : get_or seen r 0 ≡ 0 → true ≡ reached_call_ok w s r
+  pub call_untested : get_or seen r false ≡ false → true ≡ reached_call_ok w s r
   unfolding reached_call_ok is_reached
-  call_untested h = rw (flag_off (memb r (reached w s s.f)) (sym (m.marks r top) ∙ h))
+  call_untested h = rw (sym (m.marks r top) ∙ h) refl

@@ -15,7 +15,7 @@ use lib.Dec.{eqb}
 use Rattle.variants_and_fragments.specs.declared.Sizes.{Sizes}
 use Rattle.variants_and_fragments.specs.Chain.{first_call_at, next_call_at, chain_from, chain_of, memb, reached, good_chain}
 use Rattle.variants_and_fragments.specs.Inner.Layout.{Sized}
-use Rattle.variants_and_fragments.specs.Inner.Chain.{first_record_at, Walked, flag, Marked}
+use Rattle.variants_and_fragments.specs.Inner.Chain.{first_record_at, Walked, Marked}
 use Rattle.variants_and_fragments.proofs.Chain.{record_top, record_chain}
 
 -- ---- chain_from
@@ -68,26 +68,18 @@ memb_middle x r (y ∷ rs) l = or_swap (eqb x r) (eqb x y) (memb x (rs ++ l)) �
     or_swap false b c = refl
 
 -- ---- flags
-pub flag_off : (b : Bool) → flag b ≡ 0 → b ≡ false
-flag_off true e = absurd (omega arith)
-flag_off false e = refl
-
-pub flag_on : (b : Bool) → (flag b ≡ 0 → ⊥) → b ≡ true
-flag_on true e = refl
-flag_on false e = absurd (e refl)
-
-pub mark_more : {seen l : List ℕ} (r : ℕ) → r ≤ 16384 → Marked seen l → Marked (set seen r 1) (r ∷ l)
+pub mark_more : {seen : List Bool} {l : List ℕ} (r : ℕ) → r ≤ 16384 → Marked seen l → Marked (set seen r true) (r ∷ l)
 unfolding memb
 mark_more {seen} {l} r h m = record {
   long = simp length-set m.long;
   marks = λ x le. elim (ℕ_discrete x r) [
-    | yes e ↦ rw e (get_or-set_same seen r 1 0 (omega (arith, m.long)) ∙ simp (eq-eqb r r refl))
-    | no n ↦ get_or-set_other seen r x 1 0 n ∙ simp (ne_eqb x r n) (m.marks x le)
+    | yes e ↦ rw e (get_or-set_same seen r true false (omega (arith, m.long)) ∙ simp (eq-eqb r r refl))
+    | no n ↦ get_or-set_other seen r x true false n ∙ simp (ne_eqb x r n) (m.marks x le)
   ];
 }
 
 -- ---- the loop's invariant: a walk of the chain rs, n steps at most, with the test `right` of each link, l being the records reached before
-pub record Walking (w : List ℤ) (s : Sizes) (right : ℕ → Bool) (n : ℕ) (l rs seen : List ℕ) (r k : ℕ) : Type 0 where
+pub record Walking (w : List ℤ) (s : Sizes) (right : ℕ → Bool) (n : ℕ) (l rs : List ℕ) (seen : List Bool) (r k : ℕ) : Type 0 where
   pub acc : List ℕ
   pub r_top : r ≤ s.used
   pub k_top : k ≤ n
@@ -95,7 +87,7 @@ pub record Walking (w : List ℤ) (s : Sizes) (right : ℕ → Bool) (n : ℕ) (
   pub good : good_chain right l rs ≡ good_chain right acc (chain_from w s (n - k) r)
   pub has : (x : ℕ) → memb x (rs ++ l) ≡ memb x (chain_from w s (n - k) r ++ acc)
 
-pub walk_start : (w : List ℤ) (s : Sizes) (right : ℕ → Bool) (n : ℕ) (l rs seen : List ℕ) (r : ℕ) → r ≤ s.used → chain_from w s n r ≡ rs → Marked seen l → Walking w s right n l rs seen r 0
+pub walk_start : (w : List ℤ) (s : Sizes) (right : ℕ → Bool) (n : ℕ) (l rs : List ℕ) (seen : List Bool) (r : ℕ) → r ≤ s.used → chain_from w s n r ≡ rs → Marked seen l → Walking w s right n l rs seen r 0
 walk_start w s right n l rs seen r top e m = record {
   acc = l;
   r_top = top;
@@ -106,19 +98,19 @@ walk_start w s right n l rs seen r top e m = record {
 }
 
 -- of fragment f's chain
-pub walk_fragment : (w : List ℤ) (s : Sizes) (right : ℕ → Bool) (f : ℕ) (seen : List ℕ) (r : ℕ) → r ≡ first_record_at w s f → Marked seen (reached w s f)
+pub walk_fragment : (w : List ℤ) (s : Sizes) (right : ℕ → Bool) (f : ℕ) (seen : List Bool) (r : ℕ) → r ≡ first_record_at w s f → Marked seen (reached w s f)
     → Walking w s right s.c (reached w s f) (chain_of w s f) seen r 0
 unfolding chain_of
 walk_fragment w s right f seen r e m =
     walk_start w s right s.c (reached w s f) (chain_of w s f) seen r (omega (arith, record_top s (first_call_at w s f))) (rw e (record_chain w s s.c (first_call_at w s f))) m
 
-module _ {w : List ℤ} {s : Sizes} {right : ℕ → Bool} {n : ℕ} {l rs seen : List ℕ} {r k : ℕ} (z : Sized w s) (i : Walking w s right n l rs seen r k) where
+module _ {w : List ℤ} {s : Sizes} {right : ℕ → Bool} {n : ℕ} {l rs : List ℕ} {seen : List Bool} {r k : ℕ} (z : Sized w s) (i : Walking w s right n l rs seen r k) where
   -- the chain ends
   pub walk_done : chain_from w s (n - k) r ≡ [] → Walked right l rs seen true
   unfolding good_chain
   walk_done e = record {
     ok = sym (rw e at i.good);
-    marked = λ _. record { long = i.now_marked.long; marks = λ x le. i.now_marked.marks x le ∙ ap flag (sym (rw e at (i.has x))) };
+    marked = λ _. record { long = i.now_marked.long; marks = λ x le. i.now_marked.marks x le ∙ sym (rw e at (i.has x)) };
   }
 
   pub walk_end : r ≡ 0 → Walked right l rs seen true
@@ -134,23 +126,23 @@ module _ {w : List ℤ} {s : Sizes} {right : ℕ → Bool} {n : ℕ} {l rs seen 
     step : chain_from w s (n - k) r ≡ r ∷ chain_from w s (n - (k + 1)) (next_call_at w s r)
     step = chain_step w s n k r more lo i.r_top
 
-    flagged : get_or seen r 0 ≡ flag (memb r i.acc)
+    flagged : get_or seen r false ≡ memb r i.acc
     flagged = i.now_marked.marks r (omega (arith, i.r_top, z.used_top, z.c_top))
 
-    fails : good_chain right i.acc (chain_from w s (n - k) r) ≡ false → (seen2 : List ℕ) → Walked right l rs seen2 false
+    fails : good_chain right i.acc (chain_from w s (n - k) r) ≡ false → (seen2 : List Bool) → Walked right l rs seen2 false
     fails e seen2 = record { ok = sym (i.good ∙ e); marked = λ z. let z2 : ◌≡◌ {A = ℕ} 0 1 = cc in absurd (omega arith) }
 
-    pub walk_hit : (get_or seen r 0 ≡ 0 → ⊥) → Walked right l rs seen false
-    walk_hit h = fails (rw step (sym (good_hit right i.acc r _ (flag_on _ (λ e. h (flagged ∙ e)))))) seen
+    pub walk_hit : get_or seen r false ≡ true → Walked right l rs seen false
+    walk_hit h = fails (rw step (sym (good_hit right i.acc r _ (sym flagged ∙ h)))) seen
 
-    module _ (free : get_or seen r 0 ≡ 0) where
+    module _ (free : get_or seen r false ≡ false) where
       fresh : memb r i.acc ≡ false
-      fresh = flag_off _ (sym flagged ∙ free)
+      fresh = sym flagged ∙ free
 
       pub walk_link : right r ≡ false → Walked right l rs seen false
       walk_link h = fails (rw step (sym (good_link right i.acc r _ fresh h))) seen
 
-      pub walk_on : right r ≡ true → next_call_at w s r ≤ s.used → (t : ℕ) → t ≡ next_call_at w s r → Walking w s right n l rs (set seen r 1) t (k + 1)
+      pub walk_on : right r ≡ true → next_call_at w s r ≤ s.used → (t : ℕ) → t ≡ next_call_at w s r → Walking w s right n l rs (set seen r true) t (k + 1)
       walk_on h top t e = record {
         acc = r ∷ i.acc;
         r_top = rw e top;
@@ -161,12 +153,9 @@ module _ {w : List ℤ} {s : Sizes} {right : ℕ → Bool} {n : ℕ} {l rs seen 
       }
 
 -- ---- after the walks
-pub reached_at : (w : List ℤ) (s : Sizes) (seen : List ℕ) (f g : ℕ) → f ≡ g → Marked seen (reached w s f) → Marked seen (reached w s g)
+pub reached_at : (w : List ℤ) (s : Sizes) (seen : List Bool) (f g : ℕ) → f ≡ g → Marked seen (reached w s f) → Marked seen (reached w s g)
 reached_at w s seen f g e m = subst (λ (x : ℕ). Marked seen (reached w s x)) e m
 
-the_zero : ℕ
-the_zero = 0
-
-pub clear_marked : Marked (replicate 16385 0) []
-unfolding memb the_zero
-clear_marked = record { long = omega (arith, length-replicate 16385 (the_zero)); marks = λ x h. get_or-replicate 16385 x 0 0 (omega arith) }
+pub clear_marked : Marked (replicate 16385 false) []
+unfolding memb
+clear_marked = record { long = omega (arith, length-replicate 16385 false); marks = λ x h. get_or-replicate 16385 x false false (omega arith) }

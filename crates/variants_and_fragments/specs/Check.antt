@@ -1,10 +1,10 @@
 -- 01, "Refusals by number and place", numbers 1 to 5 as amended by requests 1, 3 and 5: the outcome of the check of a case.
 -- Assumes nothing.
-use Rattle.std.specs.Prelude.{List, [], ℕ, leb, eqb, ℤ, pos, length}
+use Rattle.std.specs.Prelude.{Result, List, [], ℕ, leb, eqb, ℤ, pos, length}
 use Rattle.variants_and_fragments.specs.declared.Sizes.{Sizes}
-use Rattle.variants_and_fragments.specs.declared.Checked.{Checked}
-use Rattle.variants_and_fragments.specs.declared.Checked.TheVariants.{Accepted, Refused}
-use Rattle.variants_and_fragments.specs.Refusals.{Outcome, done, refusal, unless, each}
+use Rattle.variants_and_fragments.specs.declared.Refusal.{Refusal}
+use Rattle.variants_and_fragments.specs.declared.laid.Case.{Case}
+use Rattle.variants_and_fragments.specs.Refusals.{Outcome, done, answered, unless, each}
 use Rattle.variants_and_fragments.specs.Words.{word, within}
 use Rattle.variants_and_fragments.specs.Layout.{head_words, max_variants, max_fragments, max_calls, lowest_quality, variants_field, fragments_field, calls_field, used_field, free_field, cutoff_at, sizes_of, total_words, variant_ok}
 use Rattle.variants_and_fragments.specs.Chain.{reached_call_ok, fragment_ok, free_ok}
@@ -36,7 +36,6 @@ check_case_and_haplotypes_outcome w b h = let s = sizes_of w in
 unfoldable pub check_case_outcome : List ℤ → List ℕ → Outcome Sizes
 check_case_outcome w b = check_case_and_haplotypes_outcome w b []
 
--- the answer as an outcome
-unfoldable pub outcome_of : Checked → Outcome Sizes
-outcome_of (Accepted s) = done s
-outcome_of (Refused x) = refusal x
+-- the answer as an outcome: the sizes of the case
+abbrev pub outcome_of : Result Case Refusal → Outcome Sizes
+outcome_of answer = answered (λ case. case.laid.sizes) answer

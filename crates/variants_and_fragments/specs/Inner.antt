@@ -10,3 +10,4 @@ pub mod Fold
 pub mod Alleles
 pub mod Written
 pub mod Pileup
+pub mod Answers

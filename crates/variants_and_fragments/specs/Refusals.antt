@@ -1,10 +1,8 @@
 -- 01, "Refusals by number and place", and request 1, which adds 13 and 14: a refusal's number and place, and the outcome of an operation in these terms.
 -- Assumes nothing.
-use Rattle.std.specs.Prelude.{◌≡◌, Bool, true, false, cond, List, [], ◌∷◌, ℕ, ◌+◌, eqb, leb}
+use Rattle.std.specs.Prelude.{◌≡◌, Result, Ok, Err, Bool, true, false, cond, List, [], ◌∷◌, ℕ, ◌+◌, eqb, leb}
 use Rattle.variants_and_fragments.specs.declared.Refusal.{Refusal}
 use Rattle.variants_and_fragments.specs.declared.Refusal.TheVariants.{Head, Variant, Alleles, Call, Chain, Rates, Phase, Orders, Limit, Short, DensityQual, Normalize, Fragment, Room}
-use Rattle.variants_and_fragments.specs.declared.Answered.{Answered}
-use Rattle.variants_and_fragments.specs.declared.Answered.TheVariants.{Done, Refused}
 use Rattle.variants_and_fragments.specs.First.{first_fail_from}
 
 -- the column "Number"
@@ -49,10 +47,14 @@ pub data Outcome (Values : Type 0) : Type 0 where
 abbrev pub refusal : {X : Type 0} → Refusal → Outcome X
 refusal x = refused (number x) (place x)
 
+-- an answer as an outcome: refused, or done with the values that `values` reads off it
+abbrev pub answered : {A X : Type 0} → (A → X) → Result A Refusal → Outcome X
+answered values (Ok a) = done (values a)
+answered values (Err x) = refusal x
+
 -- the answer of an operation that returns nothing but done
-unfoldable pub outcome_of : Answered → Outcome Unit
-outcome_of Done = done tt
-outcome_of (Refused x) = refusal x
+abbrev pub outcome_of : Result Unit Refusal → Outcome Unit
+outcome_of answer = answered (λ x. x) answer
 
 -- ---- what is asked, in order
 -- where the test fails, refused with the number and the place; else what follows

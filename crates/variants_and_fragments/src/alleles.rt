@@ -1,82 +1,63 @@
 // The check of the allele bytes: number 3 of document 01's table.
-ghost use Rattle.std.specs.Prelude.{◌≡◌, ◌+◌, ◌<◌, ◌≤◌, length};
-ghost use Rattle.variants_and_fragments.specs.First.{first_fail};
-ghost use Rattle.variants_and_fragments.specs.Inner.Layout.{Sized};
-ghost use Rattle.variants_and_fragments.specs.Alleles.{alleles_length, alleles_start, is_base, base_ok_at, alleles_ok};
-ghost use Rattle.variants_and_fragments.specs.Inner.Alleles.{VariantsIn};
+ghost use Rattle.std.specs.Prelude.{◌≡◌, ◌<◌, ◌≤◌, ◌↔◌, true, IsTrue, EachIndex, slice_index};
+ghost use Rattle.variants_and_fragments.specs.Refusals.{outcome_of};
+ghost use Rattle.variants_and_fragments.specs.Alleles.{alleles_length, alleles_start, is_base};
+ghost use Rattle.variants_and_fragments.specs.Inner.Answers.{alleles_outcome};
 
-use crate::Sizes;
-use crate::layout::allele_length;
+use crate::{Refusal, WithVariants};
 
-// How many bytes variant v's alleles have: at most 3 times 64.
-pub fn alleles_length(words: &[i32], s: Sizes, v: usize) -> usize
-    requires sized { Sized words.now s }
-    requires variants_in { VariantsIn words.now s }
-    requires v_lt_n { v < s.n }
-    ensures { (result ≡ alleles_length words.now v) × (result ≤ 192) }
-{
-    let a = allele_length(words, s, v, 0);
-    let b = allele_length(words, s, v, 1);
-    let c = allele_length(words, s, v, 2);
-    a + b + c
-}
-
-// How many bytes all alleles have. At the loop's head sum is that of the variants before v.
-pub fn all_alleles_length(words: &[i32], s: Sizes) -> usize
-    requires sized { Sized words.now s }
-    requires variants_in { VariantsIn words.now s }
-    ensures { result ≡ alleles_start words.now s.n }
-{
-    let n = s.n;
-    let mut sum = 0;
-    let mut v = 0;
-    while v < n {
-        sum += alleles_length(words, s, v);
-        v += 1;
+impl WithVariants<'_> {
+    // How many bytes variant v's alleles have: at most 3 times 64.
+    pub fn alleles_length(&self, v: usize) -> usize
+        requires { v < self.now.laid.sizes.n }
+        ensures { (result ≡ alleles_length self.now.laid.words.now v) × (result ≤ 192) }
+    {
+        let laid = &self.laid;
+        laid.allele_length(v, 0) + laid.allele_length(v, 1) + laid.allele_length(v, 2)
     }
-    sum
+
+    // How many bytes all alleles have.
+    pub fn all_alleles_length(&self) -> usize
+        ensures { result ≡ alleles_start self.now.laid.words.now self.now.laid.sizes.n }
+    {
+        let mut sum = 0;
+        for v in 0..self.laid.sizes.n {
+            sum += self.alleles_length(v);
+        }
+        sum
+    }
 }
 
 // x is A, C, G or T.
 pub fn is_base(x: u8) -> bool
     ensures { result ≡ is_base x }
 {
-    (x == 65) | (x == 67) | (x == 71) | (x == 84)
+    (x == b'A') | (x == b'C') | (x == b'G') | (x == b'T')
 }
 
-// The first of the n bytes from at on that is no base, counted from at, or n. At the loop's head the i bytes passed are bases.
-fn first_bad_base(bases: &[u8], at: usize, n: usize) -> usize
-    requires { at + n ≤ length bases.now }
-    ensures { result ≡ first_fail (base_ok_at bases.now at) n }
+// All bytes are bases.
+fn are_bases(bases: &[u8]) -> bool
+    ensures { IsTrue result ↔ EachIndex bases.now (λ i. is_base (slice_index bases.now i) ≡ true) }
 {
-    let mut i = 0;
-    while i < n {
-        if !is_base(bases[at + i]) {
-            return i;
-        }
-        i += 1;
+    bases.iter().all(|x| is_base(*x))
+}
+
+// The bytes are as many as the alleles have, and each is a base; the place of a fault is N for a wrong length, else the first variant
+// that has one. At the loop's head `at` is where variant v's bytes start.
+pub fn check_alleles(known: &WithVariants<'_>, bases: &[u8]) -> Result<(), Refusal>
+    ensures { outcome_of result ≡ alleles_outcome known.now.laid.words.now bases.now known.now.laid.sizes }
+{
+    let n = known.laid.sizes.n;
+    if bases.len() != known.all_alleles_length() {
+        return Err(Refusal::Alleles(n));
     }
-    i
-}
-
-// The first variant with a byte that is no base, or N. At the loop's head at is where variant v's bytes start.
-pub fn first_bad_alleles(words: &[i32], s: Sizes, bases: &[u8]) -> usize
-    requires sized { Sized words.now s }
-    requires variants_in { VariantsIn words.now s }
-    requires bases_len { length bases.now ≡ alleles_start words.now s.n }
-    ensures { result ≡ first_fail (alleles_ok words.now bases.now) s.n }
-{
-    let n = s.n;
     let mut at = 0;
-    let mut v = 0;
-    while v < n {
-        let m = alleles_length(words, s, v);
-        let i = first_bad_base(bases, at, m);
-        if i != m {
-            return v;
+    for v in 0..n {
+        let end = at + known.alleles_length(v);
+        if !are_bases(&bases[at..end]) {
+            return Err(Refusal::Alleles(v));
         }
-        at += m;
-        v += 1;
+        at = end;
     }
-    v
+    Ok(())
 }

@@ -1,40 +1,42 @@
 // The check of the head: number 1 of document 01's table, as amended by requests 1 and 3.
-ghost use Rattle.std.specs.Prelude.{◌≡◌};
-ghost use Rattle.variants_and_fragments.specs.Inner.Head.{head_fault};
+ghost use Rattle.std.specs.Prelude.{◌≡◌, IfOk};
+ghost use Rattle.variants_and_fragments.specs.Inner.Head.{head_outcome};
+ghost use Rattle.variants_and_fragments.specs.Inner.Answers.{laid_outcome};
 
 use crate::layout::{
     HEAD_WORDS, MAX_CALLS, MAX_FRAGMENTS, MAX_VARIANTS, cutoff_ok, read_sizes, total_words,
 };
+use crate::{Laid, Refusal};
 
-// The place of the head's fault: a word 0 to 5, 6 for the length, 0 under six words; 7 where there is none.
-pub fn head_fault(words: &[i32]) -> usize
-    ensures { result ≡ head_fault words.now }
+// The words as their head lays them out. The place of a fault is a word 0 to 5, 6 for the length, 0 under six words.
+pub fn read_head(words: &[i32]) -> Result<Laid<'_>, Refusal>
+    ensures outcome { laid_outcome result ≡ head_outcome words.now }
+    ensures lent { IfOk result (λ laid. laid.words.now ≡ words.now) }
 {
     if words.len() < HEAD_WORDS {
-        return 0;
+        return Err(Refusal::Head(0));
     }
-    let s = read_sizes(words);
-    if MAX_VARIANTS < s.n {
-        return 0;
+    let sizes = read_sizes(words);
+    if MAX_VARIANTS < sizes.n {
+        return Err(Refusal::Head(0));
     }
-    if MAX_FRAGMENTS < s.f {
-        return 1;
+    if MAX_FRAGMENTS < sizes.f {
+        return Err(Refusal::Head(1));
     }
-    if MAX_CALLS < s.c {
-        return 2;
+    if MAX_CALLS < sizes.c {
+        return Err(Refusal::Head(2));
     }
     if !cutoff_ok(words) {
-        return 3;
+        return Err(Refusal::Head(3));
     }
-    if s.c < s.used {
-        return 4;
+    if sizes.c < sizes.used {
+        return Err(Refusal::Head(4));
     }
-    if s.used < s.free {
-        return 5;
+    if sizes.used < sizes.free {
+        return Err(Refusal::Head(5));
     }
-    let all = total_words(s);
-    if words.len() == all {
-        return 7;
+    if words.len() != total_words(sizes) {
+        return Err(Refusal::Head(6));
     }
-    6
+    Ok(Laid { words, sizes })
 }

@@ -1,20 +1,21 @@
 // A case of variants and fragments: its check, and the types that every crate over it shares.
 #![tactic(auto)]
 
-ghost use Rattle.std.specs.Prelude.{◌≡◌};
+ghost use Rattle.std.specs.Prelude.{◌≡◌, IfOk};
 ghost use Rattle.variants_and_fragments.specs.Check.{outcome_of, check_case_outcome, check_case_and_haplotypes_outcome};
 
-use crate::alleles::{all_alleles_length, first_bad_alleles};
+use crate::alleles::check_alleles;
 use crate::chains::check_chains;
-use crate::head::head_fault;
-use crate::layout::read_sizes;
-use crate::variants::first_bad_variant;
+use crate::head::read_head;
+use crate::variants::check_variants;
+pub use laid::{Case, Laid, WithVariants};
 pub use refusals::{earlier, number, place, short_of};
 
 pub mod alleles;
 pub mod calls;
 mod chains;
 mod head;
+pub mod laid;
 pub mod layout;
 mod refusals;
 mod variants;
@@ -58,20 +59,6 @@ pub enum Refusal {
     Room(usize),
 }
 
-// The answer of an operation that returns nothing but done: what it makes stands in the lent slices.
-#[derive(Clone, Copy)]
-pub enum Answered {
-    Done,
-    Refused(Refusal),
-}
-
-// The answer of the check.
-#[derive(Clone, Copy)]
-pub enum Checked {
-    Accepted(Sizes),
-    Refused(Refusal),
-}
-
 // The filters that a variant fails.
 #[derive(Clone, Copy)]
 pub enum VarFilter {
@@ -85,34 +72,26 @@ pub enum VarFilter {
     DensityAndDepthAndStrandBias,
 }
 
-// The check of a case: numbers 1 to 5 of document 01's table as amended by requests 1, 3 and 5, in order, or the sizes that the head gives.
-pub fn check_case(words: &[i32], bases: &[u8]) -> Checked
-    ensures { outcome_of result ≡ check_case_outcome words.now bases.now }
+// The check of a case: numbers 1 to 5 of document 01's table as amended by requests 1, 3 and 5, in order, or the case.
+pub fn check_case<'a>(words: &'a [i32], bases: &'a [u8]) -> Result<Case<'a>, Refusal>
+    ensures outcome { outcome_of result ≡ check_case_outcome words.now bases.now }
+    ensures lent { IfOk result (λ case. (case.laid.words.now ≡ words.now) × (case.bases.now ≡ bases.now)) }
 {
-    let none = [0u8; 0];
-    check_case_and_haplotypes(words, bases, &none)
+    check_case_and_haplotypes(words, bases, &[])
 }
 
 // The same for an operation that takes haplotypes as input, which number 2 looks at too.
-pub fn check_case_and_haplotypes(words: &[i32], bases: &[u8], haplotypes: &[u8]) -> Checked
-    ensures { outcome_of result ≡ check_case_and_haplotypes_outcome words.now bases.now haplotypes.now }
+pub fn check_case_and_haplotypes<'a>(
+    words: &'a [i32],
+    bases: &'a [u8],
+    haplotypes: &[u8],
+) -> Result<Case<'a>, Refusal>
+    ensures outcome { outcome_of result ≡ check_case_and_haplotypes_outcome words.now bases.now haplotypes.now }
+    ensures lent { IfOk result (λ case. (case.laid.words.now ≡ words.now) × (case.bases.now ≡ bases.now)) }
 {
-    let p = head_fault(words);
-    if p < 7 {
-        return Checked::Refused(Refusal::Head(p));
-    }
-    let s = read_sizes(words);
-    let n = s.n;
-    let v = first_bad_variant(words, s, haplotypes);
-    if v < n {
-        return Checked::Refused(Refusal::Variant(v));
-    }
-    if bases.len() != all_alleles_length(words, s) {
-        return Checked::Refused(Refusal::Alleles(n));
-    }
-    let b = first_bad_alleles(words, s, bases);
-    if b < n {
-        return Checked::Refused(Refusal::Alleles(b));
-    }
-    check_chains(words, s)
+    let laid = read_head(words)?;
+    let known = check_variants(&laid, haplotypes)?;
+    check_alleles(&known, bases)?;
+    check_chains(&known)?;
+    Ok(Case { laid, bases })
 }
