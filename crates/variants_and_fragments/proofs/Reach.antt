@@ -2,7 +2,7 @@
 -- marked before; what it leaves marked still holds, with each record, the record after it, so that it holds the whole chain. After C records the walk
 -- has nowhere else to go: one record more would be C + 1 distinct numbers of 1..C.
 -- Assumes nothing.
-use mathlib.Core.Path.{◌≡◌, refl, sym, ap, ◌∙◌}
+use mathlib.Core.Path.{◌≡◌, refl, sym, ◌∙◌}
 use mathlib.Core.Bool.{Bool, true, false, cond, ◌||◌}
 use mathlib.Core.List.{List, [], ◌∷◌, ◌++◌}
 use Prim.Native.Nat.{ℕ, zero, suc, ◌+◌, ◌-◌, ◌≤◌, ◌<◌}

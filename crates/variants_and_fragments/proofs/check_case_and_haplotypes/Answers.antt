@@ -1,5 +1,5 @@
 -- The parts of the check, one after the other.
-use Rattle.std.proofs.Common.{sym, ◌∙◌}
+use Rattle.std.proofs.Common.{sym}
 use Rattle.std.proofs.lemmas.Result.{err_from_is_err_and}
 use Rattle.variants_and_fragments.proofs.Accepted.{checked_in, checked_bases}
 use Rattle.variants_and_fragments.proofs.Parts.{at_head, at_variants, at_alleles, at_chains, all_passed}

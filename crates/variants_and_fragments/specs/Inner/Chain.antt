@@ -1,9 +1,8 @@
 -- Chains as the check walks them: which records are marked, and what a walk and the check of a fragment leave. Assumes nothing.
 use Rattle.std.specs.Prelude.{◌≡◌, Bool, true, false, cond, List, ◌++◌, ℕ, suc, ◌≤◌, ◌<◌, length, get_or, ℤ, leb}
 use Rattle.variants_and_fragments.specs.declared.Sizes.{Sizes}
-use Rattle.variants_and_fragments.specs.First.{first_fail}
 use Rattle.variants_and_fragments.specs.Layout.{max_calls, first_call_at, next_call_at}
-use Rattle.variants_and_fragments.specs.Chain.{is_record, memb, reached, reached_call_ok, good_chain, fragment_ok, free_ok}
+use Rattle.variants_and_fragments.specs.Chain.{is_record, memb, reached, good_chain, fragment_ok}
 use Rattle.variants_and_fragments.specs.Refusals.{Outcome, done, each}
 
 -- what a word names as a record, and 0 where that is none of those used

@@ -1,5 +1,5 @@
 -- The variants passed have bases alone; the first that has not is the place.
-use Rattle.std.proofs.Common.{◌≡◌, ◌↔◌, IsTrue, EachIndex, slice_index, take, drop, rules, ℕ, ◌+◌, ◌-◌, ◌<◌, ◌≤◌, List, ℤ, Bool, true, length, arith, refl, sym, ◌∙◌, below_none, below_more, le-leb, eq-eqb, ne_eqb}
+use Rattle.std.proofs.Common.{◌≡◌, ◌↔◌, IsTrue, EachIndex, slice_index, take, drop, rules, ℕ, ◌+◌, ◌-◌, ◌<◌, ◌≤◌, List, ℤ, Bool, true, length, arith, refl, sym, ◌∙◌, below_none, below_more, eq-eqb, ne_eqb}
 use Rattle.variants_and_fragments.specs.Alleles.{alleles_length, alleles_start, is_base, base_ok_at, alleles_ok}
 use Rattle.variants_and_fragments.proofs.AlleleBytes.{off_on, off_le}
 use Rattle.variants_and_fragments.proofs.First.{part_decides}

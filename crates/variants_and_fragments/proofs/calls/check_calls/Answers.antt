@@ -16,11 +16,11 @@ r_in z l = omega (arith, z.used_top, z.c_top)
 pub returns-then-not-call_ok : goal.returns-then-not-call_ok
 returns-then-not-call_ok c =
     each_fails 4 _ 1 _ _ c.loop-r.r c.loop-r.auto.r (omega arith) (λ j lo l. c.loop-r.invariant j lo l)
-    (sym (call_tested _ _ _ _ (r_in c.args.known.now.laid.sized c.loop-r-test.true) c.requires c.if-seen-r.true) ∙ sym c.call_ok.ensures ∙ c.if-not-call_ok.true)
+    (sym (call_tested _ _ _ _ (r_in c.args.known.now.laid.sized (omega arith)) c.requires c.if-seen-r.true) ∙ sym c.call_ok.ensures ∙ c.if-not-call_ok.true)
 
 pub loop-r-preserved : goal.loop-r-preserved
 loop-r-preserved c =
-    let top = r_in c.args.known.now.laid.sized c.loop-r-test.true in
+    let top = r_in c.args.known.now.laid.sized (omega arith) in
     let here : reached_call_ok c.args.known.now.laid.words.now c.args.known.now.laid.sizes c.loop-r.r ≡ true = elim c.else-seen-r.branch [
       | else-seen-r-via-then-seen-r+else-not-call_ok w ↦ sym (call_tested _ _ _ _ top c.requires w.if-seen-r.true) ∙ sym w.call_ok.ensures ∙ w.if-not-call_ok.false
       | else-seen-r-via-else-seen-r w ↦ sym (call_untested _ _ _ _ top c.requires w.if-seen-r.false)

@@ -1,5 +1,5 @@
 -- The first reached record that is wrong decides, then the first fragment that is wrong, then the free chain.
-use Rattle.std.proofs.Common.{◌∙◌, sym, refl}
+use Rattle.std.proofs.Common.{◌∙◌, sym}
 use Rattle.std.proofs.lemmas.Result.{err_from_is_err_and}
 use Rattle.variants_and_fragments.proofs.Outcomes.{unless_on, unless_at, each_stops, each_passes}
 use Rattle.variants_and_fragments.proofs.Walks.{clear_marked}

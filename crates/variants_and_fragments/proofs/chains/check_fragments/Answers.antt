@@ -1,5 +1,5 @@
 -- The fragments passed are right; the first that is not is the place.
-use Rattle.std.proofs.Common.{arith, ◌∙◌, sym, refl, below_none, below_more, add-one}
+use Rattle.std.proofs.Common.{arith, ◌∙◌, sym, below_none, below_more, add-one}
 use Rattle.variants_and_fragments.specs.Chain.{reached}
 use Rattle.variants_and_fragments.proofs.Outcomes.{each_fails, each_holds, not_done}
 use Rattle.variants_and_fragments.proofs.Walks.{reached_at}

@@ -1,5 +1,5 @@
 -- The walk of the free chain, then a flag for each used record.
-use Rattle.std.proofs.Common.{ℕ, ◌+◌, suc, false, get_or, sym, ap, arith, ◌∙◌, refl}
+use Rattle.std.proofs.Common.{ℕ, suc, false, get_or, sym, ap, arith, ◌∙◌, refl}
 use Rattle.variants_and_fragments.specs.Chain.{free_ok}
 use Rattle.variants_and_fragments.proofs.First.{part_decides}
 use Rattle.variants_and_fragments.proofs.Free.{marked_chains}

@@ -1,5 +1,5 @@
 -- Each step of the walk, by the laws of walks; both arms go on at the record's next.
-use Rattle.std.proofs.Common.{◌≡◌, ℕ, true, refl, sym, ◌∙◌}
+use Rattle.std.proofs.Common.{◌≡◌, ℕ, true, refl, sym, ◌∙◌, arith}
 use Rattle.variants_and_fragments.specs.Chain.{link_ok}
 use Rattle.variants_and_fragments.proofs.Chain.{link_top}
 use Rattle.variants_and_fragments.proofs.Walks.{walk_fragment, walk_end, walk_out, walk_hit, walk_link, walk_on}
@@ -13,7 +13,7 @@ pub returns-then-r-eq0 : goal.returns-then-r-eq0
 returns-then-r-eq0 c = walk_end c.args.laid.now.sized c.loop-k.invariant c.if-r-eq0.true
 
 pub returns-then-met : goal.returns-then-met
-returns-then-met c = walk_hit c.args.laid.now.sized c.loop-k.invariant c.loop-k-test.true c.if-r-eq0.false c.if-met.true
+returns-then-met c = walk_hit c.args.laid.now.sized c.loop-k.invariant c.loop-k-test.true c.if-r-eq0.false (grind arith)
 
 pub returns-then-not-after_ok : goal.returns-then-not-after_ok
 returns-then-not-after_ok c =

@@ -14,7 +14,7 @@ pub returns-then-t-eq0 : goal.returns-then-t-eq0
 returns-then-t-eq0 c = walk_end c.args.laid.now.sized c.loop-k.invariant c.if-t-eq0.true
 
 pub returns-then-met : goal.returns-then-met
-returns-then-met c = walk_hit c.args.laid.now.sized c.loop-k.invariant (omega arith) c.if-t-eq0.false c.if-met.true
+returns-then-met c = walk_hit c.args.laid.now.sized c.loop-k.invariant (omega arith) c.if-t-eq0.false (grind arith)
 
 pub returns-then-laid-next : goal.returns-then-laid-next
 returns-then-laid-next c =

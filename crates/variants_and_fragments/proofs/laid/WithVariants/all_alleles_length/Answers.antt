@@ -1,5 +1,5 @@
 -- Each variant's bytes start where those of the one before end.
-use Rattle.std.proofs.Common.{arith, refl, ◌∙◌, ap}
+use Rattle.std.proofs.Common.{arith, refl}
 use Rattle.variants_and_fragments.specs.Alleles.{alleles_start}
 use Rattle.variants_and_fragments.proofs.AlleleBytes.{off_on}
 use Rattle.variants_and_fragments.proofs.laid.WithVariants.all_alleles_length.Goals as goal
