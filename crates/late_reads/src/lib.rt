@@ -12,9 +12,9 @@ use crate::arriving::arriving_fault;
 use crate::counts::{arriving_fits, count_arriving, count_departing, departing_fits};
 use crate::kept::check_kept;
 use crate::ranges::total_ok;
-use crate::reads::{arriving_likelihoods, mixed, moved, put_likelihoods};
+use crate::reads::{arriving_likelihoods, moved, put_likelihoods};
 use crate::words::{lay_arrival, lay_departure};
-use steps::{LogProb, table};
+use steps::LogProb;
 use variants_and_fragments::layout::is_present;
 use variants_and_fragments::{Checked, Refusal, Sizes};
 
@@ -58,7 +58,7 @@ fn arrive_kept(
     let read = arriving_likelihoods(words, s, phase, haplotypes, arrival, calls);
     let first = read.first;
     let second = read.second;
-    let sum = moved(total, mixed(first, second), 1);
+    let sum = moved(total, first.mix(second), 1);
     if !total_ok(sum) {
         return Updated::Refused(Refusal::Short(0));
     }
@@ -130,7 +130,7 @@ fn depart_kept(
 {
     let first = LogProb(likelihoods[2 * f]);
     let second = LogProb(likelihoods[2 * f + 1]);
-    let rest = moved(total, mixed(first, second), -1);
+    let rest = moved(total, first.mix(second), -1);
     if !total_ok(rest) {
         return Updated::Refused(Refusal::Short(0));
     }

@@ -2,10 +2,8 @@
 ghost use Rattle.std.specs.Prelude.{◌≡◌, ◌<◌, ◌≤◌, ◌^◌, ◌+◌, pos, nat_abs, length, get_or, set};
 ghost use Rattle.variants_and_fragments.specs.Inner.Accepted.{CaseIn};
 ghost use Rattle.pileup.specs.Inner.Packed.{row_at, RowIn};
-ghost use Rattle.steps.specs.Logs.{mix_of};
 ghost use Rattle.no_haplotypes.specs.Inner.Tally.{added, pile_rows, PileIn, GainsIn, CountsIn, CallAdded, Untouched, Tallied};
 
-use genotype_probs::table::ln_half;
 use pileup::row::unpack;
 use steps::LogProb;
 use variants_and_fragments::{Sizes, layout};
@@ -16,16 +14,6 @@ pub struct Pile {
     pub start: usize,
     pub end: usize,
     pub ambiguous: usize,
-}
-
-// ln_add_exp of both less 4,096 each.
-fn mix(qual: LogProb, one_minus_qual: LogProb) -> LogProb
-    requires { (nat_abs qual.0 ≤ 262144) × (nat_abs one_minus_qual.0 ≤ 262144) }
-    ensures { (result.0 ≡ mix_of qual.0 one_minus_qual.0) × (nat_abs result.0 ≤ 270336) }
-{
-    let q = LogProb(qual.0 + ln_half().0);
-    let o = LogProb(one_minus_qual.0 + ln_half().0);
-    q.ln_add_exp(o)
 }
 
 // Adds a gain to place x.
@@ -61,7 +49,7 @@ fn add_call(
     let x = row.allele;
     let q = row.qual.0;
     let o = row.one_minus_qual.0;
-    let m = mix(row.qual, row.one_minus_qual).0;
+    let m = row.qual.mix(row.one_minus_qual).0;
     let strand = layout::direction_of(layout::strand_of(words, s, row.fragment));
     add_gain(gains, x, o - q);
     add_gain(gains, 3 + x, m - q);
