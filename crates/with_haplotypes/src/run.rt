@@ -8,7 +8,6 @@ use crate::{RoundAnswer, RoundSizes};
 use call_genotypes::run::{Plan, run_sweeps};
 use likelihoods::likelihoods::write_likelihoods;
 use likelihoods::totals::{standing_total, total};
-use steps::one_plus;
 
 // The flags of all variants.
 fn ones() -> [u8; 1024]
