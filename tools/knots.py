@@ -27,7 +27,7 @@ roots =
 """
 
 CODE = """// Written by tools/knots.py. The knots T[0] to T[1664] of document 01, section 1.
-pub const KNOTS: [u16; 1665] = [
+pub static KNOTS: [u16; 1665] = [
 %s];
 """
 
@@ -57,7 +57,7 @@ def rows(numbers, width):
 
 
 def filled(numbers):
-    """The lines of a constant's elements, as rt fmt lays them out."""
+    """The lines of a table's elements, as rt fmt lays them out."""
     text = ", ".join(str(n) for n in numbers) + ","
     return textwrap.fill(text, 99, initial_indent="    ", subsequent_indent="    ") + "\n"
 

@@ -10,7 +10,7 @@ from knots import filled, table
 FLAT = 1604
 
 CODE = """// The lines of specs/Inner/Lines.antt, base and slope of each: below zero, from zero on, far above, far below.
-pub const LINES: [u32; %d] = [
+pub static LINES: [u32; %d] = [
 %s];
 """
 

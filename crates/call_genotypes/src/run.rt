@@ -1,6 +1,5 @@
 // The run of sweeps.
 ghost use Rattle.std.specs.Prelude.{◌≡◌};
-ghost use Rattle.steps.specs.Inner.Lines.{lines};
 ghost use Rattle.likelihoods.specs.Inner.Held.{sweep_reads};
 ghost use Rattle.call_genotypes.specs.Inner.Scores.{Some, sweep_state};
 ghost use Rattle.call_genotypes.specs.Inner.Runs.{RunStart, RanFrom};
@@ -25,7 +24,6 @@ pub struct Plan {
 // Sweeps until one changes nothing, at most `plan.limit` of them; sweep s goes by part s mod m of the orders, of n entries each.
 // At the loop's head s sweeps are made, and each changed something.
 pub fn run_sweeps(
-    t: &[u32; 6420],
     ks: &[u8],
     ph: &[u8],
     pri: &[i64],
@@ -37,7 +35,6 @@ pub fn run_sweeps(
     post: &mut [i64],
     plan: Plan,
 ) -> RunAnswer
-    requires t_value { t.now ≡ lines }
     requires some { Some (λ C. RunStart C (sweep_reads ks.now ph.now pri.now ends.now piles.now) (sweep_state hap.old lik.old post.old) orders.now plan) }
     ensures { RanFrom (sweep_reads ks.now ph.now pri.now ends.now piles.now) (sweep_state hap.old lik.old post.old) orders.now plan (sweep_state hap.new lik.new post.new) result }
 {
@@ -50,7 +47,7 @@ pub fn run_sweeps(
         let e = a + n;
         let part = &orders[a..e];
         s += 1;
-        if !sweep(t, ks, ph, pri, ends, piles, part, hap, lik, post) {
+        if !sweep(ks, ph, pri, ends, piles, part, hap, lik, post) {
             return RunAnswer {
                 sweeps: s,
                 settled: true,

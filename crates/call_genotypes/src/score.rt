@@ -1,7 +1,6 @@
 // The scores of one variant's pairs.
 ghost use Rattle.std.specs.Prelude.{◌≡◌, true, ℕ, ◌+◌, ◌-◌, ◌*◌, ◌^◌, ◌<◌, ◌≤◌, length, get_or, set, replicate, pos, nat_abs, ◌+ℤ◌, ◌-ℤ◌, ◌*ℤ◌};
 ghost use Rattle.std.proofs.lemmas.List.Edits.{sets};
-ghost use Rattle.steps.specs.Inner.Lines.{lines};
 ghost use Rattle.variants_and_fragments.specs.Inner.Sums.{DownTo};
 ghost use Rattle.pileup.specs.Inner.Packed.{row_from, rows_at};
 ghost use Rattle.genotype_probs.specs.Posteriors.{first_maximum};
@@ -54,16 +53,16 @@ fn far_mixes(d: i64, g: i64) -> Mixes
 }
 
 // The same for any d. Of a read with many calls nearly every d is far.
-fn mixes_of(t: &[u32; 6420], d: i64, g: i64) -> Mixes
-    requires { (t.now ≡ lines) × (nat_abs d ≤ 2 ^ 33 + 2 ^ 20) × (nat_abs g ≤ 262144) }
+fn mixes_of(d: i64, g: i64) -> Mixes
+    requires { (nat_abs d ≤ 2 ^ 33 + 2 ^ 20) × (nat_abs g ≤ 262144) }
     ensures { (w : ℕ) → value_of result w ≡ mix_value d g w }
 {
     if is_far(d) {
         return far_mixes(d, g);
     }
-    let first = ln_one_plus_exp(t, d + g);
-    let second = ln_one_plus_exp(t, d - g);
-    let neither = ln_one_plus_exp(t, d);
+    let first = ln_one_plus_exp(d + g);
+    let second = ln_one_plus_exp(d - g);
+    let neither = ln_one_plus_exp(d);
     Mixes {
         first,
         second,
@@ -106,8 +105,7 @@ fn distance(l: LogProb, b: LogProb, y: i64) -> i64
 }
 
 // The four numbers of a row's call.
-fn call_mixes(t: &[u32; 6420], row: Row, lik: &[i64], turns: &[i64; 4]) -> Mixes
-    requires t_value { t.now ≡ lines }
+fn call_mixes(row: Row, lik: &[i64], turns: &[i64; 4]) -> Mixes
     requires row_fits { RowFits lik.now (row_from row) }
     requires within { Within (2 ^ 32) lik.now × Within 1 turns.now }
     ensures { (w : ℕ) → value_of result w ≡ row_mixes turns.now lik.now (row_from row) w }
@@ -116,7 +114,7 @@ fn call_mixes(t: &[u32; 6420], row: Row, lik: &[i64], turns: &[i64; 4]) -> Mixes
     let g = gap(row.qual, row.one_minus_qual);
     let b = likelihood_at(lik, f + 1);
     let d = distance(likelihood_at(lik, f), b, turned(turns, row.allele, g));
-    mixes_of(t, d, g)
+    mixes_of(d, g)
 }
 
 // Adds y to a sum.
@@ -142,7 +140,6 @@ fn add_four(r: Mixes, acc: &mut [i64; 12], x: usize)
 
 // Sums the four numbers of the calls a..e per allele. At the loop's head the calls before p are in the sums.
 fn score_calls(
-    t: &[u32; 6420],
     piles: &[u64],
     lik: &[i64],
     turns: &[i64; 4],
@@ -150,7 +147,6 @@ fn score_calls(
     a: usize,
     e: usize,
 )
-    requires t_value { t.now ≡ lines }
     requires pile_fits { PileFits lik.now piles.now a e }
     requires within { Within (2 ^ 32) lik.now × Within 1 turns.now }
     requires acc_value { acc.old ≡ replicate 12 (pos 0) }
@@ -159,7 +155,7 @@ fn score_calls(
     let mut p = a;
     while p < e {
         let row = unpack(piles[p]);
-        let r = call_mixes(t, row, lik, turns);
+        let r = call_mixes(row, lik, turns);
         add_four(r, acc, row.allele);
         p += 1;
     }
@@ -277,7 +273,6 @@ pub fn pair_at(hap: &[u8], v: usize) -> Pair
 
 // Writes at 9 * v how far the scores of v's pairs are above that of the first: normalising takes a common part away.
 pub fn scores(
-    t: &[u32; 6420],
     ks: &[u8],
     ph: &[u8],
     pri: &[i64],
@@ -288,7 +283,6 @@ pub fn scores(
     post: &mut [i64],
     v: usize,
 )
-    requires t_value { t.now ≡ lines }
     requires some { Some (λ C. VisitStart C (sweep_reads ks.now ph.now pri.now ends.now piles.now) (sweep_state hap.now lik.now post.old) v) }
     ensures { Scored (sweep_reads ks.now ph.now pri.now ends.now piles.now) (sweep_state hap.now lik.now post.old) v post.new }
 {
@@ -300,7 +294,7 @@ pub fn scores(
     let mut turns = [0i64; 4];
     make_turns(&mut turns, phased, old.first, old.second);
     let mut acc = [0i64; 12];
-    score_calls(t, piles, lik, &turns, &mut acc, a, e);
+    score_calls(piles, lik, &turns, &mut acc, a, e);
     let base = below_first(pri, &acc, v);
     write_scores(pri, post, &acc, base, v, k);
 }

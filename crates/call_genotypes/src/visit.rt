@@ -1,6 +1,5 @@
 // Visits: the first pair with the greatest score is taken, and the likelihoods follow.
 ghost use Rattle.std.specs.Prelude.{◌≡◌, ◌&&◌, ◌+◌, ◌*◌, ◌/◌, ◌^◌, ◌<◌, ◌≤◌, eqb, length, get_or, set, pos, nat_abs, ◌+ℤ◌, ◌-ℤ◌};
-ghost use Rattle.steps.specs.Inner.Lines.{lines};
 ghost use Rattle.pileup.specs.Inner.Packed.{row_from, rows_at};
 ghost use Rattle.sweeps.specs.Sweeps.{call_term};
 ghost use Rattle.likelihoods.specs.Inner.Held.{Within, sweep_reads};
@@ -118,7 +117,6 @@ fn same_pair(a: Pair, b: Pair) -> bool
 
 // One visit of v: whether its pair changed.
 pub fn visit(
-    t: &[u32; 6420],
     ks: &[u8],
     ph: &[u8],
     pri: &[i64],
@@ -129,11 +127,10 @@ pub fn visit(
     post: &mut [i64],
     v: usize,
 ) -> bool
-    requires t_value { t.now ≡ lines }
     requires some { Some (λ C. VisitStart C (sweep_reads ks.now ph.now pri.now ends.now piles.now) (sweep_state hap.old lik.old post.old) v) }
     ensures { VisitedFrom (sweep_reads ks.now ph.now pri.now ends.now piles.now) (sweep_state hap.old lik.old post.old) v (sweep_state hap.new lik.new post.new) result }
 {
-    scores(t, ks, ph, pri, ends, piles, hap, lik, post, v);
+    scores(ks, ph, pri, ends, piles, hap, lik, post, v);
     let old = pair_at(hap, v);
     let new = best_pair(post, v, ks[v] as usize);
     if same_pair(old, new) {
@@ -145,7 +142,6 @@ pub fn visit(
 
 // One sweep in the given order: whether a visit changed its pair. At the loop's head the first p visits are made.
 pub fn sweep(
-    t: &[u32; 6420],
     ks: &[u8],
     ph: &[u8],
     pri: &[i64],
@@ -156,7 +152,6 @@ pub fn sweep(
     lik: &mut [i64],
     post: &mut [i64],
 ) -> bool
-    requires t_value { t.now ≡ lines }
     requires some { Some (λ C. SweepStart C (sweep_reads ks.now ph.now pri.now ends.now piles.now) (sweep_state hap.old lik.old post.old) order.now) }
     ensures { SweptFrom (sweep_reads ks.now ph.now pri.now ends.now piles.now) (sweep_state hap.old lik.old post.old) order.now (sweep_state hap.new lik.new post.new) result }
 {
@@ -165,7 +160,7 @@ pub fn sweep(
     while p < order.len() {
         let v = order[p] as usize;
         p += 1;
-        if visit(t, ks, ph, pri, ends, piles, hap, lik, post, v) {
+        if visit(ks, ph, pri, ends, piles, hap, lik, post, v) {
             changed = true;
         }
     }

@@ -39,8 +39,7 @@ fn accepted_priors(
     requires { check_case_outcome words.now bases.now ≡ done s }
     ensures { GenotypePriors words.now bases.now rates priors.old (outcome_of result) priors.new }
 {
-    let t = steps::table();
-    let p = rates_fault(&t, rates);
+    let p = rates_fault(rates);
     if p < 7 {
         return Answered::Refused(Refusal::Rates(p));
     }
@@ -48,7 +47,7 @@ fn accepted_priors(
     if short != 0 {
         return Answered::Refused(Refusal::Short(short));
     }
-    make_priors(&t, words, s, bases, rates, priors);
+    make_priors(words, s, bases, rates, priors);
     Answered::Done
 }
 

@@ -1,6 +1,5 @@
 // Tables of k × k log probabilities, row-major, each in nine places of a lent slice from `at` on, and the qualities that they give.
 ghost use Rattle.std.specs.Prelude.{◌≡◌, cond, ◌+◌, ◌*◌, ◌<◌, ◌≤◌, ◌^◌, ltb, pos, nat_abs, ◌-ℤ◌, length, get_or, drop};
-ghost use Rattle.steps.specs.Table.{knots};
 ghost use Rattle.steps.specs.Logs.{steps, ln_add_exp};
 ghost use Rattle.steps.specs.Inner.Logs.{log_of, size};
 ghost use Rattle.variants_and_fragments.specs.Inner.Written.{written_from};
@@ -23,24 +22,24 @@ fn entry(post: &[i64], at: usize, k: usize, i: usize, j: usize) -> LogProb
 }
 
 // The sum of row i.
-fn row_sum(t: &[u16; 1665], post: &[i64], at: usize, k: usize, i: usize) -> LogProb
-    requires { (t.now ≡ knots) × TableAt post.now at k × (i < k) }
+fn row_sum(post: &[i64], at: usize, k: usize, i: usize) -> LogProb
+    requires { TableAt post.now at k × (i < k) }
     ensures { (result.0 ≡ row_sum (drop at post.now) k i) × (nat_abs result.0 ≤ 2 ^ 40 + 12288) }
 {
     let a = at + i * k;
     let e = a + k;
-    LogProb::ln_sum_exp(t, &post[a..e])
+    LogProb::ln_sum_exp(&post[a..e])
 }
 
 // The sum of row sums. At the loop's head `sum` is that of the first i rows.
-pub fn table_sum(t: &[u16; 1665], post: &[i64], at: usize, k: usize) -> LogProb
-    requires { (t.now ≡ knots) × TableAt post.now at k }
+pub fn table_sum(post: &[i64], at: usize, k: usize) -> LogProb
+    requires { TableAt post.now at k }
     ensures { (result.0 ≡ table_sum (drop at post.now) k) × (nat_abs result.0 ≤ 2 ^ 40 + 24576) }
 {
-    let mut sum = row_sum(t, post, at, k, 0);
+    let mut sum = row_sum(post, at, k, 0);
     let mut i = 1;
     while i < k {
-        sum = sum.ln_add_exp(t, row_sum(t, post, at, k, i));
+        sum = sum.ln_add_exp(row_sum(post, at, k, i));
         i += 1;
     }
     sum
@@ -72,17 +71,17 @@ fn subtract(post: &mut [i64], at: usize, k: usize, total: LogProb)
 }
 
 // Subtracts the sum of row sums from each entry, and writes zeros past the k × k entries.
-pub fn normalize(t: &[u16; 1665], post: &mut [i64], at: usize, k: usize)
-    requires { (t.now ≡ knots) × TableAt post.old at k }
+pub fn normalize(post: &mut [i64], at: usize, k: usize)
+    requires { TableAt post.old at k }
     ensures { post.new ≡ written_from (normalized (drop at post.old) k) at 9 post.old }
 {
-    let total = table_sum(t, post, at, k);
+    let total = table_sum(post, at, k);
     subtract(post, at, k, total);
 }
 
 // What is compared of the pair of row-major number p.
-fn post_of(t: &[u16; 1665], post: &[i64], at: usize, k: usize, phased: bool, p: usize) -> LogProb
-    requires { (t.now ≡ knots) × TableAt post.now at k × (p < k * k) }
+fn post_of(post: &[i64], at: usize, k: usize, phased: bool, p: usize) -> LogProb
+    requires { TableAt post.now at k × (p < k * k) }
     ensures { result.0 ≡ post_at phased (drop at post.now) k p }
 {
     let i = p / k;
@@ -91,20 +90,20 @@ fn post_of(t: &[u16; 1665], post: &[i64], at: usize, k: usize, phased: bool, p: 
     if phased | (i == j) {
         return x;
     }
-    x.ln_add_exp(t, entry(post, at, k, j, i))
+    x.ln_add_exp(entry(post, at, k, j, i))
 }
 
 // The row-major number of the genotype that is kept. At the loop's head `best` is the first maximum of the first p, and `top` its value.
-pub fn max_genotype(t: &[u16; 1665], post: &[i64], at: usize, k: usize, phased: bool) -> usize
-    requires { (t.now ≡ knots) × TableAt post.now at k }
+pub fn max_genotype(post: &[i64], at: usize, k: usize, phased: bool) -> usize
+    requires { TableAt post.now at k }
     ensures { result ≡ max_genotype phased (drop at post.now) k }
 {
     let m = k * k;
     let mut best = 0;
-    let mut top = post_of(t, post, at, k, phased, 0);
+    let mut top = post_of(post, at, k, phased, 0);
     let mut p = 1;
     while p < m {
-        let x = post_of(t, post, at, k, phased, p);
+        let x = post_of(post, at, k, phased, p);
         if top.0 < x.0 {
             best = p;
             top = x;
@@ -131,8 +130,8 @@ pub fn qual_of(post: &[i64], at: usize) -> PHREDProb
 }
 
 // The sum with x added, where q is neither the pair p nor its mirror m.
-fn add_other(t: &[u16; 1665], sum: LogProb, x: LogProb, p: usize, m: usize, q: usize) -> LogProb
-    requires { (t.now ≡ knots) × (size (log_of sum.0) ≤ 2 ^ 60) × (nat_abs x.0 ≤ 2 ^ 40) }
+fn add_other(sum: LogProb, x: LogProb, p: usize, m: usize, q: usize) -> LogProb
+    requires { (size (log_of sum.0) ≤ 2 ^ 60) × (nat_abs x.0 ≤ 2 ^ 40) }
     ensures { log_of result.0 ≡ cond (is_other p m q) (ln_add_exp (log_of sum.0) (steps x.0)) (log_of sum.0) }
 {
     if q == p {
@@ -141,12 +140,12 @@ fn add_other(t: &[u16; 1665], sum: LogProb, x: LogProb, p: usize, m: usize, q: u
     if q == m {
         return sum;
     }
-    sum.ln_add_exp(t, x)
+    sum.ln_add_exp(x)
 }
 
 // ln_sum_exp over the pairs other than p and its mirror. At the loop's head `sum` is that of those before q.
-fn other_sum(t: &[u16; 1665], post: &[i64], at: usize, k: usize, p: usize) -> LogProb
-    requires { (t.now ≡ knots) × TableAt post.now at k × (p < k * k) }
+fn other_sum(post: &[i64], at: usize, k: usize, p: usize) -> LogProb
+    requires { TableAt post.now at k × (p < k * k) }
     ensures { (log_of result.0 ≡ other_sum (drop at post.now) k p) × (size (log_of result.0) ≤ 2 ^ 41) }
 {
     let n = k * k;
@@ -154,16 +153,16 @@ fn other_sum(t: &[u16; 1665], post: &[i64], at: usize, k: usize, p: usize) -> Lo
     let mut sum = LogProb::ln_zero();
     let mut q = 0;
     while q < n {
-        sum = add_other(t, sum, LogProb(post[at + q]), p, m, q);
+        sum = add_other(sum, LogProb(post[at + q]), p, m, q);
         q += 1;
     }
     sum
 }
 
 // The quality of the called genotype, of row-major number p: Phred of the sum over the other pairs, capped.
-pub fn gq_of(t: &[u16; 1665], post: &[i64], at: usize, k: usize, p: usize) -> PHREDProb
-    requires { (t.now ≡ knots) × TableAt post.now at k × (p < k * k) }
+pub fn gq_of(post: &[i64], at: usize, k: usize, p: usize) -> PHREDProb
+    requires { TableAt post.now at k × (p < k * k) }
     ensures { result.0 ≡ gq_of (drop at post.now) k p }
 {
-    capped_phred(other_sum(t, post, at, k, p))
+    capped_phred(other_sum(post, at, k, p))
 }

@@ -1,7 +1,6 @@
 // The rates, and the 4 by 36 table of priors that is made from them.
 ghost use Rattle.std.specs.Prelude.{◌≡◌, true, cond, ◌+◌, ◌%◌, ◌<◌, ◌≤◌, ◌^◌, eqb, pos, nat_abs, ◌+ℤ◌, length};
 ghost use Rattle.std.specs.Int.Signed.{lt_z};
-ghost use Rattle.steps.specs.Table.{knots};
 ghost use Rattle.genotype_probs.specs.Rates.{hom_snv_rate, het_snv_rate, hom_indel_rate, het_indel_rate, ts_rate, tv_rate, rate_ok, rate_sum};
 ghost use Rattle.genotype_probs.specs.Inner.Rates.{rates_fault};
 ghost use Rattle.genotype_probs.specs.Priors.{ln_half, ln_quarter, one_minus_exp};
@@ -20,8 +19,8 @@ fn rate_ok(rate: LogProb) -> bool
 }
 
 // ln_sum_exp of the first four rates.
-fn rate_sum(t: &[u16; 1665], rates: Rates) -> LogProb
-    requires { (t.now ≡ knots) × (rate_ok (hom_snv_rate rates) ≡ true) × (rate_ok (het_snv_rate rates) ≡ true) × (rate_ok (hom_indel_rate rates) ≡ true) × (rate_ok (het_indel_rate rates) ≡ true) }
+fn rate_sum(rates: Rates) -> LogProb
+    requires { (rate_ok (hom_snv_rate rates) ≡ true) × (rate_ok (het_snv_rate rates) ≡ true) × (rate_ok (hom_indel_rate rates) ≡ true) × (rate_ok (het_indel_rate rates) ≡ true) }
     ensures { result.0 ≡ rate_sum rates }
 {
     let four = [
@@ -30,12 +29,11 @@ fn rate_sum(t: &[u16; 1665], rates: Rates) -> LogProb
         rates.hom_indel.0,
         rates.het_indel.0,
     ];
-    LogProb::ln_sum_exp(t, &four)
+    LogProb::ln_sum_exp(&four)
 }
 
 // The first place at which the rates are wrong, or 7.
-pub fn rates_fault(t: &[u16; 1665], rates: Rates) -> usize
-    requires { t.now ≡ knots }
+pub fn rates_fault(rates: Rates) -> usize
     ensures { result ≡ rates_fault rates }
 {
     if !rate_ok(rates.hom_snv) {
@@ -56,18 +54,18 @@ pub fn rates_fault(t: &[u16; 1665], rates: Rates) -> usize
     if !rate_ok(rates.tv) {
         return 5;
     }
-    if rate_sum(t, rates).0 < 0 {
+    if rate_sum(rates).0 < 0 {
         return 7;
     }
     6
 }
 
 // ln_one_minus_exp of steps below 0.
-fn one_minus_exp(t: &[u16; 1665], p: LogProb) -> LogProb
-    requires { (t.now ≡ knots) × (nat_abs p.0 ≤ 2 ^ 60) × (lt_z p.0 (pos 0) ≡ true) }
+fn one_minus_exp(p: LogProb) -> LogProb
+    requires { (nat_abs p.0 ≤ 2 ^ 60) × (lt_z p.0 (pos 0) ≡ true) }
     ensures { result.0 ≡ one_minus_exp p.0 }
 {
-    p.ln_one_minus_exp(t)
+    p.ln_one_minus_exp()
 }
 
 // The rate of a transition or of a transversion.
@@ -157,27 +155,27 @@ fn write_table(rates: Rates, haploid: LogProb, diploid: LogProb, table: &mut [i6
 }
 
 // The haploid value of the reference base.
-fn reference_haploid(t: &[u16; 1665], rates: Rates) -> LogProb
-    requires { (t.now ≡ knots) × (rates_fault rates ≡ 7) }
+fn reference_haploid(rates: Rates) -> LogProb
+    requires { (rates_fault rates ≡ 7) }
     ensures { result.0 ≡ one_minus_exp (het_snv_rate rates +ℤ het_indel_rate rates) }
 {
-    one_minus_exp(t, LogProb(rates.het_snv.0 + rates.het_indel.0))
+    one_minus_exp(LogProb(rates.het_snv.0 + rates.het_indel.0))
 }
 
 // The value of the pair of reference bases.
-fn reference_diploid(t: &[u16; 1665], rates: Rates) -> LogProb
-    requires { (t.now ≡ knots) × (rates_fault rates ≡ 7) }
+fn reference_diploid(rates: Rates) -> LogProb
+    requires { (rates_fault rates ≡ 7) }
     ensures { result.0 ≡ one_minus_exp (rate_sum rates) }
 {
-    one_minus_exp(t, rate_sum(t, rates))
+    one_minus_exp(rate_sum(rates))
 }
 
 // Writes the table of accepted rates into 144 places.
-pub fn prior_table(t: &[u16; 1665], rates: Rates, table: &mut [i64])
-    requires { (t.now ≡ knots) × (rates_fault rates ≡ 7) × (length table.old ≡ 144) }
+pub fn prior_table(rates: Rates, table: &mut [i64])
+    requires { (rates_fault rates ≡ 7) × (length table.old ≡ 144) }
     ensures { table.new ≡ prior_table rates }
 {
-    let haploid = reference_haploid(t, rates);
-    let diploid = reference_diploid(t, rates);
+    let haploid = reference_haploid(rates);
+    let diploid = reference_diploid(rates);
     write_table(rates, haploid, diploid, table);
 }

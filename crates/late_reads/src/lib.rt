@@ -12,9 +12,9 @@ use crate::arriving::arriving_fault;
 use crate::counts::{arriving_fits, count_arriving, count_departing, departing_fits};
 use crate::kept::check_kept;
 use crate::ranges::total_ok;
-use crate::reads::{arriving_likelihoods, mixed, moved, put_likelihoods};
+use crate::reads::{arriving_likelihoods, moved, put_likelihoods};
 use crate::words::{lay_arrival, lay_departure};
-use steps::{LogProb, table};
+use steps::LogProb;
 use variants_and_fragments::layout::is_present;
 use variants_and_fragments::{Checked, Refusal, Sizes};
 
@@ -55,11 +55,10 @@ fn arrive_kept(
     requires arriving { Arriving words.old s arrival.fragment arrival.strand calls.now }
     ensures { ArrivesKept words.old s phase.now haplotypes.now (values likelihoods.old counts.old total.0) arrival.fragment arrival.strand calls.now (outcome_of result) (late_slices words.new likelihoods.new counts.new) }
 {
-    let t = table();
     let read = arriving_likelihoods(words, s, phase, haplotypes, arrival, calls);
     let first = read.first;
     let second = read.second;
-    let sum = moved(total, mixed(&t, first, second), 1);
+    let sum = moved(total, first.mix(second), 1);
     if !total_ok(sum) {
         return Updated::Refused(Refusal::Short(0));
     }
@@ -129,10 +128,9 @@ fn depart_kept(
     requires f_lt_f { (f < s.f) × (present_at words.old s f ≡ true) }
     ensures { DepartsKept words.old s (values likelihoods.old counts.old total.0) f (outcome_of result) (late_slices words.new likelihoods.new counts.new) }
 {
-    let t = table();
     let first = LogProb(likelihoods[2 * f]);
     let second = LogProb(likelihoods[2 * f + 1]);
-    let rest = moved(total, mixed(&t, first, second), -1);
+    let rest = moved(total, first.mix(second), -1);
     if !total_ok(rest) {
         return Updated::Refused(Refusal::Short(0));
     }

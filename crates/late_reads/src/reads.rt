@@ -1,7 +1,5 @@
 // The likelihoods of an arriving read, and a read's share of the phased total.
 ghost use Rattle.std.specs.Prelude.{◌≡◌, ◌+◌, ◌*◌, ◌^◌, ◌<◌, ◌≤◌, nat_abs, ◌+ℤ◌, ◌*ℤ◌, length};
-ghost use Rattle.steps.specs.Logs.{mix_of};
-ghost use Rattle.steps.specs.Table.{knots};
 ghost use Rattle.late_reads.specs.Values.{put_likelihoods, likelihood_on};
 ghost use Rattle.late_reads.specs.Arriving.{whole_calls, arriving_call, arriving_read};
 ghost use Rattle.late_reads.specs.Inner.Ready.{ReadyCase, Arriving, fixed_at, share_on};
@@ -72,14 +70,6 @@ pub fn arriving_likelihoods(
         i += 1;
     }
     ReadLikelihoods { first, second }
-}
-
-// A read's share of the phased total: ln_add_exp of its two likelihoods less 4,096 each.
-pub fn mixed(t: &[u16; 1665], first: LogProb, second: LogProb) -> LogProb
-    requires { (t.now ≡ knots) × (nat_abs first.0 ≤ 2 ^ 40) × (nat_abs second.0 ≤ 2 ^ 40) }
-    ensures { (result.0 ≡ mix_of first.0 second.0) × (nat_abs result.0 ≤ 2 ^ 41) }
-{
-    LogProb(first.0 - 4096).ln_add_exp(t, LogProb(second.0 - 4096))
 }
 
 // The phased total with d times a read's share more: d is 1 where the read arrives and −1 where it departs.

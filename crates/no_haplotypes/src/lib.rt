@@ -2,7 +2,6 @@
 #![tactic(auto)]
 
 ghost use Rattle.std.specs.Prelude.{◌≡◌, ◌+◌, ◌*◌, ◌<◌, ◌≤◌, length};
-ghost use Rattle.steps.specs.Table.{knots};
 ghost use Rattle.variants_and_fragments.specs.Refusals.{outcome_of};
 ghost use Rattle.variants_and_fragments.specs.Inner.Accepted.{CaseIn, BasesIn};
 ghost use Rattle.genotype_probs.specs.Inner.Rates.{rates_fault};
@@ -41,7 +40,6 @@ fn pile_of(ambiguous: &[usize], ends: &[usize], v: usize) -> Pile
 
 // Calls v: writes its words and its two qualities. The nine places from 9 v on hold its priors, and then its posteriors.
 fn call_variant(
-    t: &[u16; 1665],
     words: &[i32],
     s: Sizes,
     piles: &[u64],
@@ -52,17 +50,17 @@ fn call_variant(
     gqs: &mut [f64],
     v: usize,
 )
-    requires t_value { (t.now ≡ knots) × PileHeld words.now s piles.now v pile × PriorsAt post.old (9 * v) }
+    requires pile_held { PileHeld words.now s piles.now v pile × PriorsAt post.old (9 * v) }
     requires v_in_bounds { (13 * v + 13 ≤ length variants.old) × (v < length quals.old) × (v < length gqs.old) }
     ensures { VariantCalled words.now v post.old variants.old quals.old gqs.old post.new variants.new quals.new gqs.new }
 {
     let mut counts = [0usize; 6];
-    write_posteriors(t, words, s, piles, pile, &mut counts, post, v);
+    write_posteriors(words, s, piles, pile, &mut counts, post, v);
     let at = 9 * v;
     let k = layout::allele_count(words, s, v);
-    let p = max_genotype(t, post, at, k, false);
+    let p = max_genotype(post, at, k, false);
     quals[v] = qual_of(post, at).0;
-    gqs[v] = gq_of(t, post, at, k, p).0;
+    gqs[v] = gq_of(post, at, k, p).0;
     let depth = depth_after(words, s, pile.end - pile.start + pile.ambiguous, v);
     let g = genotype_of(k, p);
     write_answer(g, &counts, pile.ambiguous, depth, variants, v);
@@ -70,7 +68,6 @@ fn call_variant(
 
 // Calls all variants. At the loop's head those before v are called, and the priors of the others stand in their places.
 fn call_variants(
-    t: &[u16; 1665],
     words: &[i32],
     s: Sizes,
     ambiguous: &[usize],
@@ -81,7 +78,7 @@ fn call_variants(
     quals: &mut [f64],
     gqs: &mut [f64],
 )
-    requires t_value { (t.now ≡ knots) × Piled words.now s ambiguous.now ends.now piles.now × PriorsIn post.old s.n }
+    requires piled { Piled words.now s ambiguous.now ends.now piles.now × PriorsIn post.old s.n }
     requires n_in_bounds { (13 * s.n ≤ length variants.old) × (s.n ≤ length quals.old) × (s.n ≤ length gqs.old) }
     ensures { VariantsCalled words.now s.n post.old variants.old quals.old gqs.old variants.new quals.new gqs.new }
 {
@@ -89,7 +86,7 @@ fn call_variants(
     let mut v = 0;
     while v < n {
         let pile = pile_of(ambiguous, ends, v);
-        call_variant(t, words, s, piles, pile, post, variants, quals, gqs, v);
+        call_variant(words, s, piles, pile, post, variants, quals, gqs, v);
         v += 1;
     }
 }
@@ -107,7 +104,6 @@ fn pile_up(words: &[i32], s: Sizes, ambiguous: &mut [usize], ends: &mut [usize],
 
 // Calls the variants of an accepted case at accepted rates.
 fn call_accepted(
-    t: &[u16; 1665],
     words: &[i32],
     s: Sizes,
     bases: &[u8],
@@ -116,7 +112,7 @@ fn call_accepted(
     quals: &mut [f64],
     gqs: &mut [f64],
 )
-    requires t_value { (t.now ≡ knots) × CaseIn words.now s × FewCalls words.now × BasesIn words.now s bases.now × (rates_fault rates ≡ 7) }
+    requires case_in { CaseIn words.now s × FewCalls words.now × BasesIn words.now s bases.now × (rates_fault rates ≡ 7) }
     requires n_in_bounds { (13 * s.n ≤ length variants.old) × (s.n ≤ length quals.old) × (s.n ≤ length gqs.old) }
     ensures { AcceptedCalled words.now bases.now rates s.n variants.old quals.old gqs.old variants.new quals.new gqs.new }
 {
@@ -125,9 +121,9 @@ fn call_accepted(
     let mut piles = call_words();
     pile_up(words, s, &mut ambiguous, &mut ends, &mut piles);
     let mut post = nine_each();
-    make_priors(t, words, s, bases, rates, &mut post);
+    make_priors(words, s, bases, rates, &mut post);
     call_variants(
-        t, words, s, &ambiguous, &ends, &piles, &mut post, variants, quals, gqs,
+        words, s, &ambiguous, &ends, &piles, &mut post, variants, quals, gqs,
     );
 }
 
@@ -146,8 +142,7 @@ pub fn call_genotypes_no_haplotypes(
     match checked {
         Checked::Refused(x) => Answered::Refused(x),
         Checked::Accepted(s) => {
-            let t = steps::table();
-            let p = rates_fault(&t, rates);
+            let p = rates_fault(rates);
             if p < 7 {
                 return Answered::Refused(Refusal::Rates(p));
             }
@@ -157,7 +152,7 @@ pub fn call_genotypes_no_haplotypes(
             if short != 0 {
                 return Answered::Refused(Refusal::Short(short));
             }
-            call_accepted(&t, words, s, bases, rates, variants, quals, gqs);
+            call_accepted(words, s, bases, rates, variants, quals, gqs);
             Answered::Done
         }
     }

@@ -1,6 +1,5 @@
 // The posteriors of a variant, from its priors and the sums over its pile.
 ghost use Rattle.std.specs.Prelude.{◌≡◌, cond, ◌*◌, ◌/◌, ◌%◌, ◌<◌, ◌≤◌, ◌^◌, ltb, pos, nat_abs, ◌+ℤ◌, drop, replicate};
-ghost use Rattle.steps.specs.Table.{knots};
 ghost use Rattle.variants_and_fragments.specs.Inner.Accepted.{CaseIn};
 ghost use Rattle.variants_and_fragments.specs.Inner.Written.{written_from};
 ghost use Rattle.no_haplotypes.specs.Inner.Tally.{pile_rows, PileIn, SumsIn, pair_gain, gained, PriorsAt, PosteriorsMade};
@@ -47,7 +46,6 @@ fn write_scores(post: &mut [i64], at: usize, k: usize, total: LogProb, gains: &[
 
 // Writes the posteriors of v over its priors, in the nine places from 9 v on, and its calls by strand and allele.
 pub fn write_posteriors(
-    t: &[u16; 1665],
     words: &[i32],
     s: Sizes,
     piles: &[u64],
@@ -56,13 +54,13 @@ pub fn write_posteriors(
     post: &mut [i64],
     v: usize,
 )
-    requires t_value { (t.now ≡ knots) × CaseIn words.now s × PileIn s piles.now pile × (v < s.n) }
+    requires case_in { CaseIn words.now s × PileIn s piles.now pile × (v < s.n) }
     requires counts_value { (counts.old ≡ replicate 6 0) × PriorsAt post.old (9 * v) }
     ensures { PosteriorsMade words.now s (pile_rows piles.now pile) v post.old post.new counts.new }
 {
     let mut gains = [0i64; 6];
-    let total = tally(t, words, s, piles, pile, &mut gains, counts);
+    let total = tally(words, s, piles, pile, &mut gains, counts);
     let k = layout::allele_count(words, s, v);
     write_scores(post, 9 * v, k, total, &gains);
-    normalize(t, post, 9 * v, k);
+    normalize(post, 9 * v, k);
 }

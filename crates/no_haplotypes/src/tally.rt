@@ -1,12 +1,9 @@
 // What one pass over a variant's pile adds up: the qualities, what each allele gains on them, and the calls by strand and allele.
 ghost use Rattle.std.specs.Prelude.{◌≡◌, ◌<◌, ◌≤◌, ◌^◌, ◌+◌, pos, nat_abs, length, get_or, set};
-ghost use Rattle.steps.specs.Table.{knots};
 ghost use Rattle.variants_and_fragments.specs.Inner.Accepted.{CaseIn};
 ghost use Rattle.pileup.specs.Inner.Packed.{row_at, RowIn};
-ghost use Rattle.steps.specs.Logs.{mix_of};
 ghost use Rattle.no_haplotypes.specs.Inner.Tally.{added, pile_rows, PileIn, GainsIn, CountsIn, CallAdded, Untouched, Tallied};
 
-use genotype_probs::table::ln_half;
 use pileup::row::unpack;
 use steps::LogProb;
 use variants_and_fragments::{Sizes, layout};
@@ -17,16 +14,6 @@ pub struct Pile {
     pub start: usize,
     pub end: usize,
     pub ambiguous: usize,
-}
-
-// ln_add_exp of both less 4,096 each.
-fn mix(t: &[u16; 1665], qual: LogProb, one_minus_qual: LogProb) -> LogProb
-    requires { (t.now ≡ knots) × (nat_abs qual.0 ≤ 262144) × (nat_abs one_minus_qual.0 ≤ 262144) }
-    ensures { (result.0 ≡ mix_of qual.0 one_minus_qual.0) × (nat_abs result.0 ≤ 270336) }
-{
-    let q = LogProb(qual.0 + ln_half().0);
-    let o = LogProb(one_minus_qual.0 + ln_half().0);
-    q.ln_add_exp(t, o)
 }
 
 // Adds a gain to place x.
@@ -47,7 +34,6 @@ fn count_one(counts: &mut [usize; 6], x: usize)
 
 // Adds the call at c to both gains of its allele, x and 3 + x, and to the counts; answers its qual.
 fn add_call(
-    t: &[u16; 1665],
     words: &[i32],
     s: Sizes,
     piles: &[u64],
@@ -55,7 +41,7 @@ fn add_call(
     counts: &mut [usize; 6],
     c: usize,
 ) -> LogProb
-    requires t_value { (t.now ≡ knots) × CaseIn words.now s × (c < length piles.now) × RowIn s.n s.f (row_at piles.now c) }
+    requires case_in { CaseIn words.now s × (c < length piles.now) × RowIn s.n s.f (row_at piles.now c) }
     requires gains_in { GainsIn gains.old × CountsIn counts.old }
     ensures { CallAdded words.now s (row_at piles.now c) gains.old counts.old result.0 gains.new counts.new }
 {
@@ -63,7 +49,7 @@ fn add_call(
     let x = row.allele;
     let q = row.qual.0;
     let o = row.one_minus_qual.0;
-    let m = mix(t, row.qual, row.one_minus_qual).0;
+    let m = row.qual.mix(row.one_minus_qual).0;
     let strand = layout::direction_of(layout::strand_of(words, s, row.fragment));
     add_gain(gains, x, o - q);
     add_gain(gains, 3 + x, m - q);
@@ -73,7 +59,6 @@ fn add_call(
 
 // Adds up a pile; answers the sum of qual. At the loop's head the calls before c are added.
 pub fn tally(
-    t: &[u16; 1665],
     words: &[i32],
     s: Sizes,
     piles: &[u64],
@@ -81,7 +66,7 @@ pub fn tally(
     gains: &mut [i64; 6],
     counts: &mut [usize; 6],
 ) -> LogProb
-    requires t_value { (t.now ≡ knots) × CaseIn words.now s × PileIn s piles.now pile }
+    requires case_in { CaseIn words.now s × PileIn s piles.now pile }
     requires untouched { Untouched gains.old counts.old }
     ensures { Tallied words.now s (pile_rows piles.now pile) result.0 gains.new counts.new }
 {
@@ -89,7 +74,7 @@ pub fn tally(
     let mut total = LogProb::ln_one();
     let mut c = pile.start;
     while c < e {
-        let q = add_call(t, words, s, piles, gains, counts, c);
+        let q = add_call(words, s, piles, gains, counts, c);
         total = LogProb(total.0 + q.0);
         c += 1;
     }

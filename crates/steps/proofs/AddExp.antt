@@ -1,12 +1,13 @@
 -- Laws of `add_exp`, for all integers: with the larger one first it is a + A(a − b), and A falls by 0 or 1 with each step of the difference.
 -- Assumes nothing.
-use Rattle.std.proofs.Common.{◌≡◌, ℕ, ◌+◌, ◌≤◌, ℤ, pos, negsuc, ◌+ℤ◌, neg_ℤ, nat_abs, ◌≤ℤ◌, refl, ap, ◌∙◌, arith}
+use Rattle.std.proofs.Common.{◌≡◌, ℕ, ◌+◌, ◌^◌, ◌<◌, ◌≤◌, ℤ, pos, negsuc, ◌+ℤ◌, ◌-ℤ◌, neg_ℤ, nat_abs, ◌≤ℤ◌, sym, refl, ap, ◌∙◌, arith}
+use Rattle.std.specs.Int.{int_max}
 use Rattle.steps.specs.Table.{knots}
 use Rattle.steps.specs.Knots.{T}
 use Rattle.steps.specs.Addend.{addend}
-use Rattle.steps.specs.Logs.{larger, difference, add_exp}
+use Rattle.steps.specs.Logs.{larger, difference, add_exp, mix_of}
 use Rattle.steps.proofs.Addends.{falls, at_most, far}
-use Rattle.steps.proofs.Signed.{up, dn, zlin, cases_z, le_true, →le_z_no, parts_add, up_pos, dn_pos, neg_up, neg_dn, apart, apart_swap, add_abs, <ℤ→}
+use Rattle.steps.proofs.Signed.{up, dn, zlin, cases_z, le_true, →le_z_no, parts_add, up_pos, dn_pos, neg_up, neg_dn, apart, apart_swap, add_abs, minus_abs, <ℤ→, ≤ℤ→, →lt_z, →lt_z_no}
 
 -- ---- the difference
 pub diff_swap : (a b : ℤ) → difference a b ≡ difference b a
@@ -25,6 +26,11 @@ larger_first a b h = rw (le_true b a h)
 pub larger_second : (a b : ℤ) → a ≤ℤ b → larger a b ≡ b
 unfolding larger
 larger_second a b h = cases_z b a (λ k. rw (le_true b a k) (omega zlin)) (λ k. rw (→le_z_no b a (<ℤ→ a b k)))
+
+pub max_is : (a b : ℤ) → int_max a b ≡ larger a b
+max_is a b =
+    cases_z a b (λ o. rw (→lt_z_no b a (≤ℤ→ a b o)) (sym (larger_second a b o)))
+    (λ o. let i : b ≤ℤ a = omega zlin in rw (→lt_z b a (<ℤ→ b a o)) (sym (larger_first a b i)))
 
 pub larger_size : (a b : ℤ) (n : ℕ) → nat_abs a ≤ n → nat_abs b ≤ n → nat_abs (larger a b) ≤ n
 larger_size a b n h k =
@@ -79,6 +85,18 @@ add_size a b n h k =
     let l = at_most (difference a b) in
     let m = larger_size a b n h k in
     let s = add_abs (larger a b) (pos (addend (difference a b))) in omega arith
+
+-- and with 4,096 taken from both first, at most 8192
+pub mix_size : (a b : ℤ) (n : ℕ) → nat_abs a ≤ n → nat_abs b ≤ n → nat_abs (mix_of a b) ≤ n + 8192
+unfolding mix_of
+mix_size a b n h k =
+    let x = minus_abs a (pos 4096) in
+    let y = minus_abs b (pos 4096) in
+    let s = add_size (a -ℤ pos 4096) (b -ℤ pos 4096) (n + 4096) (omega arith) (omega arith) in omega arith
+
+-- so the code's sum does not wrap
+pub sum_small : (a b m : ℤ) (d n : ℕ) → m ≡ larger a b → n ≡ addend d → nat_abs a ≤ 2 ^ 61 → nat_abs b ≤ 2 ^ 61 → nat_abs m + n < 2 ^ 63
+sum_small a b m d n e f h k = rw (e, f) (omega (arith, larger_size a b (2 ^ 61) h k, at_most d))
 
 -- ---- monotone
 -- in the second one, on either side of the first

@@ -1,6 +1,6 @@
 -- Laws of A(d), `addend`: it is at most 4096, from each d to the next it falls by 0 or 1, and it is 0 from 51,328 on.
 -- Assumes nothing.
-use Rattle.std.proofs.Common.{◌≡◌, ℕ, suc, ◌+◌, ◌-◌, ◌*◌, ◌/◌, ◌%◌, ◌<◌, ◌≤◌, sym, refl, ap, ◌∙◌, mul-le-mul_left, mul-suc, arith, le-leb}
+use Rattle.std.proofs.Common.{◌≡◌, ℕ, suc, ◌+◌, ◌-◌, ◌*◌, ◌/◌, ◌%◌, ◌<◌, ◌≤◌, min, sym, refl, ap, ◌∙◌, mul-le-mul_left, mul-suc, arith, le-leb}
 use native.Mathlib.Decide.{le_ind}
 use borrow.Author.Tests.{lt-leb}
 use Rattle.steps.specs.Table.{knots}
@@ -119,3 +119,11 @@ far d h = let f = falls 51328 d h in let z = at_flat in omega arith
 pub flat : T 1604 ≡ 0
 unfolding T knots
 flat = refl
+
+-- so the line of the knot 1604 holds from there on
+pub on_near : (d k : ℕ) → k ≡ min (d / 32) 1604 → addend d ≡ line (T k) (T (k + 1)) (d % 32)
+unfolding line
+on_near d k e =
+    cases (d / 32) 1604
+    (λ h. let i : k ≡ d / 32 = omega arith in rw i (on_line d (omega arith)))
+    (λ h. let i : k ≡ 1604 = omega arith in rw i (far d (omega arith) ∙ omega (arith, flat)))

@@ -1,6 +1,6 @@
 -- At each d its piece's line gives ln(1 + exp(d)): between two knots A(d) is (base − fall × d) div 32, at both ends too.
 -- Assumes nothing.
-use Rattle.std.proofs.Common.{◌≡◌, ℕ, suc, ◌+◌, ◌-◌, ◌*◌, ◌/◌, ◌%◌, ◌^◌, ◌<◌, ◌≤◌, ℤ, pos, negsuc, ◌+ℤ◌, ◌*ℤ◌, neg_ℤ, nat_abs, ◌≤ℤ◌, sym, refl, ap, ◌∙◌, mul_comm, add-mul, mul-le-mul, mul-le-mul_left, zero-add, zero-mul, mul-add, arith}
+use Rattle.std.proofs.Common.{◌≡◌, ℕ, suc, ◌+◌, ◌-◌, ◌*◌, ◌/◌, ◌%◌, ◌^◌, ◌<◌, ◌≤◌, ℤ, pos, negsuc, ◌+ℤ◌, ◌*ℤ◌, neg_ℤ, nat_abs, ◌≤ℤ◌, sym, refl, ap, ◌∙◌, mul_comm, add-mul, mul-le-mul, mul-le-mul_left, zero-add, zero-mul, mul-add, arith, w64, of_z}
 use lib.IntN.{+ℤ_idr}
 use Rattle.steps.specs.Knots.{T}
 use Rattle.steps.specs.Addend.{addend}
@@ -125,30 +125,17 @@ holds_low n h =
     let a = far (suc n) (omega arith) in
     holds 3209 0 0 0 (negsuc n) (omega arith) (omega arith) (omega arith) line_low (taken 0 (0 * suc n) (omega (arith, z)) ∙ ap pos (omega (arith, z))) (below_zero n ∙ ap pos (omega arith))
 
--- ---- which piece: e is d + 51,328, modulo 2^64
-moved : (n : ℕ) → suc n ≤ 2 ^ 36 → nat_abs (negsuc n +ℤ pos 1099511627776) + suc n ≡ 1099511627776
-moved n h =
-    let z = negsuc n +ℤ pos 1099511627776 in
-    let p = parts_add (negsuc n) (pos 1099511627776) in
-    let a = nat_abs_parts z in
-    let u = up_negsuc n in
-    let v = dn_negsuc n in
-    let x = up_pos 1099511627776 in
-    let y = dn_pos 1099511627776 in by_sign z (λ e. omega arith) (λ e. omega arith)
+-- ---- which piece: u is d's bits, and e is d + 51,328, modulo 2^64
+pub piece_near : (d : ℤ) (u : ℕ) → u ≡ of_z w64 d → nat_abs d ≤ 2 ^ 36 → (u + 51328) % 2 ^ 64 / 32 < 3208 → Holds ((u + 51328) % 2 ^ 64 / 32) d
+piece_near (pos n) u e h i =
+    let j : (u + 51328) % 2 ^ 64 / 32 ≡ 1604 + n / 32 = omega arith in rw j (holds_above n (omega arith))
+piece_near (negsuc n) u e h i =
+    let l : n < 51328 = omega arith in
+    let j : (u + 51328) % 2 ^ 64 / 32 ≡ (51327 - n) / 32 = omega arith in rw j (holds_below_lem n l)
 
-module _ (e : ℕ) (small : e < 2 ^ 64) where
-  pub piece_near : (d : ℤ) → nat_abs d ≤ 2 ^ 36 → (e + 1099511576448) % 2 ^ 64 ≡ nat_abs (d +ℤ pos 1099511627776) → e / 32 < 3208 → Holds (e / 32) d
-  piece_near (pos n) h w i =
-      let j : e / 32 ≡ 1604 + n / 32 = omega arith in rw j (holds_above n (omega arith))
-  piece_near (negsuc n) h w i =
-      let m = moved n h in
-      let l : n < 51328 = omega arith in
-      let j : e / 32 ≡ (51327 - n) / 32 = omega arith in rw j (holds_below_lem n l)
-
-  pub piece_far : (d : ℤ) → nat_abs d ≤ 2 ^ 36 → (e + 1099511576448) % 2 ^ 64 ≡ nat_abs (d +ℤ pos 1099511627776) → 3208 ≤ e / 32 → Holds (3208 + e / 9223372036854775808) d
-  piece_far (pos n) h w i =
-      let j : 3208 + e / 9223372036854775808 ≡ 3208 = omega arith in rw j (holds_high n (omega arith))
-  piece_far (negsuc n) h w i =
-      let m = moved n h in
-      let l : 51328 ≤ n = omega arith in
-      let j : 3208 + e / 9223372036854775808 ≡ 3209 = omega arith in rw j (holds_low n l)
+pub piece_far : (d : ℤ) (u : ℕ) → u ≡ of_z w64 d → nat_abs d ≤ 2 ^ 36 → 3208 ≤ (u + 51328) % 2 ^ 64 / 32 → Holds (3208 + (u + 51328) % 2 ^ 64 / 9223372036854775808) d
+piece_far (pos n) u e h i =
+    let j : 3208 + (u + 51328) % 2 ^ 64 / 9223372036854775808 ≡ 3208 = omega arith in rw j (holds_high n (omega arith))
+piece_far (negsuc n) u e h i =
+    let l : 51328 ≤ n = omega arith in
+    let j : 3208 + (u + 51328) % 2 ^ 64 / 9223372036854775808 ≡ 3209 = omega arith in rw j (holds_low n l)

@@ -1,5 +1,5 @@
 // The lines of specs/Inner/Lines.antt, base and slope of each: below zero, from zero on, far above, far below.
-pub const LINES: [u32; 6420] = [
+pub static LINES: [u32; 6420] = [
     51359, 1, 63, 0, 63, 0, 63, 0, 63, 0, 63, 0, 63, 0, 63, 0, 63, 0, 63, 0, 63, 0, 63, 0, 63, 0,
     63, 0, 63, 0, 63, 0, 63, 0, 63, 0, 63, 0, 63, 0, 63, 0, 63, 0, 63, 0, 63, 0, 63, 0, 63, 0, 63,
     0, 63, 0, 63, 0, 63, 0, 63, 0, 63, 0, 63, 0, 63, 0, 63, 0, 63, 0, 63, 0, 63, 0, 63, 0, 63, 0,

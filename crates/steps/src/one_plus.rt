@@ -4,31 +4,32 @@ ghost use Rattle.steps.specs.Logs.{add_exp};
 ghost use Rattle.steps.specs.Inner.Lines.{Holds};
 ghost use Rattle.steps.specs.Inner.Lines as spec;
 
-// The lines. The run copies them once, before its sweeps, and lends the copy: a const that is indexed is copied at each use.
-pub fn lines() -> [u32; 6420]
-    ensures { result ≡ spec.lines }
+// The lines.
+pub fn lines() -> &'static [u32; 6420]
+    ensures { result.now ≡ spec.lines }
 {
-    crate::lines::LINES
+    &crate::lines::LINES
 }
 
 // Which of the lines holds at d: 3,208 pieces of 32 steps from −51,328 on, then the far ones, above (3208) and below (3209). e is d + 51,328
-// modulo 2^64; 2^40 is added first, so that a number from 0 on is cast. Both arms are computed, so no jump is made of the test.
+// modulo 2^64. Both arms are computed, so no jump is made of the test.
 fn piece(d: i64) -> usize
     requires { unsigned_abs d ≤ 2 ^ 36 }
     ensures { Holds result d }
 {
-    let u = (d + 1099511627776) as usize;
-    let e = std::num::wrapping_sub_usize(u, 1099511576448);
+    let e = d.cast_unsigned().wrapping_add(51328) as usize;
     let k = e / 32;
     let far = 3208 + e / 9223372036854775808;
-    if k < 3208 { k } else { far }
+    let near = k < 3208;
+    if near { k } else { far }
 }
 
 // ln(1 + exp(d)), in steps.
-pub fn ln_one_plus_exp(t: &[u32; 6420], d: i64) -> i64
-    requires { (t.now ≡ spec.lines) × (unsigned_abs d ≤ 2 ^ 36) }
+pub fn ln_one_plus_exp(d: i64) -> i64
+    requires { unsigned_abs d ≤ 2 ^ 36 }
     ensures { result ≡ add_exp d (pos 0) }
 {
+    let t = lines();
     let k = piece(d);
     let x = t[2 * k] as i64;
     let y = t[2 * k + 1] as i64;

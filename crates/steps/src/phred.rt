@@ -24,31 +24,29 @@ pub fn phred(p: LogProb) -> PHREDProb
 }
 
 // Phred of p, at most the largest quality.
+#[tactic(auto, unfolding(crate::specs::Phred::capped, crate::specs::Phred::max_vcf_qual))]
 pub fn capped_phred(p: LogProb) -> PHREDProb
     requires { size (log_of p.0) < 2 ^ 52 }
     ensures { result.0 ≡ capped (phred_of (log_of p.0)) }
 {
     let q = phred(p);
-    let x = q.0;
-    if x > MAX_VCF_QUAL {
+    if q.0 > MAX_VCF_QUAL {
         PHREDProb(MAX_VCF_QUAL)
     } else {
-        PHREDProb(x)
+        q
     }
 }
 
-// The quality byte: 33 and the number of w in 1..93 with w at most q. At the loop's head `n` has counted those below w.
+// The quality byte: 33 and the number of w in 1..93 with w at most q.
 pub fn quality_byte(q: PHREDProb) -> u8
     ensures { result ≡ quality_byte q.0 }
 {
     let x = q.0;
     let mut n: u8 = 33;
-    let mut w: u8 = 1;
-    while w <= 93 {
+    for w in 1..=93u8 {
         if w as f64 <= x {
             n += 1;
         }
-        w += 1;
     }
     n
 }

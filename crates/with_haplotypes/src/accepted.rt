@@ -56,8 +56,7 @@ pub fn round_accepted(
         &mut likelihoods[0..b],
         posteriors,
     );
-    let t = steps::table();
-    normalize_all(&t, &ks, posteriors, s.n);
-    write_finals(&t, words, s, posteriors, quals, gqs);
+    normalize_all(&ks, posteriors, s.n);
+    write_finals(words, s, posteriors, quals, gqs);
     r
 }

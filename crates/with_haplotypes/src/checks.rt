@@ -1,6 +1,5 @@
 // The checks of a round past those of its case: numbers 6 to 10.
 ghost use Rattle.std.specs.Prelude.{◌≡◌, ◌≤◌};
-ghost use Rattle.steps.specs.Table.{knots};
 ghost use Rattle.with_haplotypes.specs.Inner.Checks.{round_short, limit_checks, round_checks, checked_as};
 
 use genotype_probs::Rates;
@@ -53,7 +52,6 @@ fn check_limits(m: usize, limit: u32, short: usize) -> RoundChecked
 
 // The checks in the order of their numbers; `short` is what a lent slice is short of, or 0.
 pub fn round_checks(
-    t: &[u16; 1665],
     n: usize,
     rates: Rates,
     phase: &[u8],
@@ -62,10 +60,10 @@ pub fn round_checks(
     limit: u32,
     short: usize,
 ) -> RoundChecked
-    requires { (t.now ≡ knots) × (n ≤ 1024) }
+    requires { (n ≤ 1024) }
     ensures { checked_as result ≡ round_checks n rates phase.now sets.now orders.now limit short }
 {
-    let p = rates_fault(t, rates);
+    let p = rates_fault(rates);
     if p < 7 {
         return RoundChecked::Refused(Refusal::Rates(p));
     }

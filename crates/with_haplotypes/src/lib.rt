@@ -66,7 +66,6 @@ pub fn call_genotypes_with_haplotypes(
     match check_case(words, bases) {
         Checked::Refused(x) => Round::Refused(x),
         Checked::Accepted(s) => {
-            let t = steps::table();
             let short = round_short(
                 s.n,
                 s.f,
@@ -76,7 +75,7 @@ pub fn call_genotypes_with_haplotypes(
                 quals.len(),
                 gqs.len(),
             );
-            match round_checks(&t, s.n, rates, phase, sets, orders, limit, short) {
+            match round_checks(s.n, rates, phase, sets, orders, limit, short) {
                 RoundChecked::Refused(x) => Round::Refused(x),
                 RoundChecked::Good(m) => Round::Done(round_accepted(
                     words,

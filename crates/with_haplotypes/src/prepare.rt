@@ -22,7 +22,6 @@ pub fn prepare(
     requires scratch_room { ScratchRoom s (scratch rows.old row_ends.old piles.old pile_ends.old pri.old) }
     ensures { Prepared words.now bases.now rates s (scratch rows.new row_ends.new piles.new pile_ends.new pri.new) }
 {
-    let t = steps::table();
     let mut ambiguous = [0usize; 1];
     pile_calls(
         words,
@@ -33,5 +32,5 @@ pub fn prepare(
         piles,
         pile_ends,
     );
-    make_priors(&t, words, s, bases, rates, pri);
+    make_priors(words, s, bases, rates, pri);
 }

@@ -8,7 +8,6 @@ use crate::{RoundAnswer, RoundSizes};
 use call_genotypes::run::{Plan, run_sweeps};
 use likelihoods::likelihoods::write_likelihoods;
 use likelihoods::totals::{standing_total, total};
-use steps::one_plus;
 
 // The flags of all variants.
 fn ones() -> [u8; 1024]
@@ -37,20 +36,19 @@ pub fn run_prepared(
     ensures { PreparedPromise z ks.now ph.now (scratch rows.now row_ends.now piles.now pile_ends.now pri.now) orders.now (sweep_state hap.old lik.old post.old) (sweep_state hap.new lik.new post.new) result }
 {
     let s = z.s;
-    let l = one_plus::lines();
     write_likelihoods(rows, row_ends, hap, ph, lik, s.f);
-    let start = standing_total(s, &l, ks, pri, lik, hap, ph);
+    let start = standing_total(s, ks, pri, lik, hap, ph);
     let plan = Plan {
         n: s.n,
         m: z.m,
         limit: z.limit,
     };
     let r = run_sweeps(
-        &l, ks, ph, pri, pile_ends, piles, orders, hap, lik, post, plan,
+        ks, ph, pri, pile_ends, piles, orders, hap, lik, post, plan,
     );
     let all = ones();
-    let end = standing_total(s, &l, ks, pri, lik, hap, ph);
-    let source = total(s, &l, ks, pri, rows, row_ends, hap, &all);
+    let end = standing_total(s, ks, pri, lik, hap, ph);
+    let source = total(s, ks, pri, rows, row_ends, hap, &all);
     RoundAnswer {
         sweeps: r.sweeps,
         settled: r.settled,

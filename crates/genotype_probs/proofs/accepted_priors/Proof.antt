@@ -22,7 +22,7 @@ use Rattle.genotype_probs.proofs.accepted_priors.Tie as tie
 
 -- ---- the places passed, and what holds there
 abbrev st : tie.After-rates_fault-p → tie.Start
-st c = c.before.before.before.before
+st c = c.before.before
 
 abbrev slices : tie.Start → List (ℕ × ℕ)
 slices s = (9 * s.args.s.n, length s.args.priors.now) ∷ []
@@ -51,9 +51,6 @@ short c = short_last _ _ _ c.short_of-short.ensures
 fits : (c : tie.Else-short-ne0) → smallest_short (slices (st (rates_of c.before).before)) ≡ 0
 fits c = sym (short c.before) ∙ c.if-short-ne0.false
 
-table_requires : tie.Need-table-t-requires
-table_requires c κs = search rules
-
 rates_fault_requires : tie.Need-rates_fault-p-requires
 rates_fault_requires c κs = search rules
 
@@ -75,10 +72,10 @@ returns_2 c =
 
 make_priors_requires : tie.Need-make_priors-requires
 make_priors_requires c κs =
-    let e = c.before.before in
+    let e = c.before in
     let d = rates_of e.before in
     let s = st d.before in
-    (d.before.before.before.table-t.ensures, case s, bases_in s.args.words.now s.args.bases.now s.args.s s.requires, accepted d, (short_fits _ _ _ (fits e)).0)
+    (case s, bases_in s.args.words.now s.args.bases.now s.args.s s.requires, accepted d, (short_fits _ _ _ (fits e)).0)
 
 same_length : tie.Need-shape_of-priors
 same_length c = search rules
@@ -86,7 +83,7 @@ same_length c = search rules
 returns_3 : tie.Need-returns
 unfolding genotype_priors_written
 returns_3 c =
-    let e = c.before.before.before.before in
+    let e = c.before.before.before in
     let s = st (rates_of e.before).before in
     does (enough_on _ _ (fits e) ∙ past_rates (rates_of e.before)) (rw (variants_are (case s) s.args.bases.now) c.before.make_priors.ensures)
 
@@ -94,7 +91,6 @@ pub accepted_priors_spec : {M : Type 1} → statement M
 accepted_priors_spec =
     tie.close
     (tie.spec
-    table_requires
     rates_fault_requires
     returns
     mul_short_of

@@ -16,21 +16,18 @@ use Rattle.late_reads.proofs.Ranged.{total_small, counts_in, refuses_total, refu
 use Rattle.late_reads.proofs.arrive_kept.Statement.{statement}
 use Rattle.late_reads.proofs.arrive_kept.Tie as tie
 
-table_requires : tie.Need-table-t-requires
-table_requires c κs = search rules
-
 arriving_likelihoods_requires : tie.Need-arriving_likelihoods-read-requires
 arriving_likelihoods_requires c κs = search rules
 
-mixed_requires : tie.Need-mixed-requires
-mixed_requires c κs = search rules
+mix_requires : tie.Need-mix-requires
+mix_requires c κs = search rules
 
 -- the likelihoods of the read, its share, and the new total
-abbrev weighed : tie.After-mixed → tie.After-arriving_likelihoods-read
-weighed m = m.before.before.before.before
+abbrev weighed : tie.After-mix → tie.After-arriving_likelihoods-read
+weighed m = m.before.before.before
 
-abbrev start : tie.After-mixed → tie.Start
-start m = (weighed m).before.before.before.before
+abbrev start : tie.After-mix → tie.Start
+start m = (weighed m).before.before.before
 
 abbrev read : tie.Start → ℕ → ℤ
 read s h = likelihood_on (fixed_at s.args.words.now s.args.phase.now s.args.haplotypes.now) (arriving_read s.args.arrival.strand s.args.calls.now) h
@@ -38,25 +35,27 @@ read s h = likelihood_on (fixed_at s.args.words.now s.args.phase.now s.args.hapl
 abbrev share : tie.Start → ℤ
 share s = mix_of (read s 0) (read s 1)
 
-share_is : (m : tie.After-mixed) → m.mixed.result.0 ≡ share (start m)
+share_is : (m : tie.After-mix) → m.mix.result.0 ≡ share (start m)
 share_is m =
     let l = (weighed m).arriving_likelihoods-read.ensures in
-    m.mixed.ensures.0 ∙ same_mix l.0.0 l.1.0
+    m.mix.ensures.0 ∙ same_mix l.0.0 l.1.0
 
 abbrev sum : tie.Start → ℤ
 sum s = s.args.total.0 +ℤ share s
 
-abbrev shared : tie.After-moved-sum → tie.After-mixed
+abbrev shared : tie.After-moved-sum → tie.After-mix
 shared c = c.before
 
 moved_requires : tie.Need-moved-sum-requires
-moved_requires c κs = (total_small (start c).requires.0, c.mixed.ensures.1, omega arith)
+moved_requires c κs =
+    let l = (weighed c).arriving_likelihoods-read.ensures in
+    (total_small (start c).requires.0, omega (arith, c.mix.ensures.1, l.0.1, l.1.1), omega arith)
 
 total_ok_requires : tie.Need-total_ok-requires
 total_ok_requires c κs = search rules
 
 sum_is : (m : tie.After-moved-sum) → m.moved-sum.result.0 ≡ sum (start (shared m))
-sum_is m = m.moved-sum.ensures ∙ ap (λ (z : ℤ). (start (shared m)).args.total.0 +ℤ z) (times_one (shared m).mixed.result.0 ∙ share_is (shared m))
+sum_is m = m.moved-sum.ensures ∙ ap (λ (z : ℤ). (start (shared m)).args.total.0 +ℤ z) (times_one (shared m).mix.result.0 ∙ share_is (shared m))
 
 abbrev entry : tie.After-total_ok → tie.Start
 entry t = start (shared t.before)
@@ -145,9 +144,8 @@ pub arrive_kept_spec : {M : Type 1} → statement M
 arrive_kept_spec =
     tie.close
     (tie.spec
-    table_requires
     arriving_likelihoods_requires
-    mixed_requires
+    mix_requires
     moved_requires
     total_ok_requires
     same_length

@@ -18,9 +18,6 @@ use Rattle.late_reads.proofs.Ranged.{total_small, likelihood_small, counts_in, r
 use Rattle.late_reads.proofs.depart_kept.Statement.{statement}
 use Rattle.late_reads.proofs.depart_kept.Tie as tie
 
-table_requires : tie.Need-table-t-requires
-table_requires c κs = search rules
-
 mul_t14 : tie.Need-overflow_mul-first
 mul_t14 c = search rules
 
@@ -61,34 +58,37 @@ first_read s = read_small w64 (lent s (place s)) (omega (arith, first_small s))
 second_read : (s : tie.Start) → to_z w64 (of_z w64 (lent s (place s + 1))) ≡ lent s (place s + 1)
 second_read s = read_small w64 (lent s (place s + 1)) (omega (arith, second_small s))
 
-mixed_requires : tie.Need-mixed-requires
-mixed_requires c κs =
-    let s = c.before.before.before.before.before.before in
-    (c.before.before.before.table-t.ensures, rw (first_read s) (first_small s), rw (second_read s) (second_small s))
+mix_requires : tie.Need-mix-requires
+mix_requires c κs =
+    let s = c.before.before.before.before in
+    (rw (first_read s) (first_small s), rw (second_read s) (second_small s))
 
-abbrev start : tie.After-mixed → tie.Start
-start m = m.before.before.before.before.before.before.before
+abbrev start : tie.After-mix → tie.Start
+start m = m.before.before.before.before.before
 
 abbrev share : tie.Start → ℤ
 share s = mix_of (lent s (place s)) (lent s (place s + 1))
 
-share_is : (m : tie.After-mixed) → m.mixed.result.0 ≡ share (start m)
-share_is m = m.mixed.ensures.0 ∙ same_mix (first_read (start m)) (second_read (start m))
+share_is : (m : tie.After-mix) → m.mix.result.0 ≡ share (start m)
+share_is m = m.mix.ensures.0 ∙ same_mix (first_read (start m)) (second_read (start m))
 
 abbrev rest : tie.Start → ℤ
 rest s = s.args.total.0 -ℤ share s
 
-abbrev shared : tie.After-moved-rest → tie.After-mixed
+abbrev shared : tie.After-moved-rest → tie.After-mix
 shared c = c.before
 
 moved_requires : tie.Need-moved-rest-requires
-moved_requires c κs = (total_small (start c).requires.0, c.mixed.ensures.1, omega arith)
+moved_requires c κs =
+    let s = start c in
+    let b = rw (first_read s, second_read s) at c.mix.ensures.1 in
+    (total_small s.requires.0, omega (arith, b, first_small s, second_small s), omega arith)
 
 total_ok_requires : tie.Need-total_ok-requires
 total_ok_requires c κs = search rules
 
 rest_is : (m : tie.After-moved-rest) → m.moved-rest.result.0 ≡ rest (start (shared m))
-rest_is m = m.moved-rest.ensures ∙ ap (λ (z : ℤ). (start (shared m)).args.total.0 +ℤ z) (times_less (shared m).mixed.result.0 ∙ ap neg_ℤ (share_is (shared m)))
+rest_is m = m.moved-rest.ensures ∙ ap (λ (z : ℤ). (start (shared m)).args.total.0 +ℤ z) (times_less (shared m).mix.result.0 ∙ ap neg_ℤ (share_is (shared m)))
 
 abbrev entry : tie.After-total_ok → tie.Start
 entry t = start (shared t.before)
@@ -170,7 +170,6 @@ pub depart_kept_spec : {M : Type 1} → statement M
 depart_kept_spec =
     tie.close
     (tie.spec
-    table_requires
     mul_t14
     mul_t15
     slice_copy_out_t17
@@ -178,7 +177,7 @@ depart_kept_spec =
     add_t15
     mul_t18
     slice_copy_out_t17_2
-    mixed_requires
+    mix_requires
     moved_requires
     total_ok_requires
     returns

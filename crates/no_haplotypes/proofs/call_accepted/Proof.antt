@@ -63,7 +63,7 @@ call_variants_requires c κs =
     let n = m.before.before in
     let u = piled m in
     let s = st u in
-    ((s.requires.0.0, u.pile_up.ensures, priors_in s.args.bases.now s.args.rates n.nine_each-post.result _ s.requires.0.1 s.requires.0.4 n.nine_each-post.ensures m.make_priors.ensures), s.requires.1)
+    ((u.pile_up.ensures, priors_in s.args.bases.now s.args.rates n.nine_each-post.result _ s.requires.0.0 s.requires.0.3 n.nine_each-post.ensures m.make_priors.ensures), s.requires.1)
 
 same_length : tie.Need-shape_of-variants
 same_length c = search rules
@@ -80,7 +80,7 @@ returns c =
     let m = priors v.before in
     let n = m.before.before in
     let s = st (piled m) in
-    accepted_called s.args.bases.now s.args.rates n.nine_each-post.result _ s.requires.0.1 s.requires.0.4 n.nine_each-post.ensures m.make_priors.ensures v.call_variants.ensures
+    accepted_called s.args.bases.now s.args.rates n.nine_each-post.result _ s.requires.0.0 s.requires.0.3 n.nine_each-post.ensures m.make_priors.ensures v.call_variants.ensures
 
 pub call_accepted_spec : {M : Type 1} → statement M
 call_accepted_spec =

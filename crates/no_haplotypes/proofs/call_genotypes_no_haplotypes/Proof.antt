@@ -25,7 +25,7 @@ abbrev st : tie.After-check_case-checked → tie.Start
 st c = c.before.before.before.before
 
 abbrev case_of : tie.After-rates_fault-p → tie.In-Accepted
-case_of p = p.before.before.before
+case_of p = p.before
 
 abbrev start : tie.After-rates_fault-p → tie.Start
 start p = st (case_of p).before
@@ -70,9 +70,6 @@ enum_known_checked c = search rules
 enum_known_checked_2 : tie.Need-enum_known-checked-in-Accepted-1
 enum_known_checked_2 c = search rules
 
-table_requires : tie.Need-table-t-requires
-table_requires c κs = search rules
-
 rates_fault_requires : tie.Need-rates_fault-p-requires
 rates_fault_requires c κs = search rules
 
@@ -106,7 +103,7 @@ returns_2 c =
     refuses _ (ap (refused 10) (short d) ∙ enough_at _ _ (λ z. c.if-short-ne0.true (short d ∙ z)) ∙ past_rates (faultless d))
 
 abbrev room : tie.After-call_accepted-arg-in-Accepted-2-1 → tie.Else-short-ne0
-room c = c.before.before.before.before
+room c = c.before.before.before
 
 call_accepted_requires : tie.Need-call_accepted-requires
 call_accepted_requires c κs =
@@ -116,7 +113,7 @@ call_accepted_requires c κs =
     let a = accepted p in
     let v = short_fits _ _ _ (fits e) in
     let q = short_fits _ _ _ v.1 in
-    ((p.table-t.ensures, case_in _ _ _ a, few_calls _ _ _ a, bases_in _ _ _ a, good f), (v.0, q.0, (short_fits _ _ _ q.1).0))
+    ((case_in _ _ _ a, few_calls _ _ _ a, bases_in _ _ _ a, good f), (v.0, q.0, (short_fits _ _ _ q.1).0))
 
 returns_3 : tie.Need-returns-in-Refused
 unfolding call_genotypes_no_haplotypes_outcome
@@ -145,7 +142,6 @@ call_genotypes_no_haplotypes_spec =
     check_case_requires
     enum_known_checked
     enum_known_checked_2
-    table_requires
     rates_fault_requires
     returns
     short_of_requires

@@ -29,7 +29,7 @@ abbrev k_of : tie.After-write_posteriors → ℕ
 k_of y = allele_count_at (st y).args.words.now (v_of y)
 
 abbrev held : (y : tie.After-write_posteriors) → PileHeld (st y).args.words.now (st y).args.s (st y).args.piles.now (v_of y) (st y).args.pile
-held y = (st y).requires.0.1
+held y = (st y).requires.0.0
 
 abbrev made : tie.After-max_genotype-p → tie.After-write_posteriors
 made r = r.before.before.before
@@ -55,7 +55,7 @@ abbrev after : tie.After-write_posteriors → List ℤ
 after y = y.write_posteriors.new.post
 
 room : (y : tie.After-write_posteriors) → 9 * v_of y + 9 ≤ length (after y)
-room y = omega (arith, (st y).requires.0.2.room)
+room y = omega (arith, (st y).requires.0.1.room)
 
 table : (y : tie.After-write_posteriors) → TableAt (after y) (9 * v_of y) (k_of y)
 table y = made_table (held y) y.write_posteriors.ensures (room y)
@@ -63,7 +63,7 @@ table y = made_table (held y) y.write_posteriors.ensures (room y)
 max_genotype_requires : tie.Need-max_genotype-p-requires
 max_genotype_requires c κs =
     let y = c.before.before in
-    ((st y).requires.0.0, rw c.allele_count-k.ensures (table y))
+    (rw c.allele_count-k.ensures (table y))
 
 -- the called pair
 called : (r : tie.After-max_genotype-p) → r.max_genotype-p.result ≡ max_genotype false (drop (9 * v_of (made r)) (after (made r))) (k_of (made r))
@@ -88,7 +88,7 @@ slice_write_quals c = search rules
 gq_of_requires : tie.Need-gq_of-requires
 gq_of_requires c κs =
     let r = maximum c in
-    rw r.allele_count-k.ensures ((st (made r)).requires.0.0, table (made r), omega (arith, inside r))
+    rw r.allele_count-k.ensures (table (made r), omega (arith, inside r))
 
 mul_gqs : tie.Need-offset_bounds-gqs-v
 mul_gqs c = omega (arith, index_fits (made (maximum (gq_from c))))

@@ -8,11 +8,11 @@ use Rattle.no_haplotypes.proofs.call_variants.Statement.{statement}
 use Rattle.no_haplotypes.proofs.call_variants.Tie as tie
 
 abbrev invariant_loop : tie.invariant-loop-v
-invariant_loop t words s ambiguous ends piles post₀ variants₀ quals₀ gqs₀ n v₀ post variants quals gqs v =
+invariant_loop words s ambiguous ends piles post₀ variants₀ quals₀ gqs₀ n v₀ post variants quals gqs v =
     CallingTo words s post₀ variants₀ quals₀ gqs₀ v post variants quals gqs
 
 abbrev decreases_loop : tie.decreases-loop-v
-decreases_loop t words s ambiguous ends piles post₀ variants₀ quals₀ gqs₀ n v₀ post variants quals gqs v =
+decreases_loop words s ambiguous ends piles post₀ variants₀ quals₀ gqs₀ n v₀ post variants quals gqs v =
     n - v
 
 loop_holds : tie.Need-loop-v-init invariant_loop decreases_loop
@@ -24,7 +24,7 @@ st l = l.before.before.before.before.before.before
 
 pile_of_requires : tie.Need-pile_of-pile-requires invariant_loop decreases_loop
 pile_of_requires c κs =
-    let p = (st c.before).requires.0.1 in
+    let p = (st c.before).requires.0.0 in
     (omega (arith, c.loop-v-test.true, p.ambiguous_long), omega (arith, c.loop-v-test.true, p.piles_made.grouped.ends_long))
 
 call_variant_requires : tie.Need-call_variant-requires invariant_loop decreases_loop
@@ -33,7 +33,7 @@ call_variant_requires c κs =
     let l = d.before.before in
     let s = st l in
     let h = d.before.loop-v-test.true in
-    ((s.requires.0.0, rw d.pile_of-pile.ensures (pile_held s.requires.0.1 l.loop-v.v h), priors_at l.loop-v.invariant s.requires.0.2 h), (omega (arith, variants_long l.loop-v.invariant, s.requires.1.0), omega (arith, quals_long l.loop-v.invariant, s.requires.1.1), omega (arith, gqs_long l.loop-v.invariant, s.requires.1.2)))
+    ((rw d.pile_of-pile.ensures (pile_held s.requires.0.0 l.loop-v.v h), priors_at l.loop-v.invariant s.requires.0.1 h), (omega (arith, variants_long l.loop-v.invariant, s.requires.1.0), omega (arith, quals_long l.loop-v.invariant, s.requires.1.1), omega (arith, gqs_long l.loop-v.invariant, s.requires.1.2)))
 
 -- the variant called, and the loop's test before it
 abbrev called : tie.After-slice_known-in-loop-v-2-1 invariant_loop decreases_loop → tie.After-call_variant invariant_loop decreases_loop
@@ -43,7 +43,7 @@ abbrev looping : tie.After-slice_known-in-loop-v-2-1 invariant_loop decreases_lo
 looping c = (called c).before.before.before.before.before.before
 
 add_v : tie.Need-overflow_add-v invariant_loop decreases_loop
-add_v c = omega (arith, (st (looping c).before).requires.0.1.case_in.sized.n_top, (looping c).loop-v-test.true)
+add_v c = omega (arith, (st (looping c).before).requires.0.0.case_in.sized.n_top, (looping c).loop-v-test.true)
 
 loop_less : tie.Need-loop-v-smaller invariant_loop decreases_loop
 loop_less c = omega (arith, (looping c).loop-v-test.true)

@@ -31,7 +31,7 @@ inside c = case_in _ _ _ (accepted c)
 -- what the checks answer, of the lengths of the lent slices
 abbrev checks_is : tie.After-round_checks → Outcome ℕ
 checks_is c =
-    let k = c.before.before.before.before in
+    let k = c.before.before in
     let a = (st k).args in
     round_checks (sizes k).n a.rates a.phase.now a.sets.now a.orders.now a.limit (round_short (sizes k).n (sizes k).f (length a.haplotypes.now) (length a.likelihoods.now) (length a.posteriors.now) (length a.quals.now) (length a.gqs.now))
 
@@ -58,14 +58,11 @@ enum_known_x c = search rules
 enum_known_s : tie.Need-enum_known-s
 enum_known_s c = search rules
 
-table_requires : tie.Need-table-t-requires
-table_requires c κs = search rules
-
 round_short_requires : tie.Need-round_short-short-requires
-round_short_requires c κs = let k = inside c.before in (k.sized.n_top, k.sized.f_top)
+round_short_requires c κs = let k = inside c in (k.sized.n_top, k.sized.f_top)
 
 round_checks_requires : tie.Need-round_checks-requires
-round_checks_requires c κs = (c.table-t.ensures, (inside c.before.before.before).sized.n_top)
+round_checks_requires c κs = (inside c.before).sized.n_top
 
 enum_known_x_2 : tie.Need-enum_known-x-in-Refused-round_checks
 enum_known_x_2 c = search rules
@@ -75,14 +72,14 @@ enum_known_m c = search rules
 
 round_accepted_requires : tie.Need-round_accepted-requires
 unfolding checked_as
-round_accepted_requires c κs = admits _ _ _ _ _ (accepted (checks c).before.before.before.before) (passed c)
+round_accepted_requires c κs = admits _ _ _ _ _ (accepted (checks c).before.before) (passed c)
 
 returns : tie.Need-returns-in-Refused
 returns c = answer_case _ _ _ _ c.in-Refused.ensures
 
 returns_2 : tie.Need-returns-in-Refused-round_checks
 unfolding checked_as
-returns_2 c = let k = c.before in answer_checks _ _ _ _ _ (accepted k.before.before.before.before) (rw (← k.round_short-short.ensures) c.in-Refused-round_checks.ensures)
+returns_2 c = let k = c.before in answer_checks _ _ _ _ _ (accepted k.before.before) (rw (← k.round_short-short.ensures) c.in-Refused-round_checks.ensures)
 
 same_length : tie.Need-shape_of-haplotypes
 same_length c = search rules
@@ -103,7 +100,7 @@ returns_3 : tie.Need-returns-in-Good
 unfolding checked_as
 returns_3 c =
     let r = c.before.before.before.before.before.before.before.before in
-    answer_done _ _ _ _ _ (accepted (checks r.before).before.before.before.before) (passed r.before) _ _ r.round_accepted.ensures
+    answer_done _ _ _ _ _ (accepted (checks r.before).before.before) (passed r.before) _ _ r.round_accepted.ensures
 
 pub call_genotypes_with_haplotypes_spec : {M : Type 1} → statement M
 call_genotypes_with_haplotypes_spec =
@@ -112,7 +109,6 @@ call_genotypes_with_haplotypes_spec =
     check_case_requires
     enum_known_x
     enum_known_s
-    table_requires
     round_short_requires
     round_checks_requires
     enum_known_x_2

@@ -13,14 +13,14 @@ use Rattle.call_genotypes.proofs.run.run_sweeps.Statement.{statement}
 use Rattle.call_genotypes.proofs.run.run_sweeps.Tie as tie
 
 abbrev invariant_loop : tie.invariant-loop-s
-invariant_loop t ks ph pri ends piles orders hap₀ lik₀ post₀ n m limit s₀ hap lik post s =
+invariant_loop ks ph pri ends piles orders hap₀ lik₀ post₀ n m limit s₀ hap lik post s =
     let before = sweep_state hap₀ lik₀ post₀ in
     let state = sweep_state hap lik post in
     SameLengths before state
     × ((C : SweepCase) → RunStart C (sweep_reads ks ph pri ends piles) before orders (record { n = n; m = m; limit = limit }) → Running C (order_of orders n m) limit before state s)
 
 abbrev decreases_loop : tie.decreases-loop-s
-decreases_loop t ks ph pri ends piles orders hap₀ lik₀ post₀ n m limit s₀ hap lik post s = limit - s
+decreases_loop ks ph pri ends piles orders hap₀ lik₀ post₀ n m limit s₀ hap lik post s = limit - s
 
 -- the places before
 abbrev st : tie.At-loop-s invariant_loop decreases_loop → tie.Start invariant_loop decreases_loop
@@ -36,7 +36,7 @@ turn c = c.before.before.before.before.before
 part_small : (c : tie.In-loop-s invariant_loop decreases_loop) (x : ℕ) → let p = (st c.before).args.plan in (x % p.m * p.n < 2 ^ 64) × (x % p.m * p.n + p.n < 2 ^ 64) × (x % p.m * p.n * 4 < 2 ^ 64)
 part_small c x =
     let s = st c.before in
-    let h = end_fits s.requires.1.holds x in
+    let h = end_fits s.requires.holds x in
     let g = s.well_formed.1.1.1.1.1.1.0 in
     (omega (arith, h, g.0), omega (arith, h, g.0), omega (arith, h, g.1))
 
@@ -44,7 +44,7 @@ loop_holds : tie.Need-loop-s-init invariant_loop decreases_loop
 loop_holds c = ((refl, refl, refl), λ C R. running_start R)
 
 rem_a : tie.Need-nonzero_rem-a invariant_loop decreases_loop
-rem_a c = (st c.before).requires.1.holds.some_order
+rem_a c = (st c.before).requires.holds.some_order
 
 mul_a : tie.Need-overflow_mul-a invariant_loop decreases_loop
 mul_a c = record { fits = (part_small c _).0 }
@@ -56,14 +56,14 @@ mul_part : tie.Need-offset_bounds-orders-a invariant_loop decreases_loop
 mul_part c = record { fits = (part_small c _).2 }
 
 part_part_end : tie.Need-slice_bounds-part-end invariant_loop decreases_loop
-part_part_end c = end_fits (st c.before).requires.1.holds _
+part_part_end c = end_fits (st c.before).requires.holds _
 
 sweep_requires : tie.Need-sweep-requires invariant_loop decreases_loop
 sweep_requires c κs =
     let l = c.before.before.before.before in
     let s = st l.before in
-    let R = s.requires.1.holds in
-    (s.requires.0, record { case = s.requires.1.case; holds = running_sweep R (l.before.loop-s.invariant.1 _ R) _ })
+    let R = s.requires.holds in
+    (record { case = s.requires.case; holds = running_sweep R (l.before.loop-s.invariant.1 _ R) _ })
 
 returns : tie.Need-returns-then-not-sweep invariant_loop decreases_loop
 returns c C R =

@@ -36,10 +36,10 @@ first_is : (c : tie.After-likelihood_at) → let s = at c.before.before in c.lik
 first_is c = c.likelihood_at.ensures
 
 second_small : (c : tie.After-likelihood_at-b) → nat_abs c.likelihood_at-b.result.0 ≤ 2 ^ 32
-second_small c = rw (second_is c) ((at c.before).requires.1.1.0 _)
+second_small c = rw (second_is c) ((at c.before).requires.1.0 _)
 
 first_small : (c : tie.After-likelihood_at) → nat_abs c.likelihood_at.result.0 ≤ 2 ^ 32
-first_small c = rw (first_is c) ((at c.before.before).requires.1.1.0 _)
+first_small c = rw (first_is c) ((at c.before.before).requires.1.0 _)
 
 turned_small : (c : tie.After-turned) → nat_abs (to_z w64 (of_z w64 c.turned.result)) ≤ 2 ^ 19
 turned_small c = rw (read_back w64 _ c.turned.type_inv) c.turned.ensures.1
@@ -50,10 +50,10 @@ distance_is : (c : tie.After-distance-d) → let l = c.before.before in
 distance_is c = read_back w64 _ c.distance-d.type_inv ∙ c.distance-d.ensures
 
 gap_requires : tie.Need-gap-g-requires
-gap_requires c κs = let s = c in (s.requires.1.0.qual_in, s.requires.1.0.one_minus_qual_in)
+gap_requires c κs = let s = c in (s.requires.0.qual_in, s.requires.0.one_minus_qual_in)
 
 turned_requires : tie.Need-turned-requires
-turned_requires c κs = let g = c.before.before in (omega (arith, (at g).requires.1.0.allele_in), (at g).requires.1.1.1 _, omega (arith, gap_small g))
+turned_requires c κs = let g = c.before.before in (omega (arith, (at g).requires.0.allele_in), (at g).requires.1.1 _, omega (arith, gap_small g))
 
 distance_requires : tie.Need-distance-d-requires
 distance_requires c κs = (first_small c.before, second_small c.before.before, turned_small c)
@@ -61,9 +61,7 @@ distance_requires c κs = (first_small c.before, second_small c.before.before, t
 mixes_of_requires : tie.Need-mixes_of-requires
 mixes_of_requires c κs =
     let l = c.before.before in
-    let b = l.before in (
-      (at b.before).requires.0,
-      rw (distance_is c) (distance_size l.likelihood_at.result.0 b.likelihood_at-b.result.0 (to_z w64 (of_z w64 c.before.turned.result)) (first_small l) (second_small b) (turned_small c.before)),
+    let b = l.before in (rw (distance_is c) (distance_size l.likelihood_at.result.0 b.likelihood_at-b.result.0 (to_z w64 (of_z w64 c.before.turned.result)) (first_small l) (second_small b) (turned_small c.before)),
       gap_small b.before,
     )
 

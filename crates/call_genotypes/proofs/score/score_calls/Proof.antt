@@ -13,10 +13,10 @@ use Rattle.call_genotypes.proofs.score.score_calls.Statement.{statement}
 use Rattle.call_genotypes.proofs.score.score_calls.Tie as tie
 
 abbrev invariant_loop : tie.invariant-loop-p
-invariant_loop t piles lik turns acc₀ a e p₀ acc p = Summing (row_mixes turns lik) (row_at piles) a e p acc
+invariant_loop piles lik turns acc₀ a e p₀ acc p = Summing (row_mixes turns lik) (row_at piles) a e p acc
 
 abbrev decreases_loop : tie.decreases-loop-p
-decreases_loop t piles lik turns acc₀ a e p₀ acc p = e - p
+decreases_loop piles lik turns acc₀ a e p₀ acc p = e - p
 
 abbrev st : tie.In-loop-p invariant_loop decreases_loop → tie.Start invariant_loop decreases_loop
 st c = c.before.before.before
@@ -26,7 +26,7 @@ abbrev turn : tie.After-call_mixes-r invariant_loop decreases_loop → tie.In-lo
 turn c = c.before.before.before
 
 row_in : (c : tie.In-loop-p invariant_loop decreases_loop) → RowFits (st c).args.lik.now (row_at (st c).args.piles.now c.before.loop-p.p)
-row_in c = (st c).requires.1.0.rows_in c.before.loop-p.p c.before.loop-p.invariant.from c.loop-p-test.true
+row_in c = (st c).requires.0.rows_in c.before.loop-p.p c.before.loop-p.invariant.from c.loop-p-test.true
 
 -- the row that the loop unpacks
 row_is : (c : tie.After-unpack-row invariant_loop decreases_loop) → row_from c.unpack-row.result ≡ row_at (st c.before.before).args.piles.now c.before.before.before.loop-p.p
@@ -34,7 +34,7 @@ row_is c = ap row_from c.unpack-row.ensures
 
 value_small : (c : tie.After-call_mixes-r invariant_loop decreases_loop) (w : ℕ) → nat_abs (value_of c.call_mixes-r.result w) ≤ 2 ^ 35
 value_small c w = let s = st (turn c) in
-    rw (c.call_mixes-r.ensures w, row_is c.before) (row_size (row_in (turn c)) s.args.turns.now s.args.lik.now s.requires.1.1.0.0 s.requires.1.1.0.1 w)
+    rw (c.call_mixes-r.ensures w, row_is c.before) (row_size (row_in (turn c)) s.args.turns.now s.args.lik.now s.requires.1.0.0 s.requires.1.0.1 w)
 
 allele_is : (c : tie.After-unpack-row invariant_loop decreases_loop) → c.unpack-row.result.allele ≡ (row_at (st c.before.before).args.piles.now c.before.before.before.loop-p.p).call.allele
 allele_is c = ap (λ (row : Row). row.call.allele) (row_is c)
@@ -43,10 +43,10 @@ allele_low : (c : tie.After-unpack-row invariant_loop decreases_loop) → c.unpa
 allele_low c = rw (allele_is c) (row_in c.before.before).allele_in
 
 loop_holds : tie.Need-loop-p-init invariant_loop decreases_loop
-loop_holds c = summing_start _ _ _ _ _ c.before.requires.1.1.1
+loop_holds c = summing_start _ _ _ _ _ c.before.requires.1.1
 
 call_mixes_requires : tie.Need-call_mixes-r-requires invariant_loop decreases_loop
-call_mixes_requires c κs = let i = c.before.before in ((st i).requires.0, (rw (row_is c) (row_in i), (st i).requires.1.1.0))
+call_mixes_requires c κs = let i = c.before.before in ((rw (row_is c) (row_in i), (st i).requires.1.0))
 
 add_four_requires : tie.Need-add_four-requires invariant_loop decreases_loop
 add_four_requires c κs = let l = (turn c.before).before.loop-p in
@@ -56,7 +56,7 @@ loop_again : tie.Need-loop-p-preserved invariant_loop decreases_loop
 loop_again c =
     let g = c.before.before in
     let i = turn g in
-    summing_step _ _ _ _ _ _ _ (value_of g.call_mixes-r.result) g.before.unpack-row.result.allele i.before.loop-p.invariant i.loop-p-test.true (omega (arith, (st i).requires.1.0.few))
+    summing_step _ _ _ _ _ _ _ (value_of g.call_mixes-r.result) g.before.unpack-row.result.allele i.before.loop-p.invariant i.loop-p-test.true (omega (arith, (st i).requires.0.few))
     (allele_is g.before) (allele_low g.before) (λ w. g.call_mixes-r.ensures w ∙ ap (λ (row : Row). row_mixes (st i).args.turns.now (st i).args.lik.now row w) (row_is g.before)) (value_small g) c.add_four.ensures
 
 returns : tie.Need-returns invariant_loop decreases_loop

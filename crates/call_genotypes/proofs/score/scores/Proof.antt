@@ -24,20 +24,20 @@ cast_k : tie.Need-overflow_cast-k
 cast_k c = omega (arith, c.shared_slice_known-6-1.given c.before.before.before.before.before.before.args.v)
 
 make_turns_requires : tie.Need-make_turns-requires
-make_turns_requires c κs = let i = pair_three (st (start c.before)).requires.1.holds c.before.pair_at-old.result c.before.pair_at-old.ensures in (refl, i.0, i.1)
+make_turns_requires c κs = let i = pair_three (st (start c.before)).requires.holds c.before.pair_at-old.result c.before.pair_at-old.ensures in (refl, i.0, i.1)
 
 score_calls_requires : tie.Need-score_calls-requires
 score_calls_requires c κs =
     let f = start c.before.before.before.before in
     let s = st f in
-    let S = s.requires.1.holds in
-    (s.requires.0, (rw f.group_start-a.ensures (pile_fits S.standing.held s.args.v S.v_in S.standing.liks), ((lik_within S.standing.held _ _ S.standing.liks, λ i. rw (c.before.before.make_turns.ensures i) (turn_small _ _ _ i)), refl)))
+    let S = s.requires.holds in
+    ((rw f.group_start-a.ensures (pile_fits S.standing.held s.args.v S.v_in S.standing.liks), ((lik_within S.standing.held _ _ S.standing.liks, λ i. rw (c.before.before.make_turns.ensures i) (turn_small _ _ _ i)), refl)))
 
 below_first_requires : tie.Need-below_first-base-requires
 below_first_requires c κs =
     let k = c.before in
     let s = st (start (pair k)) in
-    let S = s.requires.1.holds in
+    let S = s.requires.holds in
     let room = scores_room S.standing.held s.args.v S.v_in s.args.post.now S.standing.room in
     (room.v_top, omega (arith, room.pri_long), first_small room, k.score_calls.ensures.small)
 
@@ -46,7 +46,7 @@ write_scores_requires c κs =
     let n = c.before.before in
     let k = n.before.before in
     let s = st (start (pair k)) in
-    let S = s.requires.1.holds in
+    let S = s.requires.holds in
     ((scores_room S.standing.held s.args.v S.v_in _ S.standing.room, rw (read_back w64 _ n.below_first-base.type_inv) n.below_first-base.ensures.1), k.score_calls.ensures.small)
 
 returns : tie.Need-returns

@@ -13,13 +13,13 @@ use Rattle.call_genotypes.proofs.visit.sweep.Statement.{statement}
 use Rattle.call_genotypes.proofs.visit.sweep.Tie as tie
 
 abbrev invariant_loop : tie.invariant-loop-p
-invariant_loop t ks ph pri ends piles order hap₀ lik₀ post₀ changed₀ p₀ hap lik post changed p =
+invariant_loop ks ph pri ends piles order hap₀ lik₀ post₀ changed₀ p₀ hap lik post changed p =
     let before = sweep_state hap₀ lik₀ post₀ in
     let state = sweep_state hap lik post in
     SameLengths before state × ((C : SweepCase) → SweepStart C (sweep_reads ks ph pri ends piles) before order → Sweeping C order before state changed p)
 
 abbrev decreases_loop : tie.decreases-loop-p
-decreases_loop t ks ph pri ends piles order hap₀ lik₀ post₀ changed₀ p₀ hap lik post changed p = length order - p
+decreases_loop ks ph pri ends piles order hap₀ lik₀ post₀ changed₀ p₀ hap lik post changed p = length order - p
 
 -- the places before
 abbrev st : tie.At-loop-p invariant_loop decreases_loop → tie.Start invariant_loop decreases_loop
@@ -41,8 +41,8 @@ visit_requires : tie.Need-visit-requires invariant_loop decreases_loop
 visit_requires c κs =
     let l = c.before.before.before.before in
     let s = st l.before in
-    let S = s.requires.1.holds in
-    (s.requires.0, record { case = s.requires.1.case; holds = sweeping_visit S (l.before.loop-p.invariant.1 _ S) l.loop-p-test.true })
+    let S = s.requires.holds in
+    (record { case = s.requires.case; holds = sweeping_visit S (l.before.loop-p.invariant.1 _ S) l.loop-p-test.true })
 
 loop_again : tie.Need-loop-p-preserved-then-visit invariant_loop decreases_loop
 loop_again c =

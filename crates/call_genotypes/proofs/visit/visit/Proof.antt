@@ -21,7 +21,7 @@ cast_best_pair c = omega (arith, c.shared_slice_known-5-1.given (st (scored c.be
 best_pair_requires : tie.Need-best_pair-new-requires
 best_pair_requires c κs =
     let w = scored c.before in
-    let S = (st w).requires.1.holds in
+    let S = (st w).requires.holds in
     let k = w.scores.auto.post in
     (omega (arith, S.standing.held.variants_top, S.v_in), k_least S, k_three S, omega (arith, k, S.standing.room, S.v_in))
 
@@ -35,8 +35,8 @@ put_pair_requires : tie.Need-put_pair-requires
 put_pair_requires c κs =
     let b = c.before.before.before.before in
     let s = st (scored (pair b)) in
-    let S = s.requires.1.holds in
-    (record { case = s.requires.1.case; holds = movable S }, (omega (arith, b.best_pair-new.ensures.first_in, k_three S), omega (arith, b.best_pair-new.ensures.second_in, k_three S)))
+    let S = s.requires.holds in
+    (record { case = s.requires.case; holds = movable S }, (omega (arith, b.best_pair-new.ensures.first_in, k_three S), omega (arith, b.best_pair-new.ensures.second_in, k_three S)))
 
 returns_2 : tie.Need-returns
 returns_2 c C S =

@@ -35,7 +35,7 @@ write_priors_requires : tie.Need-write_priors-requires
 write_priors_requires c κs =
     let p = c.before.before.before in
     let s = start p in
-    (alleles_in s.requires.1 s.requires.2, rw p.prior_table.ensures (table_in s.args.rates s.requires.3), s.requires.1.shape, s.requires.4)
+    (alleles_in s.requires.0 s.requires.1, rw p.prior_table.ensures (table_in s.args.rates s.requires.2), s.requires.0.shape, s.requires.3)
 
 same_length : tie.Need-shape_of-post
 same_length c = search rules

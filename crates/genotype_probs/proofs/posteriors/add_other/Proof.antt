@@ -19,15 +19,15 @@ returns_2 c =
 
 -- the number to add is no mark
 finite : (s : tie.Start) → log_of s.args.x.0 ≡ steps s.args.x.0
-finite s = let h = s.requires.2 in of_small s.args.x.0 (omega arith)
+finite s = let h = s.requires.1 in of_small s.args.x.0 (omega arith)
 
 ln_add_exp_requires : tie.Need-ln_add_exp-requires
 ln_add_exp_requires c κs =
     let s = c.before.before in
-    let h = s.requires.1 in
-    let x = s.requires.2 in
+    let h = s.requires.0 in
+    let x = s.requires.1 in
     let e = size_steps s.args.x.0 in
-    (s.requires.0, omega arith, omega (arith, ap size (finite s)))
+    (omega arith, omega (arith, ap size (finite s)))
 
 returns_3 : tie.Need-returns
 returns_3 c =

@@ -20,24 +20,24 @@ use Rattle.genotype_probs.proofs.posteriors.max_genotype.Statement.{statement}
 use Rattle.genotype_probs.proofs.posteriors.max_genotype.Tie as tie
 
 abbrev invariant_loop : tie.invariant-loop-p
-invariant_loop t post at k phased m best₀ top₀ p₀ best top p =
+invariant_loop post at k phased m best₀ top₀ p₀ best top p =
     (p ≤ k * k) × (best ≡ first_maximum (post_at phased (drop at post) k) p) × (top.0 ≡ post_at phased (drop at post) k best)
 
 abbrev decreases_loop : tie.decreases-loop-p
-decreases_loop t post at k phased m best₀ top₀ p₀ best top p = k * k - p
+decreases_loop post at k phased m best₀ top₀ p₀ best top p = k * k - p
 
 mul_m : tie.Need-overflow_mul-m invariant_loop decreases_loop
-mul_m c = omega (arith, nine c.args.k c.requires.1.k_high)
+mul_m c = omega (arith, nine c.args.k c.requires.k_high)
 
 -- the values
 abbrev value : tie.Start invariant_loop decreases_loop → ℕ → ℤ
 value s = post_at s.args.phased (drop s.args.at s.args.post.now) s.args.k
 
 not_none : (s : tie.Start invariant_loop decreases_loop) → 0 < s.args.k * s.args.k
-not_none s = let h = s.requires.1.k_low in omega (arith, place_in 0 0 s.args.k h h)
+not_none s = let h = s.requires.k_low in omega (arith, place_in 0 0 s.args.k h h)
 
 post_of_requires : tie.Need-post_of-top-requires invariant_loop decreases_loop
-post_of_requires c κs = (c.requires.0, c.requires.1, not_none c)
+post_of_requires c κs = (c.requires, not_none c)
 
 loop_holds : tie.Need-loop-p-init invariant_loop decreases_loop
 loop_holds c =
@@ -45,7 +45,7 @@ loop_holds c =
     (not_none s, maximum_one (value s), c.post_of-top.ensures)
 
 post_of_requires_2 : tie.Need-post_of-x-requires invariant_loop decreases_loop
-post_of_requires_2 c κs = let s = c.before.before.before in (s.requires.0, s.requires.1, c.loop-p-test.true)
+post_of_requires_2 c κs = let s = c.before.before.before in (s.requires, c.loop-p-test.true)
 
 -- the place after the call, from where both arms meet
 abbrev seen : tie.Joined-top-x invariant_loop decreases_loop → tie.After-post_of-x invariant_loop decreases_loop
@@ -54,7 +54,7 @@ seen c = c.before.before.before.before.before
 add_p : tie.Need-overflow_add-p invariant_loop decreases_loop
 add_p c =
     let l = (seen c).before.before in
-    let s = l.before.before in omega (arith, l.loop-p.invariant.0, nine s.args.k s.requires.1.k_high)
+    let s = l.before.before in omega (arith, l.loop-p.invariant.0, nine s.args.k s.requires.k_high)
 
 loop_less : tie.Need-loop-p-smaller invariant_loop decreases_loop
 loop_less c = omega (arith, (seen c).before.loop-p-test.true)

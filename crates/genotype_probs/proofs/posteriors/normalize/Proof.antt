@@ -10,7 +10,7 @@ table_sum_requires c κs = search rules
 
 subtract_requires : tie.Need-subtract-requires
 subtract_requires c κs =
-    (c.requires.1, c.table_sum-total.ensures.0, omega (arith, c.table_sum-total.ensures.1))
+    (c.requires, c.table_sum-total.ensures.0, omega (arith, c.table_sum-total.ensures.1))
 
 same_length : tie.Need-shape_of-post
 same_length c = search rules

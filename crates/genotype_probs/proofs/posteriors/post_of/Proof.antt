@@ -12,7 +12,7 @@ use Rattle.genotype_probs.proofs.posteriors.post_of.Statement.{statement}
 use Rattle.genotype_probs.proofs.posteriors.post_of.Tie as tie
 
 inside : (s : tie.Start) → (s.args.p / s.args.k < s.args.k) × (s.args.p % s.args.k < s.args.k)
-inside s = pair_in s.args.k s.args.p s.requires.1.k_low s.requires.2
+inside s = pair_in s.args.k s.args.p s.requires.0.k_low s.requires.1
 
 div_i : tie.Need-nonzero_div-i
 div_i c = search rules
@@ -21,7 +21,7 @@ rem_j : tie.Need-nonzero_rem-j
 rem_j c = search rules
 
 entry_requires : tie.Need-entry-x-requires
-entry_requires c κs = (c.requires.1, (inside c).0, (inside c).1)
+entry_requires c κs = (c.requires.0, (inside c).0, (inside c).1)
 
 returns : tie.Need-returns-then-phased-i
 unfolding post_at post_of
@@ -31,7 +31,7 @@ returns c =
 entry_requires_2 : tie.Need-entry-requires
 entry_requires_2 c κs =
     let s = c.before.before in
-    let q = inside s in (s.requires.1, omega (arith, q.0, q.1), omega (arith, q.0, q.1))
+    let q = inside s in (s.requires.0, omega (arith, q.0, q.1), omega (arith, q.0, q.1))
 
 -- an entry is small, and no mark
 entry_size : (z : ℤ) → nat_abs z ≤ 2 ^ 40 → size (log_of z) ≤ 2 ^ 61
@@ -40,7 +40,7 @@ entry_size z h = omega (arith, size_small z (omega arith))
 ln_add_exp_requires : tie.Need-ln_add_exp-requires
 ln_add_exp_requires c κs =
     let d = c.before.before in
-    (d.before.requires.0, entry_size d.entry-x.result.0 d.entry-x.ensures.1, entry_size c.entry.result.0 c.entry.ensures.1)
+    (entry_size d.entry-x.result.0 d.entry-x.ensures.1, entry_size c.entry.result.0 c.entry.ensures.1)
 
 returns_2 : tie.Need-returns
 unfolding post_at post_of

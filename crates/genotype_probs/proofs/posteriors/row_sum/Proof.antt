@@ -20,23 +20,23 @@ use Rattle.genotype_probs.proofs.posteriors.row_sum.Tie as tie
 row_end : (s : tie.Start) → s.args.i * s.args.k + s.args.k ≤ 9
 row_end s =
     let k = s.args.k in
-    let h = s.requires.1.k_low in
-    omega (arith, place_in s.args.i (k - 1) k s.requires.2 (omega arith), nine k s.requires.1.k_high)
+    let h = s.requires.0.k_low in
+    omega (arith, place_in s.args.i (k - 1) k s.requires.1 (omega arith), nine k s.requires.0.k_high)
 
 within : (s : tie.Start) → s.args.at + s.args.i * s.args.k + s.args.k ≤ length s.args.post.now
-within s = omega (arith, row_end s, s.requires.1.inside)
+within s = omega (arith, row_end s, s.requires.0.inside)
 
 mul_a : tie.Need-overflow_mul-a
 mul_a c = omega (arith, row_end c)
 
 add_a : tie.Need-overflow_add-a
-add_a c = omega (arith, row_end c, c.requires.1.inside)
+add_a c = omega (arith, row_end c, c.requires.0.inside)
 
 add_e : tie.Need-overflow_add-e
-add_e c = omega (arith, row_end c, c.requires.1.inside)
+add_e c = omega (arith, row_end c, c.requires.0.inside)
 
 mul_ln_sum_exp : tie.Need-offset_bounds-post-a
-mul_ln_sum_exp c = omega (arith, row_end c, c.requires.1.inside)
+mul_ln_sum_exp c = omega (arith, row_end c, c.requires.0.inside)
 
 sub_ln_sum_exp : tie.Need-slice_bounds-ln_sum_exp-count
 sub_ln_sum_exp c = search rules
@@ -63,13 +63,13 @@ small s j h =
     let i = s.args.i in
     let l : j < k = omega (arith, tabulate_length k (row s)) in
     let e = tabulate_at k (row s) j (pos 0) l ∙ get_or-drop s.args.at s.args.post.now (i * k + j) (pos 0) in
-    omega (arith, ap nat_abs e, s.requires.1.small (i * k + j) (place_in i j k s.requires.2 l))
+    omega (arith, ap nat_abs e, s.requires.0.small (i * k + j) (place_in i j k s.requires.1 l))
 
 ln_sum_exp_requires : tie.Need-ln_sum_exp-requires
 ln_sum_exp_requires c κs =
     let s = c.before in
     rw (row_is s)
-    (s.requires.0, omega (arith, tabulate_length s.args.k (row s), s.requires.1.k_high), λ j h. let e = small s j h in omega (arith, size_small (get_or (tabulate s.args.k (row s)) j (pos 0)) (omega arith)))
+    (omega (arith, tabulate_length s.args.k (row s), s.requires.0.k_high), λ j h. let e = small s j h in omega (arith, size_small (get_or (tabulate s.args.k (row s)) j (pos 0)) (omega arith)))
 
 returns : tie.Need-returns
 unfolding row_sum
@@ -77,8 +77,8 @@ returns c =
     let s = c.before.before in
     let k = s.args.k in
     let n = tabulate_length k (row s) in
-    let low = s.requires.1.k_low in
-    let top = s.requires.1.k_high in
+    let low = s.requires.0.k_low in
+    let top = s.requires.0.k_high in
     let r = sum_is (2 ^ 40) (tabulate k (row s)) c.ln_sum_exp.result.0 (omega arith) (omega arith) (small s) (rw (row_is s) at c.ln_sum_exp.ensures) in
     (r.0, omega (arith, r.1))
 

@@ -21,13 +21,13 @@ not_above p t = omega zlin
 
 ln_one_minus_exp_requires : tie.Need-ln_one_minus_exp-requires
 ln_one_minus_exp_requires c κs =
-    (c.requires.0, small c.args.p.0 c.requires.1, not_above c.args.p.0 c.requires.2)
+    (small c.args.p.0 c.requires.0, not_above c.args.p.0 c.requires.1)
 
 returns : tie.Need-returns
 returns c =
     let s = c.before in
-    let h = s.requires.1 in
-    one_minus_is s.args.p.0 c.ln_one_minus_exp.result.0 (omega arith) s.requires.2 c.ln_one_minus_exp.ensures
+    let h = s.requires.0 in
+    one_minus_is s.args.p.0 c.ln_one_minus_exp.result.0 (omega arith) s.requires.1 c.ln_one_minus_exp.ensures
 
 pub one_minus_exp_spec : {M : Type 1} → statement M
 one_minus_exp_spec = tie.close (tie.spec ln_one_minus_exp_requires returns)

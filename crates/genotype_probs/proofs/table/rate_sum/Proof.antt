@@ -31,19 +31,19 @@ small : (z : ℤ) → rate_ok z ≡ true → nat_abs (to_z w64 (of_z w64 z)) ≤
 small z h = omega (arith, ap nat_abs (rate_read z h), rate_size z h)
 
 each : (s : tie.Start) (k : ℕ) → k < 4 → nat_abs (get_or (summed s) k (pos 0)) ≤ 262144
-each s = four_small 262144 _ _ _ _ (small _ s.requires.1) (small _ s.requires.2) (small _ s.requires.3) (small _ s.requires.4)
+each s = four_small 262144 _ _ _ _ (small _ s.requires.0) (small _ s.requires.1) (small _ s.requires.2) (small _ s.requires.3)
 
 ln_sum_exp_requires : tie.Need-ln_sum_exp-requires
 ln_sum_exp_requires c κs =
     let s = c.before.before in
-    (s.requires.0, omega arith, λ k h. let e = each s k h in omega (arith, size_small (get_or (summed s) k (pos 0)) (omega arith)))
+    (omega arith, λ k h. let e = each s k h in omega (arith, size_small (get_or (summed s) k (pos 0)) (omega arith)))
 
 returns : tie.Need-returns
 unfolding rate_sum sum_of
 returns c =
     let s = c.before.before.before in
     let r = sum_is 262144 (summed s) c.ln_sum_exp.result.0 (omega arith) (omega arith) (each s) c.ln_sum_exp.ensures in
-    rw (rate_read _ s.requires.1, rate_read _ s.requires.2, rate_read _ s.requires.3, rate_read _ s.requires.4) at r.0
+    rw (rate_read _ s.requires.0, rate_read _ s.requires.1, rate_read _ s.requires.2, rate_read _ s.requires.3) at r.0
 
 pub rate_sum_spec : {M : Type 1} → statement M
 rate_sum_spec = tie.close (tie.spec slice_aggregate_ln_sum_exp ln_sum_exp_requires returns)

@@ -140,7 +140,7 @@ rate_sum_requires c κs =
     let c3 = past3 c4 in
     let c2 = past2 c3 in
     let c1 = past1 c2 in
-    (c1.requires, ok1 c1, ok2 c2, ok3 c3, ok4 c4)
+    (ok1 c1, ok2 c2, ok3 c3, ok4 c4)
 
 -- the sum, read back
 sum_is : (c : tie.After-rate_sum) → to_z w64 (of_z w64 c.rate_sum.result.0) ≡ rate_sum (rates6 c.before)

@@ -8,16 +8,16 @@ use Rattle.genotype_probs.proofs.table.reference_diploid.Statement.{statement}
 use Rattle.genotype_probs.proofs.table.reference_diploid.Tie as tie
 
 good : (s : tie.Start) → RatesIn s.args.rates
-good s = rates_in s.args.rates s.requires.1
+good s = rates_in s.args.rates s.requires
 
 rate_sum_requires : tie.Need-rate_sum-requires
 rate_sum_requires c κs =
-    let g = good c in (c.requires.0, g.hom_snv, g.het_snv, g.hom_indel, g.het_indel)
+    let g = good c in (g.hom_snv, g.het_snv, g.hom_indel, g.het_indel)
 
 one_minus_exp_requires : tie.Need-one_minus_exp-requires
 one_minus_exp_requires c κs =
     let s = c.before in
-    let h = sum_small s.args.rates (good s) in rw c.rate_sum.ensures (s.requires.0, omega arith, (good s).sum_below)
+    let h = sum_small s.args.rates (good s) in rw c.rate_sum.ensures (omega arith, (good s).sum_below)
 
 returns : tie.Need-returns
 returns c =

@@ -14,7 +14,7 @@ use Rattle.genotype_probs.proofs.table.reference_haploid.Statement.{statement}
 use Rattle.genotype_probs.proofs.table.reference_haploid.Tie as tie
 
 good : (s : tie.Start) → RatesIn s.args.rates
-good s = rates_in s.args.rates s.requires.1
+good s = rates_in s.args.rates s.requires
 
 small : (s : tie.Start) → nat_abs (het_snv_rate s.args.rates) + nat_abs (het_indel_rate s.args.rates) < 2 ^ 60
 small s =
@@ -35,7 +35,7 @@ one_minus_exp_requires c κs =
     let r = s.args.rates in
     let h = small s in
     rw (sum_is s)
-    (s.requires.0, omega (arith, add_abs (het_snv_rate r) (het_indel_rate r)), below_sum (het_snv_rate r) (het_indel_rate r) (rate_below (het_snv_rate r) (good s).het_snv) (rate_below (het_indel_rate r) (good s).het_indel))
+    (omega (arith, add_abs (het_snv_rate r) (het_indel_rate r)), below_sum (het_snv_rate r) (het_indel_rate r) (rate_below (het_snv_rate r) (good s).het_snv) (rate_below (het_indel_rate r) (good s).het_indel))
 
 returns : tie.Need-returns
 returns c =

@@ -20,12 +20,12 @@ abbrev top : List ℕ → ℕ → ℕ
 top ends f = 262144 * group_start ends f + 8192 * f
 
 abbrev invariant_loop : tie.invariant-loop-f
-invariant_loop t rows ends hap mask n sum₀ a₀ f₀ sum a f =
+invariant_loop rows ends hap mask n sum₀ a₀ f₀ sum a f =
     (a ≡ group_start ends f)
     × Running (fragment_share rows ends hap mask) (top ends) n sum.0 f
 
 abbrev decreases_loop : tie.decreases-loop-f
-decreases_loop t rows ends hap mask n sum₀ a₀ f₀ sum a f = n - f
+decreases_loop rows ends hap mask n sum₀ a₀ f₀ sum a f = n - f
 
 -- where the function starts, and what each fragment adds
 abbrev start : tie.At-loop-f invariant_loop decreases_loop → tie.Start invariant_loop decreases_loop
@@ -44,26 +44,26 @@ end_of l = get_or (start l).args.ends.now l.loop-f.f 0
 end_in : (c : tie.In-loop-f invariant_loop decreases_loop) → end_of c.before ≤ group_start (start c.before).args.ends.now (start c.before).args.n
 end_in c =
     let s = start c.before in
-    ends_within s.args.ends.now s.args.n s.requires.2.rises c.before.loop-f.f c.loop-f-test.true
+    ends_within s.args.ends.now s.args.n s.requires.1.rises c.before.loop-f.f c.loop-f-test.true
 
 rises : (c : tie.In-loop-f invariant_loop decreases_loop) → c.before.loop-f.a ≤ end_of c.before
 rises c =
-    let l = c.before in omega (arith, l.loop-f.invariant.0, (start l).requires.2.rises l.loop-f.f c.loop-f-test.true)
+    let l = c.before in omega (arith, l.loop-f.invariant.0, (start l).requires.1.rises l.loop-f.f c.loop-f-test.true)
 
 few : (c : tie.In-loop-f invariant_loop decreases_loop) → end_of c.before ≤ 16384
-few c = omega (arith, end_in c, (start c.before).requires.1.count_top)
+few c = omega (arith, end_in c, (start c.before).requires.0.count_top)
 
 few_fragments : (c : tie.In-loop-f invariant_loop decreases_loop) → c.before.loop-f.f < 4096
-few_fragments c = omega (arith, c.loop-f-test.true, (start c.before).requires.3)
+few_fragments c = omega (arith, c.loop-f-test.true, (start c.before).requires.2)
 
 mul_e : tie.Need-offset_bounds-ends-f invariant_loop decreases_loop
 mul_e c = omega (arith, few_fragments c)
 
 shared_slice_read_e : tie.Need-bounds-ends-f invariant_loop decreases_loop
-shared_slice_read_e c = omega (arith, c.before.loop-f-test.true, (start c.before.before).requires.2.long)
+shared_slice_read_e c = omega (arith, c.before.loop-f-test.true, (start c.before.before).requires.1.long)
 
 read_likelihoods_requires : tie.Need-read_likelihoods-r-requires invariant_loop decreases_loop
-read_likelihoods_requires c κs = (calls_fewer (end_in c.before) (start c.before.before).requires.1, rises c.before)
+read_likelihoods_requires c κs = (calls_fewer (end_in c.before) (start c.before.before).requires.0, rises c.before)
 
 -- the two likelihoods
 abbrev read : (c : tie.After-read_likelihoods-r invariant_loop decreases_loop) → ℕ → ℤ
@@ -82,9 +82,7 @@ second_is c = rw c.before.before.before.loop-f.invariant.0 at c.read_likelihoods
 
 mixed_requires : tie.Need-mixed-requires invariant_loop decreases_loop
 mixed_requires c κs =
-    let i = c.before.before.before.before in (
-      (start i.before).requires.0,
-      omega (arith, c.read_likelihoods-r.ensures.first_small, few i),
+    let i = c.before.before.before.before in (omega (arith, c.read_likelihoods-r.ensures.first_small, few i),
       omega (arith, c.read_likelihoods-r.ensures.second_small, few i),
     )
 
@@ -147,7 +145,7 @@ returns c =
     let l = c.before in
     let s = start l in
     let r = running_end (shares s) (top s.args.ends.now) s.args.n l.loop-f.sum.0 l.loop-f.f l.loop-f.invariant.1 c.loop-f-test.false in
-    (r.0, omega (arith, r.1, s.requires.1.count_top, s.requires.3))
+    (r.0, omega (arith, r.1, s.requires.0.count_top, s.requires.2))
 
 pub fragments_total_spec : {M : Type 1} → statement M
 fragments_total_spec =

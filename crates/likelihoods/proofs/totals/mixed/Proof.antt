@@ -16,11 +16,11 @@ abbrev st : tie.After-struct_told-2-1 → tie.Start
 st c = c.before.before.before.before
 
 small : (s : tie.Start) → nat_abs s.args.a.0 + nat_abs s.args.b.0 < 2 ^ 63
-small s = omega (arith, s.requires.1, s.requires.2)
+small s = omega (arith, s.requires.0, s.requires.1)
 
 -- the second less 4,096, as it is read back
 second : (s : tie.Start) → to_z w64 (of_z w64 (to_z w64 (of_z w64 s.args.b.0) -ℤ pos 4096)) ≡ s.args.b.0 -ℤ pos 4096
-second s = rw (read_small w64 s.args.b.0 (omega (arith, s.requires.2))) (read_small w64 (s.args.b.0 -ℤ pos 4096) (omega (arith, minus_abs s.args.b.0 (pos 4096), s.requires.2)))
+second s = rw (read_small w64 s.args.b.0 (omega (arith, s.requires.1))) (read_small w64 (s.args.b.0 -ℤ pos 4096) (omega (arith, minus_abs s.args.b.0 (pos 4096), s.requires.1)))
 
 -- what the first adds to it
 rise : (c : tie.After-ln_one_plus_exp-rise) → let s = st c.before in to_z w64 (of_z w64 c.ln_one_plus_exp-rise.result) ≡ add_exp (s.args.a.0 -ℤ s.args.b.0) (pos 0)
@@ -28,13 +28,13 @@ rise c = let s = st c.before in
     read_back w64 _ c.ln_one_plus_exp-rise.type_inv ∙ rw (minus_read w64 s.args.a.0 s.args.b.0 (small s)) at c.ln_one_plus_exp-rise.ensures
 
 mix_fits : (s : tie.Start) → nat_abs ((s.args.b.0 -ℤ pos 4096) +ℤ add_exp (s.args.a.0 -ℤ s.args.b.0) (pos 0)) ≤ 2 ^ 34 + 8192
-mix_fits s = rw (← mixed_over s.args.a.0 s.args.b.0) (mix_small s.args.a.0 s.args.b.0 (2 ^ 34) s.requires.1 s.requires.2)
+mix_fits s = rw (← mixed_over s.args.a.0 s.args.b.0) (mix_small s.args.a.0 s.args.b.0 (2 ^ 34) s.requires.0 s.requires.1)
 
 sub_ln_one_plus_exp : tie.Need-overflow_sub-a
 sub_ln_one_plus_exp c = let s = st c in minus_fits w64 s.args.a.0 s.args.b.0 (small s)
 
 ln_one_plus_exp_requires : tie.Need-ln_one_plus_exp-rise-requires
-ln_one_plus_exp_requires c κs = let s = st c in (s.requires.0, rw (minus_read w64 s.args.a.0 s.args.b.0 (small s)) (omega (arith, minus_abs s.args.a.0 s.args.b.0, s.requires.1, s.requires.2)))
+ln_one_plus_exp_requires c κs = let s = st c in (rw (minus_read w64 s.args.a.0 s.args.b.0 (small s)) (omega (arith, minus_abs s.args.a.0 s.args.b.0, s.requires.0, s.requires.1)))
 
 -- the first adds so much
 abbrev risen : tie.After-struct_told-3-1 → tie.After-ln_one_plus_exp-rise
@@ -42,7 +42,7 @@ risen c = c.before.before
 
 sub_t5 : tie.Need-overflow_sub-result
 sub_t5 c = let s = st (risen c).before in
-    rw (read_small w64 s.args.b.0 (omega (arith, s.requires.2))) (sfits w64 (s.args.b.0 -ℤ pos 4096) (omega (arith, minus_abs s.args.b.0 (pos 4096), s.requires.2)))
+    rw (read_small w64 s.args.b.0 (omega (arith, s.requires.1))) (sfits w64 (s.args.b.0 -ℤ pos 4096) (omega (arith, minus_abs s.args.b.0 (pos 4096), s.requires.1)))
 
 add_t6 : tie.Need-overflow_add-result
 add_t6 c = let s = st (risen c).before in

@@ -19,16 +19,16 @@ abbrev top : ℕ → ℕ
 top f = (2 ^ 32 + 8192) * f
 
 abbrev invariant_loop : tie.invariant-loop-f
-invariant_loop t lik n sum₀ f₀ sum f = Running (standing_share lik) top n sum.0 f
+invariant_loop lik n sum₀ f₀ sum f = Running (standing_share lik) top n sum.0 f
 
 abbrev decreases_loop : tie.decreases-loop-f
-decreases_loop t lik n sum₀ f₀ sum f = n - f
+decreases_loop lik n sum₀ f₀ sum f = n - f
 
 loop_holds : tie.Need-loop-f-init invariant_loop decreases_loop
 loop_holds c = running_start _ top _
 
 few : (c : tie.In-loop-f invariant_loop decreases_loop) → c.before.loop-f.f < 4096
-few c = omega (arith, c.loop-f-test.true, c.before.before.requires.1)
+few c = omega (arith, c.loop-f-test.true, c.before.before.requires.0)
 
 mul_t8 : tie.Need-overflow_mul-f invariant_loop decreases_loop
 mul_t8 c = omega (arith, few c)
@@ -37,7 +37,7 @@ mul_t9 : tie.Need-offset_bounds-lik-f invariant_loop decreases_loop
 mul_t9 c = omega (arith, few c)
 
 shared_slice_copy_out_t11 : tie.Need-bounds-lik-f invariant_loop decreases_loop
-shared_slice_copy_out_t11 c = omega (arith, c.loop-f-test.true, c.before.before.requires.2)
+shared_slice_copy_out_t11 c = omega (arith, c.loop-f-test.true, c.before.before.requires.1)
 
 mul_t13 : tie.Need-overflow_mul-f-in-loop-f invariant_loop decreases_loop
 mul_t13 c = omega (arith, few c.before)
@@ -49,7 +49,7 @@ mul_t15 : tie.Need-offset_bounds-lik-f-in-loop-f invariant_loop decreases_loop
 mul_t15 c = omega (arith, few c.before)
 
 shared_slice_copy_out_t17 : tie.Need-bounds-lik-f-in-loop-f invariant_loop decreases_loop
-shared_slice_copy_out_t17 c = omega (arith, c.before.loop-f-test.true, c.before.before.before.requires.2)
+shared_slice_copy_out_t17 c = omega (arith, c.before.loop-f-test.true, c.before.before.before.requires.1)
 
 -- the two likelihoods of fragment f, how far from 0 they are, and both read back
 abbrev first : tie.In-loop-f invariant_loop decreases_loop → ℤ
@@ -59,10 +59,10 @@ abbrev second : tie.In-loop-f invariant_loop decreases_loop → ℤ
 second c = get_or c.before.before.args.lik.now (2 * c.before.loop-f.f + 1) (pos 0)
 
 first_small : (c : tie.In-loop-f invariant_loop decreases_loop) → nat_abs (first c) ≤ 2 ^ 32
-first_small c = c.before.before.requires.3 (2 * c.before.loop-f.f)
+first_small c = c.before.before.requires.2 (2 * c.before.loop-f.f)
 
 second_small : (c : tie.In-loop-f invariant_loop decreases_loop) → nat_abs (second c) ≤ 2 ^ 32
-second_small c = c.before.before.requires.3 (2 * c.before.loop-f.f + 1)
+second_small c = c.before.before.requires.2 (2 * c.before.loop-f.f + 1)
 
 first_read : (c : tie.In-loop-f invariant_loop decreases_loop) → to_z w64 (of_z w64 (first c)) ≡ first c
 first_read c = read_small w64 (first c) (omega (arith, first_small c))
@@ -72,9 +72,7 @@ second_read c = read_small w64 (second c) (omega (arith, second_small c))
 
 mixed_requires : tie.Need-mixed-requires invariant_loop decreases_loop
 mixed_requires c κs =
-    let i = c.before.before in (
-      i.before.before.requires.0,
-      omega (arith, ap nat_abs (first_read i), first_small i),
+    let i = c.before.before in (omega (arith, ap nat_abs (first_read i), first_small i),
       omega (arith, ap nat_abs (second_read i), second_small i),
     )
 
@@ -122,7 +120,7 @@ returns c =
     let l = c.before in
     let s = l.before in
     let r = running_end (standing_share s.args.lik.now) top s.args.n l.loop-f.sum.0 l.loop-f.f l.loop-f.invariant c.loop-f-test.false in
-    (r.0, omega (arith, r.1, s.requires.1))
+    (r.0, omega (arith, r.1, s.requires.0))
 
 pub mixes_total_spec : {M : Type 1} → statement M
 mixes_total_spec =

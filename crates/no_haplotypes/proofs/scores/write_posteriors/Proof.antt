@@ -22,17 +22,17 @@ abbrev st : tie.After-tally-total → tie.Start
 st y = y.before.before.before.before
 
 low : (a : tie.After-allele_count-k) → 1 ≤ a.allele_count-k.result
-low a = let s = st a.before in rw a.allele_count-k.ensures (s.requires.0.1.variants.each s.args.v s.requires.0.3).k_low
+low a = let s = st a.before in rw a.allele_count-k.ensures (s.requires.0.0.variants.each s.args.v s.requires.0.2).k_low
 
 top : (a : tie.After-allele_count-k) → a.allele_count-k.result ≤ 3
-top a = let s = st a.before in rw a.allele_count-k.ensures (s.requires.0.1.variants.each s.args.v s.requires.0.3).k_high
+top a = let s = st a.before in rw a.allele_count-k.ensures (s.requires.0.0.variants.each s.args.v s.requires.0.2).k_high
 
 write_scores_requires : tie.Need-write_scores-requires
 write_scores_requires c κs =
     let a = c.before.before in
     let y = a.before in
     let s = st y in
-    (pile_sums y.tally-total.ensures s.requires.0.2, low a, top a, s.requires.1.1)
+    (pile_sums y.tally-total.ensures s.requires.0.1, low a, top a, s.requires.1.1)
 
 -- the number of alleles, from the scores
 abbrev counted : tie.After-write_scores → tie.After-allele_count-k
@@ -47,7 +47,7 @@ normalize_requires c κs =
     let a = counted g in
     let y = a.before in
     let s = st y in
-    (s.requires.0.0, scored_table (low a) (top a) s.requires.1.1 (pile_sums y.tally-total.ensures s.requires.0.2) g.write_scores.ensures)
+    (scored_table (low a) (top a) s.requires.1.1 (pile_sums y.tally-total.ensures s.requires.0.1) g.write_scores.ensures)
 
 same_length : tie.Need-shape_of-post
 same_length c = search rules
@@ -59,7 +59,7 @@ returns c =
     let a = counted g in
     let y = a.before in
     let s = st y in
-    posteriors_made (low a) (top a) s.requires.1.1 (pile_sums y.tally-total.ensures s.requires.0.2) g.write_scores.ensures n.normalize.ensures y.tally-total.ensures refl a.allele_count-k.ensures (pile_counts y.tally-total.ensures s.requires.0.2)
+    posteriors_made (low a) (top a) s.requires.1.1 (pile_sums y.tally-total.ensures s.requires.0.1) g.write_scores.ensures n.normalize.ensures y.tally-total.ensures refl a.allele_count-k.ensures (pile_counts y.tally-total.ensures s.requires.0.1)
 
 pub write_posteriors_spec : {M : Type 1} → statement M
 write_posteriors_spec =

@@ -38,7 +38,7 @@ abbrev row : tie.After-unpack-row → Row
 row u = row_at (st u).args.piles.now (st u).args.c
 
 abbrev row_in : (u : tie.After-unpack-row) → RowIn (st u).args.s.n (st u).args.s.f (row u)
-row_in u = (st u).requires.0.3
+row_in u = (st u).requires.0.2
 
 abbrev allele : tie.After-unpack-row → ℕ
 allele u = u.unpack-row.result.allele
@@ -58,12 +58,12 @@ unpacked m = m.before.before.before.before.before
 mix_requires : tie.Need-mix-m-requires
 mix_requires c κs =
     let u = c.before.before.before.before in
-    ((st u).requires.0.0, rw (qual_is u) (qual_small (row_in u)), rw (other_is u) (other_small (row_in u)))
+    (omega (arith, ap nat_abs (qual_is u), qual_small (row_in u)), omega (arith, ap nat_abs (other_is u), other_small (row_in u)))
 
 strand_of_requires : tie.Need-strand_of-requires
 strand_of_requires c κs =
     let u = unpacked c.before in
-    ((st u).requires.0.1.sized, rw (ap (λ (r : RowHeld). r.fragment) u.unpack-row.ensures) (row_in u).fragment_in)
+    ((st u).requires.0.0.sized, rw (ap (λ (r : RowHeld). r.fragment) u.unpack-row.ensures) (row_in u).fragment_in)
 
 -- ---- both gains
 abbrev mixing : tie.After-direction_of-strand → tie.After-mix-m
@@ -87,7 +87,7 @@ both_read m =
 one_read : (m : tie.After-mix-m) → to_z w64 (of_z w64 (to_z w64 (of_z w64 m.mix-m.result.0) -ℤ to_z w64 (of_z w64 (unpacked m).unpack-row.result.qual.0))) ≡ one_gain (row (unpacked m)).call
 one_read m =
     let u = unpacked m in
-    less_of (mixed_is m) (qual_is u) (omega (arith, qual_small (row_in u), ap nat_abs (mixed_is m), m.mix-m.ensures.1))
+    less_of (mixed_is m) (qual_is u) (omega (arith, ap nat_abs (qual_is u), ap nat_abs (other_is u), qual_small (row_in u), other_small (row_in u), ap nat_abs (mixed_is m), m.mix-m.ensures.1))
 
 -- the places of its gains
 gain_small : (u : tie.After-unpack-row) (p : ℕ) → p < 6 → nat_abs (get_or (st u).args.gains.now p (pos 0)) ≤ 2 ^ 40
@@ -116,7 +116,7 @@ sub_add_gain_2 : tie.Need-overflow_sub-m
 sub_add_gain_2 c =
     let m = mixed_before c in
     let u = unpacked m in
-    minus_fits w64 m.mix-m.result.0 u.unpack-row.result.qual.0 (omega (arith, ap nat_abs (qual_is u), m.mix-m.ensures.1, qual_small (row_in u)))
+    minus_fits w64 m.mix-m.result.0 u.unpack-row.result.qual.0 (omega (arith, ap nat_abs (qual_is u), ap nat_abs (other_is u), m.mix-m.ensures.1, qual_small (row_in u), other_small (row_in u)))
 
 add_gain_requires_2 : tie.Need-add_gain-requires-2
 add_gain_requires_2 c κs =

@@ -15,11 +15,11 @@ use Rattle.no_haplotypes.proofs.tally.tally.Statement.{statement}
 use Rattle.no_haplotypes.proofs.tally.tally.Tie as tie
 
 abbrev invariant_loop : tie.invariant-loop-c
-invariant_loop t words s piles gains₀ counts₀ e total₀ c₀ gains counts total c =
+invariant_loop words s piles gains₀ counts₀ e total₀ c₀ gains counts total c =
     (c₀ ≤ c) × (c ≤ e) × Tallied words s (rows_at piles c₀ c) total.0 gains counts
 
 abbrev decreases_loop : tie.decreases-loop-c
-decreases_loop t words s piles gains₀ counts₀ e total₀ c₀ gains counts total c =
+decreases_loop words s piles gains₀ counts₀ e total₀ c₀ gains counts total c =
     e - c
 
 ln_one_requires : tie.Need-ln_one-total-requires invariant_loop decreases_loop
@@ -29,24 +29,24 @@ loop_holds : tie.Need-loop-c-init invariant_loop decreases_loop
 loop_holds c =
     let s = c.before.before in
     let e = steps_is c.ln_one-total.result.0 (pos 0) (omega arith) c.ln_one-total.ensures in
-    (omega arith, s.requires.0.2.rises, rw (e, rows_none s.args.piles.now s.args.pile.start) (tallied_start s.requires.1))
+    (omega arith, s.requires.0.1.rises, rw (e, rows_none s.args.piles.now s.args.pile.start) (tallied_start s.requires.1))
 
 -- ---- in the loop: what is known of the row in hand, and how small the sum so far is
 abbrev st : tie.In-loop-c invariant_loop decreases_loop → tie.Start invariant_loop decreases_loop
 st l = l.before.before.before.before
 
 abbrev row_in : (l : tie.In-loop-c invariant_loop decreases_loop) → RowIn (st l).args.s.n (st l).args.s.f (row_at (st l).args.piles.now l.before.loop-c.c)
-row_in l = (st l).requires.0.2.rows_in.rows_in l.before.loop-c.c l.before.loop-c.invariant.0 l.loop-c-test.true
+row_in l = (st l).requires.0.1.rows_in.rows_in l.before.loop-c.c l.before.loop-c.invariant.0 l.loop-c-test.true
 
 abbrev sums : (l : tie.In-loop-c invariant_loop decreases_loop) → SumsIn l.before.loop-c.total.0 l.before.loop-c.gains
-sums l = sums_in l.before.loop-c.invariant.2 (st l).requires.0.2.rows_in l.before.loop-c.invariant.0 l.before.loop-c.invariant.1
+sums l = sums_in l.before.loop-c.invariant.2 (st l).requires.0.1.rows_in l.before.loop-c.invariant.0 l.before.loop-c.invariant.1
 
 add_call_requires : tie.Need-add_call-q-requires invariant_loop decreases_loop
 add_call_requires c κs =
     let l = c.before.before in
     let s = st l in
-    let p = s.requires.0.2 in
-    ((s.requires.0.0, s.requires.0.1, omega (arith, l.loop-c-test.true, p.rows_in.long), row_in l), ((sums l).gains_in, counts_in l.before.loop-c.invariant.2 p.rows_in l.before.loop-c.invariant.0 l.before.loop-c.invariant.1))
+    let p = s.requires.0.1 in
+    ((s.requires.0.0, omega (arith, l.loop-c-test.true, p.rows_in.long), row_in l), ((sums l).gains_in, counts_in l.before.loop-c.invariant.2 p.rows_in l.before.loop-c.invariant.0 l.before.loop-c.invariant.1))
 
 abbrev looping : tie.After-add_call-q invariant_loop decreases_loop → tie.In-loop-c invariant_loop decreases_loop
 looping d = d.before.before.before
@@ -62,7 +62,7 @@ add_t15 : tie.Need-overflow_add-total invariant_loop decreases_loop
 add_t15 c = let d = told c in plus_fits w64 (looping d).before.loop-c.total.0 d.add_call-q.result.0 (total_small d)
 
 add_c : tie.Need-overflow_add-c invariant_loop decreases_loop
-add_c c = omega (arith, (looping (told c)).loop-c-test.true, (st (looping (told c))).requires.0.2.rows_in.few)
+add_c c = omega (arith, (looping (told c)).loop-c-test.true, (st (looping (told c))).requires.0.1.rows_in.few)
 
 loop_less : tie.Need-loop-c-smaller invariant_loop decreases_loop
 loop_less c = omega (arith, (looping (told c)).loop-c-test.true)

@@ -109,31 +109,28 @@ run_in_scratch_requires c κs =
           s.requires.1.posteriors_long;
     }
 
-table_requires : tie.Need-table-t-requires
-table_requires c κs = search rules
-
 slice_aggregate_normalize_all : tie.Need-slice_bounds-normalize_all-end
 slice_aggregate_normalize_all c =
-    let k = counts (flags (phase c.before.before.before.before.before.before.before.before)) in
+    let k = counts (flags (phase c.before.before.before.before.before.before)) in
     sym (as_long _ _ _ _ k.write_allele_counts.ensures ∙ k.before.before.zeros-ks.ensures)
 
 normalize_all_requires : tie.Need-normalize_all-requires
 unfolding run_in_scratch_requires
 normalize_all_requires c κs =
-    let r = c.before.before.before.before.before.before.before.before in
+    let r = c.before.before.before.before.before.before in
     let s = start r.before in
     let R = run_here s.requires.0 (start_here s.requires.0 _ _ _ (lent _) s.requires.1.haplotypes_long (phase r.before).write_phase.ensures.0) (r.run_in_scratch-r.ensures _ (run_in_scratch_requires r.before r.run_in_scratch-r.lifetimes).holds) in
-    (c.before.before.before.table-t.ensures, finish.tables_at s.args.z s.requires.0.given _ _ _ s.requires.0.good_orders (run_in_scratch_requires r.before r.run_in_scratch-r.lifetimes).holds.counts R s.requires.1.posteriors_long)
+    (finish.tables_at s.args.z s.requires.0.given _ _ _ s.requires.0.good_orders (run_in_scratch_requires r.before r.run_in_scratch-r.lifetimes).holds.counts R s.requires.1.posteriors_long)
 
 write_finals_requires : tie.Need-write_finals-requires
 unfolding run_in_scratch_requires
 write_finals_requires c κs =
-    let n = c.before.before.before.before in
-    let r = n.before.before.before.before.before.before.before.before.before in
+    let n = c.before.before.before in
+    let r = n.before.before.before.before.before.before.before in
     let s = start r.before in
     let R = run_here s.requires.0 (start_here s.requires.0 _ _ _ (lent _) s.requires.1.haplotypes_long (phase r.before).write_phase.ensures.0) (r.run_in_scratch-r.ensures _ (run_in_scratch_requires r.before r.run_in_scratch-r.lifetimes).holds) in
     let room = s.requires.1 in (
-      (n.before.before.before.before.table-t.ensures, (known s.requires.0.given).sized, finish.tables_in s.args.z s.requires.0.given _ _ _ s.requires.0.good_orders (run_in_scratch_requires r.before r.run_in_scratch-r.lifetimes).holds.counts R room.posteriors_long n.normalize_all.ensures),
+      ((known s.requires.0.given).sized, finish.tables_in s.args.z s.requires.0.given _ _ _ s.requires.0.good_orders (run_in_scratch_requires r.before r.run_in_scratch-r.lifetimes).holds.counts R room.posteriors_long n.normalize_all.ensures),
       (room.quals_long, room.gqs_long),
     )
 
@@ -153,8 +150,8 @@ returns : tie.Need-returns
 unfolding run_in_scratch_requires
 returns c =
     let F = c.write_finals.ensures in
-    let n = c.before.before.before.before.before.before.before.before.before in
-    let r = n.before.before.before.before.before.before.before.before.before in
+    let n = c.before.before.before.before.before.before.before.before in
+    let r = n.before.before.before.before.before.before.before in
     let s = start r.before in
     let w = phase r.before in
     let g = s.requires.0.given in
@@ -201,7 +198,6 @@ round_accepted_spec =
     part_run_in_scratch_start_2
     part_run_in_scratch_end_2
     run_in_scratch_requires
-    table_requires
     slice_aggregate_normalize_all
     normalize_all_requires
     write_finals_requires

@@ -18,17 +18,17 @@ max_genotype_requires c κs = search rules
 inside : (c : tie.After-max_genotype-p) → c.max_genotype-p.result < c.before.args.k * c.before.args.k
 inside c =
     let s = c.before in
-    omega (arith, c.max_genotype-p.ensures, (genotype_maximum true (drop s.args.at s.args.post.now) s.args.k s.requires.1.k_low).inside)
+    omega (arith, c.max_genotype-p.ensures, (genotype_maximum true (drop s.args.at s.args.post.now) s.args.k s.requires.k_low).inside)
 
 genotype_of_requires : tie.Need-genotype_of-requires
-genotype_of_requires c κs = (c.before.requires.1.k_low, c.before.requires.1.k_high, inside c)
+genotype_of_requires c κs = (c.before.requires.k_low, c.before.requires.k_high, inside c)
 
 qual_of_requires : tie.Need-qual_of-requires
-qual_of_requires c κs = first_small c.before.before.requires.1
+qual_of_requires c κs = first_small c.before.before.requires
 
 gq_of_requires : tie.Need-gq_of-requires
 gq_of_requires c κs =
-    let m = c.before.before in (m.before.requires.0, m.before.requires.1, inside m)
+    let m = c.before.before in (m.before.requires, inside m)
 
 returns : tie.Need-returns
 unfolding final_of

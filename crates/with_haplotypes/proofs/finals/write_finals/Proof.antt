@@ -13,10 +13,10 @@ use Rattle.with_haplotypes.proofs.finals.write_finals.Statement.{statement}
 use Rattle.with_haplotypes.proofs.finals.write_finals.Tie as tie
 
 abbrev invariant_loop : tie.invariant-loop-v
-invariant_loop t words s post quals₀ gqs₀ n v₀ quals gqs v = (v ≤ n) × FinalsWritten words post v quals₀ gqs₀ quals gqs
+invariant_loop words s post quals₀ gqs₀ n v₀ quals gqs v = (v ≤ n) × FinalsWritten words post v quals₀ gqs₀ quals gqs
 
 abbrev decreases_loop : tie.decreases-loop-v
-decreases_loop t words s post quals₀ gqs₀ n v₀ quals gqs v = n - v
+decreases_loop words s post quals₀ gqs₀ n v₀ quals gqs v = n - v
 
 loop_holds : tie.Need-loop-v-init invariant_loop decreases_loop
 unfolding written
@@ -28,18 +28,18 @@ st l = l.before.before.before
 allele_count_requires : tie.Need-allele_count-k-requires invariant_loop decreases_loop
 allele_count_requires c κs =
     let s = st c.before in
-    (s.requires.0.1, c.loop-v-test.true)
+    (s.requires.0.0, c.loop-v-test.true)
 
 mul_final_answer : tie.Need-overflow_mul-v invariant_loop decreases_loop
-mul_final_answer c = omega (arith, (st c.before.before).requires.0.1.n_top, c.before.loop-v-test.true)
+mul_final_answer c = omega (arith, (st c.before.before).requires.0.0.n_top, c.before.loop-v-test.true)
 
 final_answer_requires : tie.Need-final_answer-r-requires invariant_loop decreases_loop
 final_answer_requires c κs =
     let s = st c.before.before in
-    (s.requires.0.0, rw c.allele_count-k.ensures (s.requires.0.2 c.before.before.loop-v.v c.before.loop-v-test.true))
+    (rw c.allele_count-k.ensures (s.requires.0.1 c.before.before.loop-v.v c.before.loop-v-test.true))
 
 mul_quals : tie.Need-offset_bounds-quals-v invariant_loop decreases_loop
-mul_quals c = omega (arith, (st c.before.before.before).requires.0.1.n_top, c.before.before.loop-v-test.true)
+mul_quals c = omega (arith, (st c.before.before.before).requires.0.0.n_top, c.before.before.loop-v-test.true)
 
 quals_long : (l : tie.At-loop-v invariant_loop decreases_loop) → length l.loop-v.quals ≡ length (st l).args.quals.now
 quals_long l = ap length l.loop-v.invariant.1.quals_are ∙ written_length _ l.loop-v.v (st l).args.quals.now
@@ -51,13 +51,13 @@ slice_write_quals : tie.Need-bounds-quals-v invariant_loop decreases_loop
 slice_write_quals c = omega (arith, quals_long c.before.before.before, (st c.before.before.before).requires.1.0, c.before.before.loop-v-test.true)
 
 mul_gqs : tie.Need-offset_bounds-gqs-v invariant_loop decreases_loop
-mul_gqs c = omega (arith, (st c.before.before.before).requires.0.1.n_top, c.before.before.loop-v-test.true)
+mul_gqs c = omega (arith, (st c.before.before.before).requires.0.0.n_top, c.before.before.loop-v-test.true)
 
 slice_write_gqs : tie.Need-bounds-gqs-v invariant_loop decreases_loop
 slice_write_gqs c = omega (arith, gqs_long c.before.before.before, (st c.before.before.before).requires.1.1, c.before.before.loop-v-test.true)
 
 add_v : tie.Need-overflow_add-v invariant_loop decreases_loop
-add_v c = omega (arith, (st c.before.before.before).requires.0.1.n_top, c.before.before.loop-v-test.true)
+add_v c = omega (arith, (st c.before.before.before).requires.0.0.n_top, c.before.before.loop-v-test.true)
 
 loop_less : tie.Need-loop-v-smaller invariant_loop decreases_loop
 loop_less c = omega (arith, c.before.before.loop-v-test.true)

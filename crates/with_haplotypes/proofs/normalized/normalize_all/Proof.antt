@@ -10,10 +10,10 @@ use Rattle.with_haplotypes.proofs.normalized.normalize_all.Statement.{statement}
 use Rattle.with_haplotypes.proofs.normalized.normalize_all.Tie as tie
 
 abbrev invariant_loop : tie.invariant-loop-v
-invariant_loop t ks post₀ n v₀ post v = (v ≤ n) × (post ≡ written (normalized_at ks post₀) (9 * v) post₀)
+invariant_loop ks post₀ n v₀ post v = (v ≤ n) × (post ≡ written (normalized_at ks post₀) (9 * v) post₀)
 
 abbrev decreases_loop : tie.decreases-loop-v
-decreases_loop t ks post₀ n v₀ post v = n - v
+decreases_loop ks post₀ n v₀ post v = n - v
 
 loop_holds : tie.Need-loop-v-init invariant_loop decreases_loop
 unfolding written
@@ -23,24 +23,24 @@ abbrev start : tie.At-loop-v invariant_loop decreases_loop → tie.Start invaria
 start l = l.before.before
 
 shared_slice_read_k : tie.Need-bounds-ks-v invariant_loop decreases_loop
-shared_slice_read_k c = omega (arith, c.before.loop-v-test.true, (start c.before.before).requires.1.ks_long)
+shared_slice_read_k c = omega (arith, c.before.loop-v-test.true, (start c.before.before).requires.ks_long)
 
 cast_k : tie.Need-overflow_cast-k invariant_loop decreases_loop
 cast_k c = omega (arith, c.shared_slice_known-in-loop-v-1.given c.before.before.loop-v.v)
 
 mul_normalize : tie.Need-overflow_mul-v invariant_loop decreases_loop
 mul_normalize c =
-    let l = c.before.before.before in omega (arith, c.before.before.loop-v-test.true, (start l).requires.1.long)
+    let l = c.before.before.before in omega (arith, c.before.before.loop-v-test.true, (start l).requires.long)
 
 normalize_requires : tie.Need-normalize-requires invariant_loop decreases_loop
 normalize_requires c κs =
     let l = c.before.before.before in
     let s = start l in
-    (s.requires.0, table_kept s.args.ks.now s.args.post.now l.loop-v.post l.loop-v.v l.loop-v.invariant.1 _ (s.requires.1.each l.loop-v.v c.before.before.loop-v-test.true))
+    (table_kept s.args.ks.now s.args.post.now l.loop-v.post l.loop-v.v l.loop-v.invariant.1 _ (s.requires.each l.loop-v.v c.before.before.loop-v-test.true))
 
 add_v : tie.Need-overflow_add-v invariant_loop decreases_loop
 add_v c =
-    let l = c.before.before.before.before.before in omega (arith, c.before.before.before.before.loop-v-test.true, (start l).requires.1.long)
+    let l = c.before.before.before.before.before in omega (arith, c.before.before.before.before.loop-v-test.true, (start l).requires.long)
 
 loop_less : tie.Need-loop-v-smaller invariant_loop decreases_loop
 loop_less c = omega (arith, c.before.before.before.before.loop-v-test.true)

@@ -6,18 +6,12 @@ use Rattle.with_haplotypes.proofs.RunLaws.{known}
 use Rattle.with_haplotypes.proofs.prepare.prepare.Statement.{statement}
 use Rattle.with_haplotypes.proofs.prepare.prepare.Tie as tie
 
--- the start, the table, and the piles
-abbrev st : tie.After-table-t → tie.Start
-st c = c.before.before.before.before.before.before
-
-abbrev tab : tie.After-pile_calls-arg-4-1 → tie.After-table-t
-tab c = c.before.before.before.before.before
+-- the start, and the piles
+abbrev st : tie.After-pile_calls-arg-4-1 → tie.Start
+st c = c.before.before.before.before.before.before.before.before.before.before
 
 abbrev piled : tie.After-make_priors-arg-1 → tie.After-pile_calls
-piled c = c.before.before.before.before.before.before.before.before.before.before.before
-
-table_requires : tie.Need-table-t-requires
-table_requires c κs = search rules
+piled c = c.before.before.before.before.before.before.before.before.before.before
 
 sub_pile_calls : tie.Need-slice_bounds-pile_calls-count
 sub_pile_calls c = search rules
@@ -30,16 +24,15 @@ part_ambiguous_end c = search rules
 
 pile_calls_requires : tie.Need-pile_calls-requires
 pile_calls_requires c κs =
-    let s = st (tab c) in
+    let s = st c in
     let r = s.requires.1 in
     (known s.requires.0, ((r.rows_long, r.row_ends_long), (r.piles_long, r.pile_ends_long)))
 
 make_priors_requires : tie.Need-make_priors-requires
 make_priors_requires c κs =
-    let t = tab (piled c).before in
-    let s = st t in
+    let s = st (piled c).before in
     let g = s.requires.0 in
-    (t.table-t.ensures, known g, bases_in _ _ _ g.accepted, g.good_rates, s.requires.1.pri_long)
+    (known g, bases_in _ _ _ g.accepted, g.good_rates, s.requires.1.pri_long)
 
 same_length : tie.Need-shape_of-rows
 same_length c = search rules
@@ -63,7 +56,6 @@ pub prepare_spec : {M : Type 1} → statement M
 prepare_spec =
     tie.close
     (tie.spec
-    table_requires
     sub_pile_calls
     part_ambiguous_start
     part_ambiguous_end

@@ -8,9 +8,6 @@ use Rattle.with_haplotypes.proofs.RunLaws.{known, all_ones, calls_asked, liks_he
 use Rattle.with_haplotypes.proofs.run.run_prepared.Statement.{statement}
 use Rattle.with_haplotypes.proofs.run.run_prepared.Tie as tie
 
-lines_requires : tie.Need-lines-l-requires
-lines_requires c κs = search rules
-
 write_likelihoods_requires : tie.Need-write_likelihoods-requires
 write_likelihoods_requires c κs =
     let p = c.requires in
@@ -20,13 +17,12 @@ write_likelihoods_requires c κs =
 standing_total_requires : tie.Need-standing_total-start-requires
 standing_total_requires c κs =
     let p = c.requires in
-    let a = standing_asks p.given p.prepared p.given.good_start (liks_here p.given p.prepared c.write_likelihoods.ensures) in
-    ((c.lines-l.ensures, a.0), a.1)
+    standing_asks p.given p.prepared p.given.good_start (liks_here p.given p.prepared c.write_likelihoods.ensures)
 
 run_sweeps_requires : tie.Need-run_sweeps-r-requires
 run_sweeps_requires c κs =
     let p = c.requires in
-    (c.lines-l.ensures, record { case = _; holds = begins p.given p.prepared c.write_likelihoods.ensures })
+    record { case = _; holds = begins p.given p.prepared c.write_likelihoods.ensures }
 
 ones_requires : tie.Need-ones-all-requires
 ones_requires c κs = search rules
@@ -35,8 +31,7 @@ standing_total_requires_2 : tie.Need-standing_total-end-requires
 standing_total_requires_2 c κs =
     let p = c.requires in
     let r = c.run_sweeps-r.ensures _ (begins p.given p.prepared c.write_likelihoods.ensures) in
-    let a = standing_asks p.given p.prepared (left_good p.given p.prepared r) r.liks in
-    ((c.lines-l.ensures, a.0), a.1)
+    standing_asks p.given p.prepared (left_good p.given p.prepared r) r.liks
 
 slice_aggregate_total : tie.Need-slice_bounds-total-end
 slice_aggregate_total c = search rules
@@ -46,7 +41,7 @@ total_requires c κs =
     let p = c.requires in
     let r = c.run_sweeps-r.ensures _ (begins p.given p.prepared c.write_likelihoods.ensures) in
     let k = known p.given.given in
-    ((c.lines-l.ensures, k.sized.f_top), total_asks p.given p.prepared _ (left_good p.given p.prepared r) (omega (arith, k.sized.n_top, c.ones-all.ensures.0)))
+    (k.sized.f_top, total_asks p.given p.prepared _ (left_good p.given p.prepared r) (omega (arith, k.sized.n_top, c.ones-all.ensures.0)))
 
 same_length : tie.Need-shape_of-hap
 same_length c = search rules
@@ -73,7 +68,6 @@ pub run_prepared_spec : {M : Type 1} → statement M
 run_prepared_spec =
     tie.close
     (tie.spec
-    lines_requires
     write_likelihoods_requires
     standing_total_requires
     run_sweeps_requires
