@@ -7,6 +7,9 @@ use Prim.Native.Nat.{ℕ, ◌≤◌, ◌<◌}
 use native.Mathlib.Omega.{arith}
 use native.Mathlib.Decide.{dec_le, ℕ_discrete}
 use borrow.Author.Tests.{le-leb, lt-leb, eq-eqb, ne_eqb}
+use Rattle.std.proofs.lemmas.Bool.Decides.{nat_tests}
+use Rattle.std.proofs.Math.ListN.{drop_of_length-le}
+use Rattle.std.proofs.Common.{◌+◌, ap, drop, get_or, length, add-one, drop-cons}
 use Rattle.variants_and_fragments.specs.Refusals.{short_of, earlier, smallest_short}
 
 pub earlier_right : (a b : ℕ) → a ≡ 0 → b ≡ earlier a b
@@ -83,3 +86,19 @@ one_short need long h = short_last need need long (rw (lt-leb need long h))
 pub one_fits : (need long : ℕ) → need ≤ long → smallest_short ((need, long) ∷ []) ≡ 0
 unfolding short_of
 one_fits need long h = sym (short_last 0 need long (rw (le-leb need long h)))
+
+-- ---- one need after the other
+pub earlier_assoc : (a b c : ℕ) → earlier (earlier a b) c ≡ earlier a (earlier b c)
+unfolding earlier
+earlier_assoc a b c = grind (arith, nat_tests)
+
+-- of the slices from i on, with what was found before them
+pub short_step : (slices : List (ℕ × ℕ)) (i found one next all : ℕ) → i < length slices → earlier found (smallest_short (drop i slices)) ≡ all
+    → one ≡ short_of (get_or slices i (0, 0)).0 (get_or slices i (0, 0)).1 → next ≡ earlier found one → earlier next (smallest_short (drop (i + 1) slices)) ≡ all
+unfolding smallest_short
+short_step slices i found one next all l before is_one is_next =
+    rw (is_next, earlier_assoc, is_one, add-one) (sym (ap (λ (xs : List (ℕ × ℕ)). earlier found (smallest_short xs)) (drop-cons slices i (0, 0) l)) ∙ before)
+
+pub short_end : (slices : List (ℕ × ℕ)) (i found : ℕ) → length slices ≤ i → earlier found (smallest_short (drop i slices)) ≡ smallest_short slices → found ≡ smallest_short slices
+unfolding smallest_short
+short_end slices i found l e = sym (earlier_none found) ∙ rw (drop_of_length-le slices l) at e

@@ -9,7 +9,7 @@ use crate::chains::check_chains;
 use crate::head::read_head;
 use crate::variants::check_variants;
 pub use laid::{Case, Laid, WithVariants};
-pub use refusals::{earlier, number, place, short_of};
+pub use refusals::{earlier, long_enough, short_of};
 
 pub mod alleles;
 pub mod calls;
@@ -41,7 +41,7 @@ pub struct CallWords {
 }
 
 // Why an operation turned its input down, with the place of the fault: document 01's table and the requests', number by number.
-#[derive(Clone, Copy)]
+#[derive(Clone, Copy, PartialEq, Eq, Debug)]
 pub enum Refusal {
     Head(usize),
     Variant(usize),

@@ -1,50 +1,53 @@
 // A refusal's number and place, and what number 10 says of slices that are too short.
 ghost use Rattle.std.specs.Prelude.{◌≡◌};
+ghost use Rattle.variants_and_fragments.specs.Refusals.{done, outcome_of};
 ghost use Rattle.variants_and_fragments.specs.Refusals as refusals;
 
 use crate::Refusal;
 
-// A refusal's number in document 01's table; 13 and 14 are request 1's.
-pub fn number(r: Refusal) -> usize
-    ensures { result ≡ refusals.number r }
-{
-    match r {
-        Refusal::Head(_) => 1,
-        Refusal::Variant(_) => 2,
-        Refusal::Alleles(_) => 3,
-        Refusal::Call(_) => 4,
-        Refusal::Chain(_) => 5,
-        Refusal::Rates(_) => 6,
-        Refusal::Phase(_) => 7,
-        Refusal::Orders(_) => 8,
-        Refusal::Limit(_) => 9,
-        Refusal::Short(_) => 10,
-        Refusal::DensityQual(_) => 11,
-        Refusal::Normalize(_) => 12,
-        Refusal::Fragment(_) => 13,
-        Refusal::Room(_) => 14,
+impl Refusal {
+    // A refusal's number in document 01's table; 13 and 14 are request 1's.
+    pub fn number(self) -> usize
+        ensures { result ≡ refusals.number self }
+    {
+        match self {
+            Refusal::Head(_) => 1,
+            Refusal::Variant(_) => 2,
+            Refusal::Alleles(_) => 3,
+            Refusal::Call(_) => 4,
+            Refusal::Chain(_) => 5,
+            Refusal::Rates(_) => 6,
+            Refusal::Phase(_) => 7,
+            Refusal::Orders(_) => 8,
+            Refusal::Limit(_) => 9,
+            Refusal::Short(_) => 10,
+            Refusal::DensityQual(_) => 11,
+            Refusal::Normalize(_) => 12,
+            Refusal::Fragment(_) => 13,
+            Refusal::Room(_) => 14,
+        }
     }
-}
 
-// A refusal's place.
-pub fn place(r: Refusal) -> usize
-    ensures { result ≡ refusals.place r }
-{
-    match r {
-        Refusal::Head(p) => p,
-        Refusal::Variant(p) => p,
-        Refusal::Alleles(p) => p,
-        Refusal::Call(p) => p,
-        Refusal::Chain(p) => p,
-        Refusal::Rates(p) => p,
-        Refusal::Phase(p) => p,
-        Refusal::Orders(p) => p,
-        Refusal::Limit(p) => p,
-        Refusal::Short(p) => p,
-        Refusal::DensityQual(p) => p,
-        Refusal::Normalize(p) => p,
-        Refusal::Fragment(p) => p,
-        Refusal::Room(p) => p,
+    // A refusal's place.
+    pub fn place(self) -> usize
+        ensures { result ≡ refusals.place self }
+    {
+        match self {
+            Refusal::Head(p) => p,
+            Refusal::Variant(p) => p,
+            Refusal::Alleles(p) => p,
+            Refusal::Call(p) => p,
+            Refusal::Chain(p) => p,
+            Refusal::Rates(p) => p,
+            Refusal::Phase(p) => p,
+            Refusal::Orders(p) => p,
+            Refusal::Limit(p) => p,
+            Refusal::Short(p) => p,
+            Refusal::DensityQual(p) => p,
+            Refusal::Normalize(p) => p,
+            Refusal::Fragment(p) => p,
+            Refusal::Room(p) => p,
+        }
     }
 }
 
@@ -72,4 +75,19 @@ pub fn earlier(a: usize, b: usize) -> usize
         return a;
     }
     b
+}
+
+// Whether each slice, given as what it needs and its length, is long enough: else refused with the smallest need of one that is not. No need of 0
+// is ever missed, so 0 is none here: an Option would have to say that its value is above 0.
+pub fn long_enough(slices: &[(usize, usize)]) -> Result<(), Refusal>
+    ensures { outcome_of result ≡ refusals.long_enough slices.now (done tt) }
+{
+    let mut short = 0;
+    for (need, long) in slices {
+        short = earlier(short, short_of(*need, *long));
+    }
+    if short != 0 {
+        return Err(Refusal::Short(short));
+    }
+    Ok(())
 }
