@@ -6,7 +6,7 @@ ghost use Rattle.with_haplotypes.specs.Inner.Checks.{round_short, limit_checks, 
 use genotype_probs::Rates;
 use genotype_probs::table::rates_fault;
 use haplotype_assembly::phase::phase_fault;
-use shuffle::{OrdersChecked, check_orders};
+use shuffle::check_orders;
 use variants_and_fragments::{Refusal, earlier, short_of};
 
 // What the checks find: nothing, with the number m of orders, or a refusal.
@@ -74,7 +74,7 @@ pub fn round_checks(
         return RoundChecked::Refused(Refusal::Phase(v));
     }
     match check_orders(orders, n) {
-        OrdersChecked::Bad(o) => RoundChecked::Refused(Refusal::Orders(o)),
-        OrdersChecked::Good(m) => check_limits(m, limit, short),
+        Err(x) => RoundChecked::Refused(x),
+        Ok(m) => check_limits(m, limit, short),
     }
 }
