@@ -17,7 +17,8 @@ pub fn order_count(n: usize, elements: usize) -> Option<usize>
     (0 < elements && elements.is_multiple_of(n)).then_some(elements / n)
 }
 
-// Writes m orders of n variants, each from ascending, the state running on.
+// Writes m orders of n variants, each from ascending, the state running on. By index: after `chunks_exact_mut` a proof knows the slice's
+// length alone.
 pub fn write_orders(orders: &mut [u32], n: usize, m: usize, seed: u64)
     requires n_bound { n ≤ 1024 }
     requires n_value { m * n ≡ length orders.old }
@@ -46,7 +47,7 @@ fn is_permutation(order: &[u32], marks: &mut [usize], mark: usize) -> bool
     true
 }
 
-// The first of m orders that is no permutation; none where each is one.
+// The first of m orders that is no permutation; none where each is one. By index: n may be 0, which `chunks_exact` refuses.
 pub fn first_bad_order(orders: &[u32], n: usize, m: usize) -> Option<usize>
     requires n_bound { n ≤ 1024 }
     requires n_value { m * n ≡ length orders.now }
