@@ -52,6 +52,7 @@ fn check_limits(m: usize, limit: u32, short: usize) -> RoundChecked
 }
 
 // The checks in the order of their numbers; `short` is what a lent slice is short of, or 0.
+#[tactic(auto, using(crate::proofs::CheckLaws::rates_refused), unfolding(crate::specs::Inner::Checks::checked_as))]
 pub fn round_checks(
     t: &[u16; 1665],
     n: usize,

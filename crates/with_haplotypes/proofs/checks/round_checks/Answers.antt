@@ -5,12 +5,8 @@ use Rattle.haplotype_assembly.specs.Inner.GivenPhase.{phase_fault}
 use Rattle.shuffle.specs.Inner.Answers.{checked_as as orders_as}
 use Rattle.genotype_probs.proofs.AcceptedPriors.{rates_good}
 use Rattle.with_haplotypes.specs.Inner.Checks.{checked_as}
-use Rattle.with_haplotypes.proofs.CheckLaws.{rates_refused, phase_refused, orders_refused, orders_passed}
+use Rattle.with_haplotypes.proofs.CheckLaws.{phase_refused, orders_refused, orders_passed}
 use Rattle.with_haplotypes.proofs.checks.round_checks.Goals as goal
-
-pub returns-then-p-lt7 : goal.returns-then-p-lt7
-unfolding checked_as
-returns-then-p-lt7 c = rates_refused _ _ _ _ _ _ _ _ c.rates_fault-p.ensures c.if-p-lt7.true
 
 pub returns-then-v-n : goal.returns-then-v-n
 unfolding checked_as
