@@ -69,8 +69,8 @@ orders_good n m orders e =
 pub written_good : (n m state : ℕ) → 0 < m → (n ≡ 0 → m ≡ 1) → orders_outcome n (orders_from n m state) ≡ done m
 unfolding first_bad_order
 written_good n m state some one =
-    sym (good_orders n m (orders_from n m state) (count_of n m some one ∙ ap (order_count n) (sym (orders_length n m state))) m some
-    (first_end (λ o. permutes n (order_at n (orders_from n m state) o)) m m (λ o h. permutation_permutes n (order_at n (orders_from n m state) o) (written_permutation n m state o h)) refl) (omega arith))
+    sym (good_orders n m (orders_from n m state) (count_of n m some one ∙ ap (order_count n) (sym (orders_length n m state))) some
+    (sym (first_end (λ o. permutes n (order_at n (orders_from n m state) o)) m m (λ o h. permutation_permutes n (order_at n (orders_from n m state) o) (written_permutation n m state o h)) refl)))
 
 -- what `sweep_orders` writes is accepted, and so each of its orders is a permutation
 module _ (words : List ℤ) (bases : List ℕ) (seed : ℕ) (before : List ℕ) (sizes : Sizes) (e : check_case_outcome words bases ≡ done sizes) (d : sweep_orders_outcome words bases before ≡ done tt) where

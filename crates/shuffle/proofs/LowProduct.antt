@@ -1,38 +1,26 @@
 -- The low 64 bits of a product from halves of 32 bits: the high halves' product and what the middle carries past are multiples of 2 ^ 64.
 -- Assumes nothing.
-use Rattle.std.proofs.Common.{◌≡◌, ℕ, ◌+◌, ◌*◌, ◌/◌, ◌%◌, ◌^◌, ◌<◌, sym, refl, ap, ◌∙◌, lt_of_le_of_lt, le_of_lt, add_assoc, mul_assoc, mul_comm, add-mul, add_comm, mul-le-mul_left, mul-lt-mul_of_pos_right, div-add-mod', mul-add, mul_left_comm, pow_pos, pow-add}
-use mathlib.Core.Path.{subst⁻¹}
-use native.Mathlib.Nat.{add_left_comm, add-mul-mod_self_right}
-use lib.Pow.{split, mod-mod-pow}
-use lib.Bits.{bit_and, and_mask}
-
-pub below : (k : ℕ) {a b : ℕ} → a < 2 ^ k → b < 2 ^ k → a * b < 2 ^ (k + k)
-below k {a} {b} ha hb =
-    subst⁻¹ (λ (n : ℕ). a * b < n) (pow-add 2 k k)
-    (lt_of_le_of_lt (mul-le-mul_left a (le_of_lt hb)) (mul-lt-mul_of_pos_right ha (pow_pos k)))
+use Rattle.std.proofs.Common.{◌≡◌, ℕ, ◌+◌, ◌*◌, ◌/◌, ◌%◌, ◌^◌, sym, ap, ◌∙◌, arith}
+use Rattle.std.specs.Int.RustNames.{bit_and}
+use Rattle.std.proofs.Math.Nat.{add-mod-mod, add-mul-mod_self_right}
+use Rattle.std.proofs.lemmas.Nat.{and_mask, mul-mod_first, div-add-mod'}
 
 product : (P a₀ a₁ b₀ b₁ : ℕ) → (a₁ * P + a₀) * (b₁ * P + b₀) ≡ a₀ * b₀ + (a₁ * b₀ + a₀ * b₁) * P + a₁ * b₁ * (P * P)
-product P a₀ a₁ b₀ b₁ = simp (mul-add, add-mul, mul_assoc, mul_comm, mul_left_comm, add_assoc, add_comm, add_left_comm) refl
+product P a₀ a₁ b₀ b₁ = omega arith
 
-carry : (P l q r h : ℕ) → l + (q * P + r) * P + h * (P * P) ≡ (l + r * P) + (h + q) * (P * P)
-carry P l q r h = simp (add-mul, mul_assoc, mul_comm, mul_left_comm, add_assoc, add_comm) refl
-
-pub low_law : (P a₀ a₁ b₀ b₁ : ℕ) → (a₀ * b₀ + (a₁ * b₀ + a₀ * b₁) % P * P) % (P * P) ≡ (a₁ * P + a₀) * (b₁ * P + b₀) % (P * P)
+low_law : (P a₀ a₁ b₀ b₁ : ℕ) → (a₀ * b₀ + (a₁ * b₀ + a₀ * b₁) % (P * P) * P % (P * P)) % (P * P) ≡ (a₁ * P + a₀) * (b₁ * P + b₀) % (P * P)
 low_law P a₀ a₁ b₀ b₁ =
-    let x = a₁ * b₀ + a₀ * b₁ in
-    let e = product P a₀ a₁ b₀ b₁ ∙ ap (λ (y : ℕ). a₀ * b₀ + y * P + a₁ * b₁ * (P * P)) (sym (div-add-mod' x P)) ∙ carry P (a₀ * b₀) (x / P) (x % P) (a₁ * b₁) in
-    sym (ap (λ (y : ℕ). y % (P * P)) e ∙ add-mul-mod_self_right (a₀ * b₀ + x % P * P) (a₁ * b₁ + x / P) (P * P))
+    let middle = a₁ * b₀ + a₀ * b₁ in
+    rw (mul-mod_first middle P (P * P), add-mod-mod (a₀ * b₀) (middle * P) (P * P))
+    (sym (ap (λ (y : ℕ). y % (P * P)) (product P a₀ a₁ b₀ b₁) ∙ add-mul-mod_self_right (a₀ * b₀ + middle * P) (a₁ * b₁) (P * P)))
 
 abbrev low : ℕ → ℕ
 low n = bit_and n 0xffff_ffff
 
--- what the program computes, with `lo` for how the low 32 bits are taken
-abbrev whole : (lo : ℕ → ℕ) (a b : ℕ) → ℕ
-whole lo a b = (lo a * lo b + lo ((a / 2 ^ 32 * lo b + lo a * (b / 2 ^ 32)) % 2 ^ 64) * 4294967296) % 2 ^ 64
-
-pub low_product : (a b : ℕ) → whole low a b ≡ a * b % 2 ^ 64
+-- what the program computes
+pub low_product : (a b : ℕ) → (low a * low b + (a / 2 ^ 32 * low b + low a * (b / 2 ^ 32)) % 2 ^ 64 * 2 ^ 32 % 2 ^ 64) % 2 ^ 64 ≡ a * b % 2 ^ 64
 low_product a b =
-    (λ i. whole (λ (n : ℕ). and_mask n 32 i) a b)
-    ∙ ap (λ (y : ℕ). (a % 2 ^ 32 * (b % 2 ^ 32) + y * 4294967296) % 2 ^ 64) (mod-mod-pow (a / 2 ^ 32 * (b % 2 ^ 32) + a % 2 ^ 32 * (b / 2 ^ 32)) 32 32)
-    ∙ low_law (2 ^ 32) (a % 2 ^ 32) (a / 2 ^ 32) (b % 2 ^ 32) (b / 2 ^ 32)
-    ∙ (λ i. split a 32 i * split b 32 i % 2 ^ 64)
+    let low_a : low a ≡ a % 2 ^ 32 = and_mask a 32 in
+    let low_b : low b ≡ b % 2 ^ 32 = and_mask b 32 in
+    rw (low_a, low_b)
+    (low_law (2 ^ 32) (a % 2 ^ 32) (a / 2 ^ 32) (b % 2 ^ 32) (b / 2 ^ 32) ∙ (λ i. div-add-mod' a (2 ^ 32) i * div-add-mod' b (2 ^ 32) i % 2 ^ 64))

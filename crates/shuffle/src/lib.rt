@@ -13,27 +13,16 @@ mod fisher_yates;
 mod orders;
 pub mod splitmix;
 
-// What the check of a run's orders finds: all good, with their number m, or the place of refusal 8.
-#[derive(Clone, Copy)]
-pub enum OrdersChecked {
-    Good(usize),
-    Bad(usize),
-}
-
-// The check of the orders of a run over n variants.
-pub fn check_orders(orders: &[u32], n: usize) -> OrdersChecked
+// The check of the orders of a run over n variants: their number, or refusal 8 with its place.
+pub fn check_orders(orders: &[u32], n: usize) -> Result<usize, Refusal>
     requires { n ≤ 1024 }
     ensures { checked_as result ≡ orders_outcome n orders.now }
 {
-    let m = order_count(n, orders.len());
-    if m == 0 {
-        return OrdersChecked::Bad(0);
+    let m = order_count(n, orders.len()).ok_or(Refusal::Orders(0))?;
+    match first_bad_order(orders, n, m) {
+        Some(o) => Err(Refusal::Orders(o)),
+        None => Ok(m),
     }
-    let o = first_bad_order(orders, n, m);
-    if o < m {
-        return OrdersChecked::Bad(o);
-    }
-    OrdersChecked::Good(m)
 }
 
 // Fills the slice with orders of the case's variants, one after the other, from the seed as first state.
@@ -43,12 +32,10 @@ pub fn sweep_orders(words: &[i32], bases: &[u8], seed: u64, orders: &mut [u32]) 
     match check_case(words, bases) {
         Checked::Refused(x) => Answered::Refused(x),
         Checked::Accepted(s) => {
-            let n = s.n;
-            let m = order_count(n, orders.len());
-            if m == 0 {
+            let Some(m) = order_count(s.n, orders.len()) else {
                 return Answered::Refused(Refusal::Orders(0));
-            }
-            write_orders(orders, n, m, seed);
+            };
+            write_orders(orders, s.n, m, seed);
             Answered::Done
         }
     }

@@ -10,18 +10,20 @@ pub fn wrapping_mul(a: u64, b: u64) -> u64
     let a1 = a >> 32;
     let b0 = b & 0xffff_ffff;
     let b1 = b >> 32;
-    let middle = std::num::wrapping_add_u64(a1 * b0, a0 * b1);
-    std::num::wrapping_add_u64(a0 * b0, (middle & 0xffff_ffff) * 4294967296)
+    let middle = (a1 * b0).wrapping_add(a0 * b1);
+    (a0 * b0).wrapping_add(middle << 32)
 }
 
 // The state after this one.
+#[tactic(auto, unfolding(crate::specs::SplitMix::next_state))]
 pub fn next_state(state: u64) -> u64
     ensures { result ≡ next_state state }
 {
-    std::num::wrapping_add_u64(state, 0x9e37_79b9_7f4a_7c15)
+    state.wrapping_add(0x9e37_79b9_7f4a_7c15)
 }
 
 // SplitMix64's mixing of a state, which is its output there.
+#[tactic(auto, unfolding(crate::specs::SplitMix::mixed, crate::specs::SplitMix::product64, crate::specs::SplitMix::xor_shift))]
 pub fn mix(state: u64) -> u64
     ensures { result ≡ mixed state }
 {

@@ -9,12 +9,10 @@ fn write_line(rt: &impl Print, n: u64) -> io::Result<()> {
     println!(rt; "{n}")
 }
 
-// Writes so many outputs from a state, one to a line. At the loop's head i of them are written.
+// Writes so many outputs from a state, one to a line.
 fn write_outputs(rt: &impl Print, first: u64, count: usize) -> io::Result<()> {
     let mut state = first;
-    let mut i = 0;
-    while i < count {
-        i += 1;
+    for _ in 0..count {
         state = next_state(state);
         write_line(rt, mix(state))?;
     }

@@ -58,9 +58,9 @@ module _ (n : ℕ) (rates : Rates) (phase : List ℕ) (sets : List ℤ) (orders 
     unfolding round_checks
     past_phase h = phase_on n phase sets _ h ∙ rates_on rates _ good
 
-    pub orders_refused : (o : ℕ) → n < phase_fault n phase sets → refused 8 o ≡ orders_outcome n orders → refused 8 o ≡ round_checks n rates phase sets orders limit short
+    pub orders_refused : (number o : ℕ) → n < phase_fault n phase sets → refused number o ≡ orders_outcome n orders → refused number o ≡ round_checks n rates phase sets orders limit short
     unfolding and_then
-    orders_refused o h e = ap (λ (x : Outcome ℕ). and_then x (λ m. limit_checks m limit short)) e ∙ past_phase h
+    orders_refused number o h e = ap (λ (x : Outcome ℕ). and_then x (λ m. limit_checks m limit short)) e ∙ past_phase h
 
     pub orders_passed : (m : ℕ) (x : Outcome ℕ) → n < phase_fault n phase sets → done m ≡ orders_outcome n orders → x ≡ limit_checks m limit short → x ≡ round_checks n rates phase sets orders limit short
     unfolding and_then

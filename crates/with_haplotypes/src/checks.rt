@@ -5,7 +5,7 @@ ghost use Rattle.with_haplotypes.specs.Inner.Checks.{round_short, limit_checks, 
 use genotype_probs::Rates;
 use genotype_probs::table::rates_fault;
 use haplotype_assembly::phase::phase_fault;
-use shuffle::{OrdersChecked, check_orders};
+use shuffle::check_orders;
 use variants_and_fragments::{Refusal, earlier, short_of};
 
 // What the checks find: nothing, with the number m of orders, or a refusal.
@@ -51,6 +51,7 @@ fn check_limits(m: usize, limit: u32, short: usize) -> RoundChecked
 }
 
 // The checks in the order of their numbers; `short` is what a lent slice is short of, or 0.
+#[tactic(auto, using(crate::proofs::CheckLaws::rates_refused), unfolding(crate::specs::Inner::Checks::checked_as))]
 pub fn round_checks(
     n: usize,
     rates: Rates,
@@ -72,7 +73,7 @@ pub fn round_checks(
         return RoundChecked::Refused(Refusal::Phase(v));
     }
     match check_orders(orders, n) {
-        OrdersChecked::Bad(o) => RoundChecked::Refused(Refusal::Orders(o)),
-        OrdersChecked::Good(m) => check_limits(m, limit, short),
+        Err(x) => RoundChecked::Refused(x),
+        Ok(m) => check_limits(m, limit, short),
     }
 }
