@@ -24,14 +24,7 @@ pub same_sum : {a b m n : ℤ} → a ≡ b → m ≡ n → a +ℤ m ≡ b +ℤ n
 same_sum p q = cc
 
 -- ---- a fragment
--- mixed likelihoods are at most 8192 steps further from 0 than the likelihoods
-pub mix_small : (a b : ℤ) (n : ℕ) → nat_abs a ≤ n → nat_abs b ≤ n → nat_abs (mix_of a b) ≤ n + 8192
-unfolding mix_of
-mix_small a b n h k =
-    let s = add_size (a -ℤ pos 4096) (b -ℤ pos 4096) (n + 4096) (omega (arith, minus_abs a (pos 4096))) (omega (arith, minus_abs b (pos 4096))) in
-    omega arith
-
--- they are the second one, z, and ln(1 + exp(d)) for how far d the first is above it
+-- mixed likelihoods are the second one, z, and ln(1 + exp(d)) for how far d the first is above it
 pub mixed_from : (x y z d : ℤ) → x -ℤ pos 4096 ≡ z +ℤ d → y -ℤ pos 4096 ≡ z → mix_of x y ≡ z +ℤ add_exp d (pos 0)
 unfolding mix_of
 mixed_from x y z d e f = ap (λ (u : ℤ). add_exp u (y -ℤ pos 4096)) e ∙ ap (λ (u : ℤ). add_exp (z +ℤ d) u) f ∙ add_exp_from d z

@@ -87,9 +87,9 @@ add_size a b n h k =
     let s = add_abs (larger a b) (pos (addend (difference a b))) in omega arith
 
 -- and with 4,096 taken from both first, at most 8192
-pub mix_size : (a b : ℤ) (n : ℕ) → nat_abs a ≤ n → nat_abs b ≤ n → nat_abs (mix_of a b) ≤ n + 8192
+pub mix_small : (a b : ℤ) (n : ℕ) → nat_abs a ≤ n → nat_abs b ≤ n → nat_abs (mix_of a b) ≤ n + 8192
 unfolding mix_of
-mix_size a b n h k =
+mix_small a b n h k =
     let x = minus_abs a (pos 4096) in
     let y = minus_abs b (pos 4096) in
     let s = add_size (a -ℤ pos 4096) (b -ℤ pos 4096) (n + 4096) (omega arith) (omega arith) in omega arith

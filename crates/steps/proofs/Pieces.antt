@@ -6,7 +6,7 @@ use Rattle.steps.specs.Knots.{T}
 use Rattle.steps.specs.Addend.{addend}
 use Rattle.steps.specs.Logs.{add_exp, larger, difference}
 use Rattle.steps.specs.Inner.Lines.{fall, base, lines, Holds}
-use Rattle.steps.proofs.Signed.{cases, zlin, up_pos, dn_pos, up_negsuc, dn_negsuc, neg_up, neg_dn, nat_abs_parts, by_sign, parts_add}
+use Rattle.steps.proofs.Signed.{cases, zlin, up_pos, dn_pos, neg_up, neg_dn, parts_add}
 use Rattle.steps.proofs.Slope.{slope}
 use Rattle.steps.proofs.Addends.{line, on_line, at_knot, far}
 use Rattle.steps.proofs.AddExp.{larger_first}

@@ -4,7 +4,7 @@
 use Rattle.std.proofs.Common.{◌≡◌, ℕ, zero, suc, ◌+◌, ◌*◌, ◌^◌, ◌<◌, ◌≤◌, Bool, true, false, T, leb, ℤ, pos, negsuc, ◌+ℤ◌, ◌-ℤ◌, ◌*ℤ◌, neg_ℤ, nat_abs, ◌≤ℤ◌, ◌<ℤ◌, sym, refl, ap, ◌∙◌, subst, lt_of_le_of_lt, mul-zero, arith, le→leb, ltb→lt, lt→ltb, leb→le, to_z-of_z, SFits, to_z, of_z, ltb-false, le-ltb, lt-ltb, leb-false}
 use native.Mathlib.Decide.{dec_lt}
 use lib.IntN.{sub_ℕ}
-use lib.Signed.{mag, le_z, lt_z, non_neg}
+use lib.Signed.{mag, le_z, lt_z}
 use mir.Syntax.{Width}
 use mir.Val.{hbits}
 use mir.Facts.{sfits_widen}
@@ -232,10 +232,6 @@ pub down_from : (z : ℤ) → z ≤ℤ pos 0 → z ≡ neg_ℤ (pos (nat_abs z))
 down_from (pos n) h = let l = leb→le n 0 h.le in let e : n ≡ 0 = omega arith in rw e
 down_from (negsuc n) h = refl
 
-pub non_neg_lem : (z : ℤ) → pos 0 ≤ℤ z → T (non_neg z)
-non_neg_lem (pos n) h = tt
-non_neg_lem (negsuc n) h = h.le
-
 -- ---- what fits a signed width, and what is read back
 pub mag_abs : (z : ℤ) → mag z ≤ nat_abs z
 mag_abs (pos n) = omega arith
@@ -256,9 +252,6 @@ pub read_wide : (w v : Width) (z : ℤ) → T (leb (hbits w) (hbits v)) → SFit
 read_wide w v z t f = rw (to_z-of_z f) (to_z-of_z (sfits_widen t f))
 
 module _ (w : Width) {x y : ℤ} (fx : SFits w x) (fy : SFits w y) where
-  pub read_le : le_z (to_z w (of_z w x)) (to_z w (of_z w y)) ≡ le_z x y
-  read_le = rw (to_z-of_z fx, to_z-of_z fy)
-
   -- two values with one pattern of bits are equal
   pub read_eq : of_z w x ≡ of_z w y → x ≡ y
   read_eq e = sym (to_z-of_z fx) ∙ ap (to_z w) e ∙ to_z-of_z fy

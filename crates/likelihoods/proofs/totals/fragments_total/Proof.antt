@@ -12,7 +12,7 @@ use Rattle.likelihoods.specs.Inner.Likelihoods.{calls_of, flagged, allele_on}
 use Rattle.likelihoods.specs.Inner.Totals.{fragment_share}
 use Rattle.likelihoods.proofs.RunningSums.{Running, running_start, running_more, running_end, added_fits, added_read}
 use Rattle.likelihoods.proofs.CallShares.{start_zero, start_next, ends_within, calls_fewer}
-use Rattle.likelihoods.proofs.TotalParts.{mix_small}
+use Rattle.steps.proofs.AddExp.{mix_small}
 use Rattle.likelihoods.proofs.totals.fragments_total.Statement.{statement}
 use Rattle.likelihoods.proofs.totals.fragments_total.Tie as tie
 

@@ -8,7 +8,8 @@ use mir.Syntax.{w64}
 use mir.Val.{to_z, of_z}
 use Rattle.steps.proofs.Signed.{minus_abs, minus_fits, minus_read, sfits, read_small, read_back}
 use Rattle.steps.specs.Logs.{add_exp}
-use Rattle.likelihoods.proofs.TotalParts.{mix_small, mixed_over}
+use Rattle.steps.proofs.AddExp.{mix_small}
+use Rattle.likelihoods.proofs.TotalParts.{mixed_over}
 use Rattle.likelihoods.proofs.totals.mixed.Statement.{statement}
 use Rattle.likelihoods.proofs.totals.mixed.Tie as tie
 

@@ -10,7 +10,7 @@ use mir.Val.{to_z, of_z}
 use Rattle.steps.proofs.Signed.{read_small}
 use Rattle.likelihoods.specs.Inner.Totals.{standing_share}
 use Rattle.likelihoods.proofs.RunningSums.{Running, running_start, running_more, running_end, added_fits, added_read}
-use Rattle.likelihoods.proofs.TotalParts.{mix_small}
+use Rattle.steps.proofs.AddExp.{mix_small}
 use Rattle.likelihoods.proofs.totals.mixes_total.Statement.{statement}
 use Rattle.likelihoods.proofs.totals.mixes_total.Tie as tie
 

@@ -1,5 +1,5 @@
 -- The mark, 0, and below 0 the search.
-use Rattle.std.proofs.Common.{◌≡◌, ◌^◌, ◌≤◌, true, false, ℤ, pos, negsuc, neg_ℤ, nat_abs, sym, refl, ap, ◌∙◌, arith, w64, SFits, to_z, of_z, rules, leb-true}
+use Rattle.std.proofs.Common.{◌≡◌, true, false, ℤ, pos, negsuc, neg_ℤ, sym, refl, ap, ◌∙◌, arith, w64, to_z, of_z, rules, leb-true}
 use lib.Signed.{le_z, lt_z}
 use Rattle.steps.specs.Inner.Logs.{is_mark, log_of}
 use Rattle.steps.specs.OneMinus.{ln_one_minus_exp}

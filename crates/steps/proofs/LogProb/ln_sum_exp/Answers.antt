@@ -1,5 +1,5 @@
 -- One more element on the way, and none left at the end.
-use Rattle.std.proofs.Common.{◌≡◌, ℕ, ◌+◌, ◌*◌, ◌^◌, ◌≤◌, map, length, get_or, drop, pos, sym, refl, ap, ◌∙◌, arith, to_z-of_z, w64, to_z, of_z}
+use Rattle.std.proofs.Common.{◌≡◌, ℕ, ◌+◌, ◌*◌, ◌^◌, map, length, get_or, drop, pos, sym, refl, ap, ◌∙◌, arith, to_z-of_z, w64, to_z, of_z}
 use Rattle.steps.specs.Logs.{ln_add_exp, ln_sum_from, ln_sum_exp}
 use Rattle.steps.specs.Inner.Logs.{log_of, size}
 use Rattle.steps.proofs.Marks.{size_fits, log_size}

@@ -1,5 +1,5 @@
 -- The larger has one of their sizes, and A is at most 4096, so the sum does not wrap.
-use Rattle.std.proofs.Common.{◌≡◌, pos, nat_abs, ◌∙◌, arith, to_z-of_z, w64}
+use Rattle.std.proofs.Common.{◌≡◌, pos, ◌∙◌, arith, to_z-of_z, w64}
 use Rattle.steps.specs.Logs.{add_exp, difference, larger}
 use Rattle.steps.proofs.Addends.{at_most}
 use Rattle.steps.proofs.AddExp.{max_is, sum_small}

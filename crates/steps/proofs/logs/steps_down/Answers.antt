@@ -1,5 +1,5 @@
 -- The search starts with a bound that is low enough, and ends at the least one.
-use Rattle.std.proofs.Common.{◌≡◌, ◌+◌, ◌-◌, ◌/◌, false, ℤ, sym, ap, ◌∙◌, subst, arith, to_z-of_z, w64, to_z, of_z}
+use Rattle.std.proofs.Common.{◌≡◌, ◌+◌, ◌-◌, ◌/◌, false, ℤ, ap, ◌∙◌, subst, arith, to_z-of_z, w64, to_z, of_z}
 use Rattle.steps.specs.OneMinus.{low}
 use Rattle.steps.proofs.OneMinus.{Least, higher, lowest_of, of_below}
 use Rattle.steps.proofs.logs.steps_down.Goals as goal

@@ -1,7 +1,6 @@
 -- The product with d and the sum are small, so that neither wraps, and the piece's `Holds` says what the sum is.
-use Rattle.std.proofs.Common.{◌≡◌, ℕ, ◌+◌, ◌*◌, ◌/◌, ◌^◌, ◌<◌, ◌≤◌, get_or, ℤ, pos, ◌+ℤ◌, ◌*ℤ◌, nat_abs, sym, ap, ◌∙◌, mul-le-mul, arith, to_z-of_z, w64, to_z, of_z}
+use Rattle.std.proofs.Common.{◌≡◌, ℕ, ◌+◌, ◌*◌, ◌/◌, ◌^◌, ◌<◌, ◌≤◌, get_or, ℤ, pos, ◌+ℤ◌, ◌*ℤ◌, nat_abs, sym, ap, mul-le-mul, arith, to_z-of_z, w64, to_z, of_z}
 use Rattle.std.proofs.lemmas.Int.{to_z_pos}
-use Rattle.steps.specs.Logs.{add_exp}
 use Rattle.steps.specs.Inner.Lines.{Holds, lines}
 use Rattle.steps.proofs.Signed.{sfits, read_small, times_abs, add_abs}
 use Rattle.steps.proofs.one_plus.ln_one_plus_exp.Goals as goal

@@ -1,5 +1,5 @@
 -- −z is a whole number below 2^53, so the cast is exact, and the product is rounded once.
-use Rattle.std.proofs.Common.{◌≡◌, ◌^◌, ◌<◌, true, false, ℤ, neg_ℤ, nat_abs, sym, refl, ap, ◌∙◌, arith, w64, to_z, of_z, rules}
+use Rattle.std.proofs.Common.{◌≡◌, true, false, ℤ, neg_ℤ, sym, refl, ap, ◌∙◌, arith, w64, to_z, of_z, rules}
 use lib.Ieee.{binary64, mul, of_int, of_bits, div}
 use Rattle.steps.specs.Logs.{mark, steps}
 use Rattle.steps.specs.Inner.Logs.{is_mark}
