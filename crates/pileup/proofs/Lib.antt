@@ -1,7 +1,6 @@
 pub mod Packing
 pub mod Groups
 pub mod Onward
-pub mod CallReads
 pub mod ChainReads
 pub mod Keys
 pub mod Collecting

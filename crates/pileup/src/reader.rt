@@ -1,12 +1,11 @@
-// Reading a fragment's chain, one call at a time: `ChainReader` holds the lent words and where it stands; `read_record` does the work.
-ghost use Rattle.std.specs.Prelude.{◌≡◌, ◌≤◌};
-ghost use Rattle.variants_and_fragments.specs.Inner.Layout.{Sized};
-ghost use Rattle.pileup.specs.Inner.Reader.{read_at, step_at, reader_at, moved_on};
+// Reading a fragment's chain, one call at a time.
+ghost use Rattle.std.specs.Prelude.{◌≡◌, ◌<◌, ◌≤◌, map};
+ghost use Rattle.std.specs.Iterator.{YieldsFirst, item_count};
+ghost use Rattle.variants_and_fragments.specs.Decode.{call_from, fragment_from};
+ghost use Rattle.pileup.specs.Inner.Reader.{held_call};
 
-use variants_and_fragments::Sizes;
-use variants_and_fragments::layout::{
-    call_variant, called_allele, next_call, one_minus_qual_of, qual_of,
-};
+use std::marker::Model;
+use variants_and_fragments::{Case, Laid};
 
 // A call of a fragment.
 #[derive(Clone, Copy)]
@@ -17,78 +16,74 @@ pub struct Call {
     pub one_minus_qual: i32,
 }
 
-// What a reader gives: the chain's end, or a call.
-#[derive(Clone, Copy)]
-pub enum CallRead {
-    End,
-    Call(Call),
-}
-
-// A step along a chain: what is read, and the number of the record after it.
-#[derive(Clone, Copy)]
-pub struct CallStep {
-    pub read: CallRead,
-    pub next: usize,
-}
-
-// A reader of a chain: the words, and the number of the next record, where 0 ends the chain.
+// A reader of a chain, seen as the calls that are left: the words, the number of the next record, where 0 ends the chain, and the record after the
+// last one read, which is mostly the next.
 #[derive(Drop)]
 pub struct ChainReader<'a> {
-    pub words: &'a [i32],
-    pub next: usize,
+    laid: Laid<'a>,
+    next: usize,
+    after: usize,
+}
+
+impl<'a> Model for ChainReader<'a> {
+    ghost use Rattle.std.specs.Prelude.{◌≤◌, List};
+    ghost use Rattle.pileup.specs.declared.reader.Call.{Call};
+    ghost use Rattle.pileup.specs.Inner.Reader.{calls_left, Readable};
+
+    ghost Value = { List Call };
+
+    ghost view = { λ reader. calls_left reader.laid.words.now reader.laid.sizes reader.next };
+
+    ghost invariant = { λ reader. Readable reader.laid.words.now reader.laid.sizes reader.next × (1 ≤ reader.after) };
 }
 
 impl<'a> ChainReader<'a> {
-    // The reader whose next record is `next`.
-    pub fn new(words: &'a [i32], next: usize) -> ChainReader<'a>
-        ensures { result ≡ reader_at words.entry next }
+    // The reader of fragment f's calls.
+    pub fn new(case: &Case<'a>, f: usize) -> ChainReader<'a>
+        requires { f < case.now.laid.sizes.f }
+        ensures { result ≡ map held_call (fragment_from case.now.laid.words.now case.now.laid.sizes f).calls }
     {
-        ChainReader { words, next }
-    }
-
-    // The call of the next record, or the end; the reader moves on to the record after it.
-    pub fn next<'s>(&'s mut self, s: Sizes) -> CallRead
-        requires { Sized self.old.words.now s × (self.old.next ≤ s.c) }
-        ensures { (result ≡ read_at self.old.words.now s self.old.next) × (self.new ≡ moved_on s self.old) }
-    {
-        let step = read_record(self.words, s, self.next);
-        self.next = step.next;
-        step.read
+        ChainReader {
+            laid: case.laid,
+            next: case.laid.first_call(f),
+            after: 1,
+        }
     }
 }
 
-// The step from record r, by a reader. Its parameters are plain.
-pub fn read_call(words: &[i32], s: Sizes, r: usize) -> CallStep
-    requires { Sized words.now s × (r ≤ s.c) }
-    ensures { result ≡ step_at words.now s r }
-{
-    let mut reader = ChainReader::new(words, r);
-    let read = reader.next(s);
-    CallStep {
-        read,
-        next: reader.next,
+impl<'a> Iterator for ChainReader<'a> {
+    type Item = Call;
+
+    ghost next_gives = { YieldsFirst (λ calls. calls) };
+
+    ghost remaining = { item_count (λ calls. calls) };
+
+    // A chain mostly goes on at the record after: the arm of its own lets the machine guess that and run ahead, where `r = self.next` waits for the
+    // word.
+    fn next(&mut self) -> Option<Call> {
+        let mut r = self.after;
+        if self.next != r {
+            let ended = self.next == 0;
+            if ended {
+                return None;
+            }
+            r = self.next;
+        }
+        self.after = r + 1;
+        self.next = self.laid.next_call(r);
+        Some(call_at(&self.laid, r))
     }
 }
 
-// What stands at record r.
-fn read_record(words: &[i32], s: Sizes, r: usize) -> CallStep
-    requires { Sized words.now s × (r ≤ s.c) }
-    ensures { result ≡ step_at words.now s r }
+// The call of record r.
+pub fn call_at(laid: &Laid<'_>, r: usize) -> Call
+    requires { (1 ≤ r) × (r ≤ laid.now.sizes.c) }
+    ensures { result ≡ held_call (call_from laid.now.words.now laid.now.sizes r) }
 {
-    if r == 0 {
-        return CallStep {
-            read: CallRead::End,
-            next: 0,
-        };
-    }
-    let call = Call {
-        variant: call_variant(words, s, r),
-        allele: called_allele(words, s, r),
-        qual: qual_of(words, s, r),
-        one_minus_qual: one_minus_qual_of(words, s, r),
-    };
-    CallStep {
-        read: CallRead::Call(call),
-        next: next_call(words, s, r),
+    Call {
+        variant: laid.call_variant(r),
+        allele: laid.called_allele(r),
+        qual: laid.qual(r),
+        one_minus_qual: laid.one_minus_qual(r),
     }
 }

@@ -18,9 +18,12 @@ held_row row = record { fragment = row.fragment; variant = row.call.variant; all
 abbrev pub row_from : RowHeld → Row
 row_from row = row_of row.fragment (record { variant = row.variant; allele = row.allele; qual = row.qual.0; one_minus_qual = row.one_minus_qual.0 })
 
--- the row of a call that the code has read
+-- a call that the code has read, and its row
+abbrev pub call_read : CallHeld → Call
+call_read call = record { variant = call.variant; allele = call.allele; qual = call.qual; one_minus_qual = call.one_minus_qual }
+
 abbrev pub row_of_call : ℕ → CallHeld → Row
-row_of_call f call = row_of f (record { variant = call.variant; allele = call.allele; qual = call.qual; one_minus_qual = call.one_minus_qual })
+row_of_call f call = row_of f (call_read call)
 
 -- a usable call of one of f fragments at one of n variants: its allele is one of three, and both qualities are in −262144..0
 pub record RowIn (n f : ℕ) (row : Row) : Type 0 where
