@@ -6,7 +6,7 @@ ghost use Rattle.steps.specs.OneMinus.{low, ln_one_minus_exp};
 
 use crate::addend::addend;
 
-// Probability zero.
+// Probability zero. A number and no Option: document 01 and the C interface have a log probability as one i64.
 pub const MARK: i64 = -9223372036854775808;
 
 // Whether a stands for probability zero.

@@ -33,13 +33,7 @@ pub fn final_answer(post: &[i64], at: usize, k: usize) -> FinalAnswer
 }
 
 // Writes the qualities of N variants, whose normalised posteriors stand at nine places each. At the loop's head those before v are written.
-pub fn write_finals(
-    words: &[i32],
-    s: Sizes,
-    post: &[i64],
-    quals: &mut [f64],
-    gqs: &mut [f64],
-)
+pub fn write_finals(words: &[i32], s: Sizes, post: &[i64], quals: &mut [f64], gqs: &mut [f64])
     requires sized { Sized words.now s × TablesIn words.now post.now s.n }
     requires n_in_bounds { (s.n ≤ length quals.old) × (s.n ≤ length gqs.old) }
     ensures { FinalsWritten words.now post.now s.n quals.old gqs.old quals.new gqs.new }

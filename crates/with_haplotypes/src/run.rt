@@ -43,9 +43,7 @@ pub fn run_prepared(
         m: z.m,
         limit: z.limit,
     };
-    let r = run_sweeps(
-        ks, ph, pri, pile_ends, piles, orders, hap, lik, post, plan,
-    );
+    let r = run_sweeps(ks, ph, pri, pile_ends, piles, orders, hap, lik, post, plan);
     let all = ones();
     let end = standing_total(s, ks, pri, lik, hap, ph);
     let source = total(s, ks, pri, rows, row_ends, hap, &all);
