@@ -5,11 +5,11 @@ use mathlib.Core.List.{List}
 use Prim.Native.Nat.{ℕ, ◌+◌, ◌≤◌}
 use native.Mathlib.Omega.{arith}
 use borrow.Author.Tests.{eq-eqb, ne_eqb}
-use lib.IntN.{ℤ, pos, nat_abs, ◌+ℤ◌, ◌-ℤ◌}
+use lib.IntN.{ℤ, pos, ◌+ℤ◌, ◌-ℤ◌}
 use lib.ListN.{get_or}
 use Rattle.steps.specs.Logs.{add_exp, mix_of}
-use Rattle.steps.proofs.Signed.{minus_abs, zlin, parts_add, parts_minus}
-use Rattle.steps.proofs.AddExp.{add_size, add_exp_from}
+use Rattle.steps.proofs.Signed.{zlin, parts_add, parts_minus}
+use Rattle.steps.proofs.AddExp.{add_exp_from}
 use Rattle.variants_and_fragments.specs.Sums.{sum_over, sum_to}
 use Rattle.variants_and_fragments.specs.Decode.{tabulate}
 use Rattle.sweeps.specs.Sweeps.{SweepCase, allele0, allele1, read_share, total_of}

@@ -52,13 +52,7 @@ fn mixed(a: LogProb, b: LogProb) -> LogProb
 
 // The mixed likelihoods of n fragments, whose rows end where `ends` says. At the loop's head those of the first f are added, and the rows of
 // fragment f start at a.
-fn fragments_total(
-    rows: &[u64],
-    ends: &[usize],
-    hap: &[u8],
-    mask: &[u8],
-    n: usize,
-) -> LogProb
+fn fragments_total(rows: &[u64], ends: &[usize], hap: &[u8], mask: &[u8], n: usize) -> LogProb
     requires { CallsIn rows.now (group_start ends.now n) hap.now mask.now × EndsIn ends.now n × (n ≤ 4096) }
     ensures { (result.0 ≡ sum_to n (fragment_share rows.now ends.now hap.now mask.now)) × (nat_abs result.0 ≤ 2 ^ 39) }
 {

@@ -82,7 +82,8 @@ second_is c = rw c.before.before.before.loop-f.invariant.0 at c.read_likelihoods
 
 mixed_requires : tie.Need-mixed-requires invariant_loop decreases_loop
 mixed_requires c κs =
-    let i = c.before.before.before.before in (omega (arith, c.read_likelihoods-r.ensures.first_small, few i),
+    let i = c.before.before.before.before in (
+      omega (arith, c.read_likelihoods-r.ensures.first_small, few i),
       omega (arith, c.read_likelihoods-r.ensures.second_small, few i),
     )
 

@@ -72,7 +72,8 @@ second_read c = read_small w64 (second c) (omega (arith, second_small c))
 
 mixed_requires : tie.Need-mixed-requires invariant_loop decreases_loop
 mixed_requires c κs =
-    let i = c.before.before in (omega (arith, ap nat_abs (first_read i), first_small i),
+    let i = c.before.before in (
+      omega (arith, ap nat_abs (first_read i), first_small i),
       omega (arith, ap nat_abs (second_read i), second_small i),
     )
 
