@@ -2,7 +2,7 @@
 ghost use Rattle.exports.specs.Promises.{CheckCase};
 
 use crate::answers::CheckAnswer;
-use variants_and_fragments::{Sizes, check_case};
+use variants_and_fragments::check_case;
 
 // `check_case`.
 #[unsafe(no_mangle)]
@@ -11,23 +11,16 @@ pub extern "C" fn condorbed_check_case(words: &[i32], bases: &[u8]) -> CheckAnsw
 {
     match check_case(words, bases) {
         Ok(case) => {
-            let Sizes {
-                n,
-                f,
-                c,
-                used,
-                free,
-                cutoff,
-            } = case.laid.sizes;
+            let s = case.laid.sizes;
             CheckAnswer {
                 number: 0,
                 place: 0,
-                n,
-                f,
-                c,
-                used,
-                free,
-                cutoff,
+                n: s.n,
+                f: s.f,
+                c: s.c,
+                used: s.used,
+                free: s.free,
+                cutoff: s.cutoff,
             }
         }
         Err(x) => CheckAnswer {
