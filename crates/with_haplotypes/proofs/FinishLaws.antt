@@ -90,7 +90,7 @@ module _ {w : List ℤ} {b : List ℕ} {rates : Rates} (s : Sizes) (plan : Plan)
   k_is v h = alleles_are rates phased w b s G.accepted v h
 
   k_held : (v : ℕ) → v < s.n → get_or ks v 0 ≡ C.k v
-  k_held v h = ap (λ (l : List ℕ). get_or l v 0) K.written_is ∙ written_at (allele_count_at w) s.n K.was 0 K.room v h ∙ sym (k_is v h)
+  k_held v h = ap (λ (l : List ℕ). get_or l v 0) K.are ∙ written_at (allele_count_at w) s.n ks 0 (omega (arith, K.long)) v h ∙ sym (k_is v h)
 
   k_here : (v : ℕ) → C.k v ≡ allele_count (variant_of (decode w b) v)
   unfolding sweep_case Rattle.likelihoods.specs.SweepCaseOf.sweep_case_of
@@ -133,7 +133,7 @@ module _ {w : List ℤ} {b : List ℕ} {rates : Rates} (s : Sizes) (plan : Plan)
 
     pub tables_at : TablesAt ks raw s.n
     tables_at = record {
-      ks_long = omega (arith, ap length K.written_is, written_length (allele_count_at w) s.n K.was, K.room);
+      ks_long = omega (arith, K.long);
       long = omega (arith, raw_long);
       each = λ v h. let n = variants_counted s G phased from orders plan.limit in
           rw (k_held v h) (record {

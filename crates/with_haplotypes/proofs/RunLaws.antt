@@ -16,6 +16,8 @@ use Rattle.variants_and_fragments.proofs.Accepted.{case_in}
 use Rattle.variants_and_fragments.proofs.Bools.{both}
 use Rattle.variants_and_fragments.proofs.Decoded.{variants_are}
 use Rattle.pileup.specs.Inner.Packed.{group_start}
+use Rattle.pileup.specs.Inner.Collected.{collected}
+use Rattle.pileup.specs.Inner.Rows.{RowsMade}
 use Rattle.genotype_probs.specs.declared.Rates.{Rates}
 use Rattle.shuffle.specs.Permutation.{Permutation}
 use Rattle.shuffle.specs.Orders.{order_count}
@@ -48,6 +50,17 @@ all_ones (x ∷ xs) e (suc v) h = all_ones xs (both (eqb x 1) (allb (λ x. eqb x
 
 pub known : {w : List ℤ} {b : List ℕ} {rates : Rates} {s : Sizes} → CaseGiven w b rates s → CaseIn w s
 known {w} {b} {rates} {s} g = case_in w b s g.accepted
+
+-- the rows of an accepted case, with no place to count the ambiguous calls
+pub rows_of : {w : List ℤ} {s : Sizes} {rows ends ambiguous : List ℕ} {count : ℕ} → RowsMade w s rows ends ambiguous count → RowsMade w s rows ends [] (length (collected w s).rows)
+rows_of m = rw (← m.rows_held.count_is) (record {
+  rows_held = m.rows_held;
+  ambiguous_counted = record { at = λ v h. absurd (omega arith) };
+  all_calls = m.all_calls;
+  count_in = m.count_in;
+  rows_in = m.rows_in;
+  grouped = m.grouped;
+})
 
 -- ---- a case, phased variants and orders
 module _ {w : List ℤ} {b : List ℕ} {rates : Rates} (s : Sizes) (g : CaseGiven w b rates s) (phased : ℕ → Bool) (start orders : List ℕ) (limit : ℕ) where
@@ -85,8 +98,8 @@ module _ {w : List ℤ} {b : List ℕ} {rates : Rates} {s : Sizes} {plan : Plan}
   pub case_held : Held C (sweep_reads ks ph x.pri x.pile_ends x.piles)
   unfolding sweep_case
   case_held =
-      held rates phased w b s G.given.accepted G.counts.was ks ph P.pri_was x.pri G.given.good_rates G.counts.room
-      G.counts.written_is G.ph_long G.ph_are P.pri_room P.pri_are P.piles_made
+      held rates phased w b s G.given.accepted ks ks ph x.pri x.pri G.given.good_rates (omega (arith, G.counts.long))
+      G.counts.are G.ph_long G.ph_are P.pri_long P.pri_are P.piles_made
 
   fragments_counted : length C.frags ≡ s.f
   unfolding sweep_case
@@ -100,7 +113,7 @@ module _ {w : List ℤ} {b : List ℕ} {rates : Rates} {s : Sizes} {plan : Plan}
         rw P.ends_long (calls_in k P.rows_made h mask (omega (arith, g.len, n_is)) long, ends_in_order k P.rows_made)
 
     pub priors_asked : PriorsIn (length ks) ks x.pri h mask
-    priors_asked = rw G.ks_long (priors_in s.n mask case_held g n_is long)
+    priors_asked = rw G.counts.long (priors_in s.n mask case_held g n_is long)
 
   -- the likelihoods of the start's haplotypes, as they are written
   module _ {lik : List ℤ} (lik-written : lik ≡ written (likelihood_at x.rows x.row_ends state.hap ph) (2 * length x.row_ends) state.lik) where
@@ -128,13 +141,13 @@ module _ {w : List ℤ} {b : List ℕ} {rates : Rates} {s : Sizes} {plan : Plan}
     unfolding sweep_case
     phased_total_lem =
         let f : length l / 2 ≡ s.f = omega (arith, liks.long, fragments_counted) in
-        rw (G.ks_long, f) (standing_total_held rates phased w b s G.given.accepted P.rows_made case_held g liks)
+        rw (G.counts.long, f) (standing_total_held rates phased w b s G.given.accepted P.rows_made case_held g liks)
 
   -- what `total` answers, of all variants
   module _ {h : List ℕ} (ones : List ℕ) (g : GoodHaps C h) where
     pub source_total_lem : ((v : ℕ) → v < s.n → get_or ones v 0 ≡ 1) → total_of (held_case (length ks) (length x.row_ends) ks x.pri x.rows x.row_ends ones) (flagged ones) h ≡ source_total C h
     unfolding sweep_case
-    source_total_lem all = rw (G.ks_long, P.ends_long) (source_total_held rates phased w b s G.given.accepted P.rows_made case_held g ones all)
+    source_total_lem all = rw (G.counts.long, P.ends_long) (source_total_held rates phased w b s G.given.accepted P.rows_made case_held g ones all)
 
   -- ---- after the sweeps
   module _ {lik : List ℤ} {after : SweepState} {r : RunAnswer} (R : Ran C orders plan (sweep_state state.hap lik state.post) after r) where

@@ -85,3 +85,7 @@ written_over d g h n l room =
 
 pub over : {X : Type 0} (g h : ℕ → X) (n : ℕ) (l l' : List X) (d : X) → l' ≡ written h n l → n ≤ length l → written g n l' ≡ written g n l
 over g h n l l' d e room = ap (written g n) e ∙ written_over d g h n l room
+
+-- what is written stands
+pub stands : {X : Type 0} (g : ℕ → X) (n : ℕ) (l l' : List X) (d : X) → l' ≡ written g n l → n ≤ length l → l' ≡ written g n l'
+stands g n l l' d e room = e ∙ sym (over g g n l l' d e room)

@@ -1,30 +1,16 @@
 // A round past its checks: it prepares, runs and finishes.
-ghost use Rattle.with_haplotypes.specs.Round.{round_input, run_of};
+ghost use Rattle.with_haplotypes.specs.Round.{run_of};
 ghost use Rattle.with_haplotypes.specs.Promise.{round_slices};
-ghost use Rattle.with_haplotypes.specs.Inner.Steps.{Admitted, RoundRoom, RoundMade};
+ghost use Rattle.with_haplotypes.specs.Inner.Steps.{RoundRoom, RoundMade};
 ghost use Rattle.with_haplotypes.specs.Inner.Reads.{input_of};
 
 use crate::RoundAnswer;
 use crate::finals::write_finals;
 use crate::normalized::normalize_all;
-use crate::run::RunReads;
-use call_genotypes::run::Plan;
-use genotype_probs::AcceptedRates;
+use crate::reads::{AcceptedRound, RunReads};
 use haplotype_assembly::phase::write_phase;
 use likelihoods::sweep_case::write_allele_counts;
-use variants_and_fragments::Case;
 use variants_and_fragments::layout::MAX_VARIANTS;
-
-// What an accepted round reads: a case, rates, phase bytes, orders, and how many sweeps by how many orders.
-#[derive(Clone, Copy)]
-pub struct AcceptedRound<'a> {
-    pub case: Case<'a>,
-    pub rates: AcceptedRates,
-    pub phase: &'a [u8],
-    pub orders: &'a [u32],
-    pub plan: Plan,
-    pub ghost admitted: { Admitted (round_input case.laid.words.now case.bases.now rates.rates phase.now orders.now plan.limit) case.laid.sizes plan },
-}
 
 impl AcceptedRound<'_> {
     // The run from section 5's haplotypes and phased variants, and the final answers from the latest posteriors.

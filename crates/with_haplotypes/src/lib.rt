@@ -4,7 +4,7 @@
 ghost use Rattle.with_haplotypes.specs.Round.{round_input};
 ghost use Rattle.with_haplotypes.specs.Promise.{round_slices, outcome_of, CalledWithHaplotypes};
 
-use crate::accepted::AcceptedRound;
+use crate::reads::AcceptedRound;
 use call_genotypes::run::Plan;
 use genotype_probs::Rates;
 use haplotype_assembly::phase::check_phase;
@@ -15,6 +15,7 @@ use variants_and_fragments::{Refusal, check_case, long_enough};
 mod accepted;
 mod finals;
 mod normalized;
+mod reads;
 mod run;
 mod scratch;
 

@@ -6,7 +6,7 @@ ghost use Rattle.with_haplotypes.specs.Inner.Steps.{StateGiven, RunMade};
 ghost use Rattle.with_haplotypes.specs.Inner.Reads.{run_from};
 
 use crate::RoundAnswer;
-use crate::run::{PreparedRun, RunReads};
+use crate::reads::{PreparedRun, RunReads};
 use genotype_probs::case_priors::make_priors;
 use pileup::piles::pile_calls;
 use variants_and_fragments::layout::{MAX_CALLS, MAX_FRAGMENTS, MAX_VARIANTS};
@@ -30,13 +30,9 @@ impl RunReads<'_> {
         const FRAGMENTS: usize,
         const VARIANTS: usize,
         const NINE: usize,
-    >(
-        &self,
-        hap: &mut [u8],
-        lik: &mut [i64],
-        post: &mut [i64],
-    ) -> RoundAnswer
+    >(&self, hap: &mut [u8], lik: &mut [i64], post: &mut [i64]) -> RoundAnswer
         requires given { StateGiven (sweep_case (run_from self.now hap.old)) self.now.round.case.laid.sizes (sweep_state hap.old lik.old post.old) }
+        requires lengths { (RECORDS ≤ 16384) × (FRAGMENTS ≤ 4096) × (VARIANTS ≤ 1024) × (NINE ≤ 9216) }
         requires room { (self.now.round.case.laid.sizes.c ≤ RECORDS) × (self.now.round.case.laid.sizes.f ≤ FRAGMENTS) × (self.now.round.case.laid.sizes.n ≤ VARIANTS) × (9 * self.now.round.case.laid.sizes.n ≤ NINE) }
         ensures { RunMade (run_from self.now hap.old) (sweep_state hap.old lik.old post.old) (sweep_state hap.new lik.new post.new) result }
     {
@@ -74,8 +70,9 @@ impl RunReads<'_> {
     {
         let s = self.round.case.laid.sizes;
         if s.c <= FEW_CALLS && s.n <= FEW_VARIANTS && s.f <= FEW_FRAGMENTS {
-            return self
-                .run_in::<FEW_CALLS, FEW_FRAGMENTS, FEW_VARIANTS, FEW_PRIORS>(hap, lik, post);
+            return self.run_in::<FEW_CALLS, FEW_FRAGMENTS, FEW_VARIANTS, FEW_PRIORS>(
+                hap, lik, post,
+            );
         }
         self.run_in::<MAX_CALLS, MAX_FRAGMENTS, MAX_VARIANTS, PRIORS>(hap, lik, post)
     }

@@ -1,11 +1,12 @@
 -- What the parts of a round hand on to each other: prepare, run, finish. Assumes nothing.
-use Rattle.std.specs.Prelude.{◌≡◌, Bool, cond, List, ℕ, ◌*◌, ◌<◌, ◌≤◌, ℤ, length, get_or, take}
+use Rattle.std.specs.Prelude.{◌≡◌, Bool, cond, List, [], ℕ, ◌*◌, ◌<◌, ◌≤◌, ℤ, length, get_or, take}
 use Rattle.variants_and_fragments.specs.declared.Sizes.{Sizes}
 use Rattle.variants_and_fragments.specs.Refusals.{done}
 use Rattle.variants_and_fragments.specs.Check.{check_case_outcome}
 use Rattle.variants_and_fragments.specs.Decode.{decode}
 use Rattle.variants_and_fragments.specs.Layout.{allele_count_at}
 use Rattle.variants_and_fragments.specs.Written.{written}
+use Rattle.pileup.specs.Inner.Collected.{collected}
 use Rattle.pileup.specs.Inner.Rows.{RowsMade}
 use Rattle.pileup.specs.Inner.Piles.{PilesMade}
 use Rattle.genotype_probs.specs.declared.Rates.{Rates}
@@ -56,30 +57,25 @@ pub record Scratch : Type 0 where
 abbrev pub scratch : List ℕ → List ℕ → List ℕ → List ℕ → List ℤ → Scratch
 scratch rows row_ends piles pile_ends pri = record { rows = rows; row_ends = row_ends; piles = piles; pile_ends = pile_ends; pri = pri }
 
--- the usable calls as rows and as piles, and the priors
+-- the usable calls as rows and as piles, and the priors: what stands is what is written
 pub record Prepared (w : List ℤ) (b : List ℕ) (rates : Rates) (s : Sizes) (x : Scratch) : Type 0 where
-  pub ambiguous : List ℕ
-  pub count : ℕ
-  pub rows_made : RowsMade w s x.rows x.row_ends ambiguous count
+  pub rows_made : RowsMade w s x.rows x.row_ends [] (length (collected w s).rows)
   pub ends_long : length x.row_ends ≡ s.f
   pub piles_made : PilesMade w s x.pile_ends x.piles
-  pub pri_was : List ℤ
-  pub pri_room : 9 * s.n ≤ length pri_was
-  pub pri_are : x.pri ≡ written (prior_at rates (decode w b)) (9 * s.n) pri_was
+  pub pri_long : 9 * s.n ≤ length x.pri
+  pub pri_are : x.pri ≡ written (prior_at rates (decode w b)) (9 * s.n) x.pri
 
 -- ---- run
--- each variant's number of alleles stands in ks
+-- the numbers of alleles of n variants
 pub record AlleleCounts (w : List ℤ) (n : ℕ) (ks : List ℕ) : Type 0 where
-  pub was : List ℕ
-  pub room : n ≤ length was
-  pub written_is : ks ≡ written (allele_count_at w) n was
+  pub long : length ks ≡ n
+  pub are : ks ≡ written (allele_count_at w) n ks
 
 -- what a run reads: an accepted case's words and bases, its numbers of alleles, flags of the phased variants, and orders
 pub record RunGiven (w : List ℤ) (b : List ℕ) (rates : Rates) (s : Sizes) (plan : Plan) (ks ph orders : List ℕ) (phased : ℕ → Bool) : Type 0 where
   pub given : CaseGiven w b rates s
   pub good_orders : OrdersGiven orders s.n plan
   pub counts : AlleleCounts w s.n ks
-  pub ks_long : length ks ≡ s.n
   pub ph_long : s.n ≤ length ph
   pub ph_are : (v : ℕ) → v < s.n → get_or ph v 0 ≡ cond (phased v) 1 0
 
