@@ -1,5 +1,5 @@
 -- Each way out is a line of the table, or the round. Assumes nothing.
-use Rattle.std.proofs.Common.{◌≡◌, ◌≤◌, ◌<◌, List, ℕ, length, sym, ◌∙◌, arith}
+use Rattle.std.proofs.Common.{◌≡◌, sym}
 use Rattle.std.proofs.lemmas.Result.{err_from_is_err_and}
 use Rattle.variants_and_fragments.specs.Refusals.{done, smallest_short}
 use Rattle.with_haplotypes.specs.Round.{round_input}

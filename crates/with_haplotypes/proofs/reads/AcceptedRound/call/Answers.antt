@@ -1,12 +1,11 @@
 -- The run from section 5's haplotypes over lent fronts, the normalised posteriors, the final answers. Assumes nothing.
-use Rattle.std.proofs.Common.{◌≡◌, ℕ, ◌*◌, ◌≤◌, length, take, refl, sym, ap, ◌∙◌, arith, length-take}
-use Rattle.variants_and_fragments.proofs.Written.{written_length}
+use Rattle.std.proofs.Common.{ℕ, ◌*◌, ◌≤◌, length, take, refl, ◌∙◌, arith, length-take}
 use Rattle.call_genotypes.specs.Inner.Scores.{sweep_state}
 use Rattle.with_haplotypes.specs.Round.{run_of}
 use Rattle.with_haplotypes.specs.Inner.Steps.{AlleleCounts, RunMade}
 use Rattle.with_haplotypes.specs.Inner.Reads.{input_of}
 use Rattle.with_haplotypes.proofs.RunLaws.{known}
-use Rattle.with_haplotypes.proofs.StartLaws.{as_long, still_long, over, stands, start_here, flags_here, state_here, run_here}
+use Rattle.with_haplotypes.proofs.StartLaws.{still_long, over, stands, start_here, flags_here, state_here, run_here}
 use Rattle.with_haplotypes.proofs.FinishLaws as finish
 use Rattle.with_haplotypes.proofs.reads.AcceptedRound.call.Goals as goal
 use Rattle.with_haplotypes.proofs.reads.AcceptedRound.call.Goals.{After-write_phase, After-run-answer}
