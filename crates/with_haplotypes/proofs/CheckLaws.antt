@@ -1,14 +1,13 @@
 -- The checks of a round past its case: what each way through them answers.
 -- Assumes nothing.
 use mathlib.Core.Path.{◌≡◌, sym, ap, ◌∙◌}
-use mathlib.Core.Bool.{◌&&◌, and-false}
+use mathlib.Core.Bool.{◌&&◌}
 use mathlib.Core.List.{List}
-use Prim.Native.Nat.{ℕ, ◌≤◌, ◌<◌}
-use borrow.Author.Tests.{le-leb, lt-leb}
+use Prim.Native.Nat.{ℕ}
 use lib.Dec.{leb}
 use lib.IntN.{ℤ}
 use Rattle.variants_and_fragments.specs.declared.Refusal.{Refusal}
-use Rattle.variants_and_fragments.specs.Refusals.{Outcome, refused, done, refusal, unless, each, and_then, smallest_short, long_enough}
+use Rattle.variants_and_fragments.specs.Refusals.{Outcome, done, refusal, unless, each, and_then, smallest_short, long_enough}
 use Rattle.variants_and_fragments.proofs.Outcomes.{unless_stops, unless_passes, each_stops, each_passes, enough_stops, enough_passes, then_on, then_refused, then_unless, then_each, then_then, then_same}
 use Rattle.genotype_probs.specs.declared.Rates.{Rates}
 use Rattle.genotype_probs.specs.Rates.{rate_test}

@@ -5,7 +5,6 @@ use Rattle.variants_and_fragments.specs.Refusals.{done, smallest_short}
 use Rattle.with_haplotypes.specs.Round.{round_input}
 use Rattle.with_haplotypes.specs.Promise.{round_slices, round_needs}
 use Rattle.with_haplotypes.specs.Inner.Checks.{round_checks}
-use Rattle.variants_and_fragments.specs.declared.Refusal.TheVariants.{Limit}
 use Rattle.with_haplotypes.proofs.CheckLaws.{rates_stop, phase_stop, orders_stop, limit_stop, short_stop, all_pass}
 use Rattle.with_haplotypes.proofs.RoundAnswers.{admits, answer_case, answer_checks, answer_done}
 use Rattle.with_haplotypes.proofs.call_genotypes_with_haplotypes.Goals as goal
