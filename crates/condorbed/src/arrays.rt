@@ -2,6 +2,9 @@
 // two: orders have no largest need, and get 65,536 entries, 64 orders at N = 1,024; fragment lines get 10 bytes per fragment and 8 per
 // call, and lines of ten blocks or more can need up to 239 bytes more than that (docs/FORMAT.md, "The program's arrays"). The
 // arrays that an operation writes are filled: bytes 170, integers 77, f64 77.0.
+ghost use Rattle.std.specs.Prelude.{◌≡◌, pos, from_bits, replicate};
+ghost use Rattle.std.specs.Float.{binary64};
+
 use variants_and_fragments::layout::{
     CALL_WORDS, FRAGMENT_WORDS, HEAD_WORDS, MAX_ALLELE_LENGTH, MAX_ALLELES, MAX_CALLS,
     MAX_FRAGMENTS, MAX_VARIANTS, VARIANT_WORDS,
@@ -48,29 +51,43 @@ pub const ORDERS: usize = 65536;
 // ---- what the arrays that an operation writes are filled with
 
 pub trait Fill: Copy {
+    ghost FILL: { Self };
+
     const FILL: Self;
 }
 
 impl Fill for u8 {
+    ghost FILL = { 170 };
+
     const FILL: u8 = 170;
 }
 
 impl Fill for i32 {
+    ghost FILL = { pos 77 };
+
     const FILL: i32 = 77;
 }
 
 impl Fill for u32 {
+    ghost FILL = { 77 };
+
     const FILL: u32 = 77;
 }
 
 impl Fill for i64 {
+    ghost FILL = { pos 77 };
+
     const FILL: i64 = 77;
 }
 
 impl Fill for f64 {
+    ghost FILL = { from_bits binary64 4635118810238550016 };
+
     const FILL: f64 = 77.0;
 }
 
-pub fn filled<T: Fill, const N: usize>() -> [T; N] {
+pub fn filled<T: Fill, const N: usize>() -> [T; N]
+    ensures { result ≡ replicate N T.FILL }
+{
     [T::FILL; N]
 }

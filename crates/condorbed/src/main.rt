@@ -10,9 +10,9 @@ mod flist;
 mod late;
 mod nohap;
 mod orders;
-mod parts;
 mod phase;
 mod priors;
+mod rates;
 mod requests;
 mod run;
 

@@ -1,7 +1,7 @@
 // `nohap`: `<words i32>` `<bases u8>` six rates `[variants i32]` `[quals f64]` `[gqs f64]`.
 use crate::answers::{done, refused};
 use crate::arrays::{ANSWERS, ONES, filled};
-use crate::parts::read_rates;
+use crate::rates::read_rates;
 use protocol::input::{Reader, Unreadable};
 use protocol::output::Writer;
 use variants_and_fragments::Answered;

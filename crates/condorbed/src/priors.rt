@@ -1,7 +1,7 @@
 // `priors`: `<words i32>` `<bases u8>` six rates `[priors i64]`.
 use crate::answers::{done, refused};
 use crate::arrays::{PAIRS, filled};
-use crate::parts::read_rates;
+use crate::rates::read_rates;
 use protocol::input::{Reader, Unreadable};
 use protocol::output::Writer;
 use variants_and_fragments::Answered;

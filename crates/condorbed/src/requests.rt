@@ -4,7 +4,7 @@
 // arrays.rt; an arm in `answer_case`; and a file as orders.rt, whose `answer` reads the parts after the case and lends
 // the fronts of the arrays, calls the operation, and prints the first line and one line for each output slice.
 ghost use Rattle.std.specs.Prelude.{◌≡◌};
-ghost use Rattle.condorbed.specs.Requests.{asked_by, same_bytes};
+ghost use Rattle.condorbed.specs.Requests.{asked_by};
 
 use crate::{check, filter, flist, late, nohap, orders, phase, priors, run};
 use protocol::input::{Reader, Reason, Unreadable};
@@ -33,42 +33,27 @@ pub enum Asked {
     Unknown,
 }
 
-// Whether a word has these bytes.
-fn is_word(word: &[u8], bytes: &[u8]) -> bool
-    ensures { result ≡ same_bytes word.now bytes.now }
-{
-    word == bytes
-}
-
 // What a word asks for.
 #[tactic(auto, unfolding(crate::specs::Requests::asked_by, crate::specs::Requests::found, crate::specs::Requests::requests, crate::specs::Requests::same_bytes))]
 fn named(word: &[u8]) -> Asked
     ensures { result ≡ asked_by word.now }
 {
-    if is_word(word, b"") {
-        Asked::End
-    } else if is_word(word, b"check") {
-        Asked::For(Operation::Check)
-    } else if is_word(word, b"filter") {
-        Asked::For(Operation::Filter)
-    } else if is_word(word, b"priors") {
-        Asked::For(Operation::Priors)
-    } else if is_word(word, b"orders") {
-        Asked::For(Operation::Orders)
-    } else if is_word(word, b"phase") {
-        Asked::For(Operation::Phase)
-    } else if is_word(word, b"flist") {
-        Asked::For(Operation::Flist)
-    } else if is_word(word, b"nohap") {
-        Asked::For(Operation::Nohap)
-    } else if is_word(word, b"run") {
-        Asked::For(Operation::Run)
-    } else if is_word(word, b"arrive") {
-        Asked::For(Operation::Arrive)
-    } else if is_word(word, b"depart") {
-        Asked::For(Operation::Depart)
-    } else {
-        Asked::Unknown
+    let Ok(text) = std::str::from_utf8(word) else {
+        return Asked::Unknown;
+    };
+    match text {
+        "" => Asked::End,
+        "check" => Asked::For(Operation::Check),
+        "filter" => Asked::For(Operation::Filter),
+        "priors" => Asked::For(Operation::Priors),
+        "orders" => Asked::For(Operation::Orders),
+        "phase" => Asked::For(Operation::Phase),
+        "flist" => Asked::For(Operation::Flist),
+        "nohap" => Asked::For(Operation::Nohap),
+        "run" => Asked::For(Operation::Run),
+        "arrive" => Asked::For(Operation::Arrive),
+        "depart" => Asked::For(Operation::Depart),
+        _ => Asked::Unknown,
     }
 }
 
@@ -85,7 +70,7 @@ pub fn answer_all(
             break;
         }
         let word = reader.word();
-        match named(word.bytes.as_slice()) {
+        match named(word.as_slice()) {
             Asked::End => break,
             Asked::For(operation) => answer_case(operation, reader, output, words, bases)?,
             Asked::Unknown => return Err(reader.unreadable(Reason::Request)),

@@ -2,7 +2,7 @@
 // `[likelihoods i64]` `[posteriors i64]` `[quals f64]` `[gqs f64]`.
 use crate::answers::refused;
 use crate::arrays::{HAPLOTYPES, LIKELIHOODS, ONES, ORDERS, PAIRS, filled};
-use crate::parts::read_rates;
+use crate::rates::read_rates;
 use protocol::input::{Reader, Unreadable};
 use protocol::output::Writer;
 use with_haplotypes::{Round, RoundAnswer};

@@ -16,8 +16,8 @@ const ROOM: usize = 65500;
 #[derive(Drop)]
 pub struct Writer {
     stdout: Stdout,
-    pub bytes: Buffer,
-    pub used: usize,
+    bytes: Buffer,
+    used: usize,
     outcome: io::Result<()>,
     ghost fits: { used ≤ BUFFER_BYTES },
 }

@@ -10,7 +10,7 @@ const WORD_BYTES: usize = 7;
 // The first bytes of a token.
 #[derive(Drop)]
 pub struct Word {
-    pub bytes: ArrayVec<u8, WORD_BYTES>,
+    bytes: ArrayVec<u8, WORD_BYTES>,
 }
 
 impl Word {
@@ -30,5 +30,11 @@ impl Word {
             self.bytes.push(b);
         }
         self
+    }
+
+    pub fn as_slice(&self) -> &[u8]
+        ensures { result.now ≡ self.now.bytes.items }
+    {
+        self.bytes.as_slice()
     }
 }

@@ -1,4 +1,4 @@
-// The parts that several requests have: a case's rates.
+// The six rates of a request.
 use genotype_probs::Rates;
 use protocol::input::{Reader, Unreadable};
 use steps::LogProb;
