@@ -1,5 +1,9 @@
 // Standard input through a buffer, token by token.
-ghost use Rattle.std.specs.Prelude.{◌≡◌, ◌≤◌, length, take, IfOk, IfErr};
+ghost use Rattle.std.specs.Prelude.{◌≡◌, ℕ, ◌≤◌, List, length, take, Some, IfSome, IfOk, IfErr};
+ghost use Rattle.std.specs.List.{FoldsTo};
+ghost use Rattle.protocol.specs.Text.{int_of};
+ghost use Rattle.protocol.specs.Inner.State.{length_of, pushed_on};
+ghost use Rattle.protocol.specs.Inner.Word.{word_of};
 ghost use Rattle.protocol.specs.declared.TheConstants.{BUFFER_BYTES};
 ghost use Rattle.protocol.specs.Inner.Input.{after_token, ahead, line_after, line_below, next_token, unreadable_at};
 
@@ -170,7 +174,8 @@ impl Reader {
     // The next token, which has this number: its bytes pushed one by one onto `empty`. None at the end of the input.
     fn token<A: Drop, F: Fn(A, u8) -> A>(&mut self, token: u64, empty: A, push: F) -> Option<A>
         requires { F.IsAlwaysCallable push }
-        ensures { self.new.place.token ≡ token }
+        ensures token { self.new.place.token ≡ token }
+        ensures pushed { IfSome result (λ read. (bytes : List ℕ) × FoldsTo (λ x b y. F.post push x b y) empty bytes read) }
     {
         let start = self.start();
         let mut read = empty;
@@ -192,7 +197,8 @@ impl Reader {
 
     // A request's word, with which its tokens are counted anew: no bytes at the end of the input.
     pub fn word(&mut self) -> Word
-        ensures { self.new.place.token ≡ 1 }
+        ensures token { self.new.place.token ≡ 1 }
+        ensures word { (bytes : List ℕ) × (result.bytes.items ≡ word_of bytes) }
     {
         match self.token(1, Word::new(), Word::push) {
             Some(word) => word,
@@ -200,13 +206,17 @@ impl Reader {
         }
     }
 
-    // The next token as a value of the type.
+    // The next token as a value of the type: the one that the token's bytes stand for.
     pub fn read<T: FromToken>(&mut self) -> Result<T, Unreadable>
+        ensures value { IfOk result (λ x. (bytes : List ℕ) × (T.of_reading (int_of bytes) ≡ Some x)) }
         ensures token { self.new.place.token ≡ next_token self.old.place.token }
         ensures fails { IfErr result (λ e. e ≡ unreadable_at self.new.place e.reason) }
     {
         let token = self.place.token.wrapping_add(1);
-        match self.token(token, Some(Number::new()), |number, b| number?.push(b)) {
+        let push = |number: Option<Number>, b: u8| -> Option<Number>
+            ensures { result ≡ pushed_on number b }
+        { number?.push(b) };
+        match self.token(token, Some(Number::new()), push) {
             Some(Some(number)) => T::from_number(number).ok_or(self.unreadable(Reason::Number)),
             Some(None) => Err(self.unreadable(Reason::Number)),
             None => Err(self.unreadable(Reason::End)),
@@ -216,6 +226,7 @@ impl Reader {
     // The next token as the length of a slice of at most `most` elements.
     pub fn length(&mut self, most: usize) -> Result<usize, Unreadable>
         ensures length { IfOk result (λ n. n ≤ most) }
+        ensures value { IfOk result (λ n. (bytes : List ℕ) × (length_of (int_of bytes) ≡ Some n)) }
         ensures token { self.new.place.token ≡ next_token self.old.place.token }
         ensures fails { IfErr result (λ e. e ≡ unreadable_at self.new.place e.reason) }
     {

@@ -24,7 +24,7 @@ unfoldable pub pushed : Number → ℕ → Option Number
 pushed s b = cond (is_digit b) (grown s (s.value * 10 + (b - 48))) (signed s b)
 
 -- the same after any state
-unfoldable pub pushed_on : Option Number → ℕ → Option Number
+abbrev pub pushed_on : Option Number → ℕ → Option Number
 pushed_on None b = None
 pushed_on (Some s) b = pushed s b
 
