@@ -25,8 +25,16 @@ pub fn done(output: &mut Writer) {
 // `refused NUMBER PLACE`.
 pub fn refused(output: &mut Writer, refusal: Refusal) {
     output.text(b"refused ");
-    output.number(variants_and_fragments::number(refusal));
+    output.number(refusal.number());
     output.byte(b' ');
-    output.number(variants_and_fragments::place(refusal));
+    output.number(refusal.place());
     output.byte(b'\n');
+}
+
+// The first line of an operation that returns nothing but done.
+pub fn done_or_refused(output: &mut Writer, answer: Result<(), Refusal>) {
+    match answer {
+        Ok(()) => done(output),
+        Err(r) => refused(output, r),
+    }
 }

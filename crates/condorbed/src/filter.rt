@@ -1,12 +1,11 @@
 // `filter`: `<words i32>` `<bases u8>` `<quals f64>` density_qual density_dist density_count
 // max_depth `[filters u8]`.
-use crate::answers::{done, refused};
+use crate::answers::done_or_refused;
 use crate::arrays::{ONES, filled};
 use protocol::input::{Reader, Unreadable};
 use protocol::output::Writer;
 use steps::PHREDProb;
 use var_filter::DensityParameters;
-use variants_and_fragments::Answered;
 
 // The answer to the request, whose case is read.
 pub fn answer(
@@ -21,10 +20,8 @@ pub fn answer(
     let density = read_density(reader)?;
     let max_depth = reader.read()?;
     let filters = reader.front(&mut filters)?;
-    match var_filter::var_filter(words, bases, quals, density, max_depth, filters) {
-        Answered::Done => done(output),
-        Answered::Refused(r) => refused(output, r),
-    }
+    let answer = var_filter::var_filter(words, bases, quals, density, max_depth, filters);
+    done_or_refused(output, answer);
     output.line(filters);
     Ok(())
 }

@@ -1,7 +1,7 @@
 // `flist`: `<words i32>` `<bases u8>` single_reads (0 or 1) `[buffer u8]`.
 use crate::answers::refused;
 use crate::arrays::{LINES, filled};
-use haplotype_assembly::Buffered;
+use haplotype_assembly::Counted;
 use protocol::input::{Reader, Unreadable};
 use protocol::output::Writer;
 
@@ -16,18 +16,18 @@ pub fn answer(
     let single_reads = reader.read()?;
     let buffer = reader.front(&mut buffer)?;
     match haplotype_assembly::generate_flist_buffer(words, bases, single_reads, buffer) {
-        Buffered::Done { bytes, lines } => done_with(output, bytes, lines),
-        Buffered::Refused(r) => refused(output, r),
+        Ok(written) => done_with(output, written),
+        Err(r) => refused(output, r),
     }
     output.line(buffer);
     Ok(())
 }
 
 // `done` with the bytes and the lines that were written.
-fn done_with(output: &mut Writer, bytes: usize, lines: usize) {
+fn done_with(output: &mut Writer, written: Counted) {
     output.text(b"done ");
-    output.number(bytes);
+    output.number(written.bytes);
     output.byte(b' ');
-    output.number(lines);
+    output.number(written.lines);
     output.byte(b'\n');
 }

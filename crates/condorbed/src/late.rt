@@ -2,10 +2,10 @@
 // `<calls i32>`; `depart`: the same up to the fragment.
 use crate::answers::refused;
 use crate::arrays::{CALLS, COUNTS, HAPLOTYPES, LIKELIHOODS, ONES};
-use late_reads::Updated;
 use protocol::input::{Reader, Unreadable};
 use protocol::output::Writer;
 use steps::LogProb;
+use variants_and_fragments::Refusal;
 
 // The parts that both requests have after the case.
 struct Parts<'a> {
@@ -129,18 +129,18 @@ pub fn depart(
 // The first line, refused or `done unsettled TOTAL`, and one line for each slice that the operation can write.
 fn print_answer(
     output: &mut Writer,
-    answer: Updated,
+    answer: Result<LogProb, Refusal>,
     words: &[i32],
     likelihoods: &[i64],
     counts: &[i32],
 ) {
     match answer {
-        Updated::Unsettled(total) => {
+        Ok(total) => {
             output.text(b"done unsettled ");
             output.number(total.0);
             output.byte(b'\n');
         }
-        Updated::Refused(r) => refused(output, r),
+        Err(r) => refused(output, r),
     }
     output.line(words);
     output.line(likelihoods);

@@ -1,10 +1,9 @@
 // `nohap`: `<words i32>` `<bases u8>` six rates `[variants i32]` `[quals f64]` `[gqs f64]`.
-use crate::answers::{done, refused};
+use crate::answers::done_or_refused;
 use crate::arrays::{ANSWERS, ONES, filled};
 use crate::rates::read_rates;
 use protocol::input::{Reader, Unreadable};
 use protocol::output::Writer;
-use variants_and_fragments::Answered;
 
 // The answer to the request, whose case is read.
 pub fn answer(
@@ -20,10 +19,8 @@ pub fn answer(
     let variants = reader.front(&mut variants)?;
     let quals = reader.front(&mut quals)?;
     let gqs = reader.front(&mut gqs)?;
-    match no_haplotypes::call_genotypes_no_haplotypes(words, bases, rates, variants, quals, gqs) {
-        Answered::Done => done(output),
-        Answered::Refused(r) => refused(output, r),
-    }
+    let answer = no_haplotypes::call_genotypes_no_haplotypes(words, bases, rates, variants, quals, gqs);
+    done_or_refused(output, answer);
     output.line(variants);
     output.line(quals);
     output.line(gqs);

@@ -1,9 +1,8 @@
 // `phase`: `<words i32>` `<bases u8>` `<phase u8>` `<sets i32>` `[haplotypes u8]` `[phased u8]` `[names u32]`.
-use crate::answers::{done, refused};
+use crate::answers::done_or_refused;
 use crate::arrays::{HAPLOTYPES, ONES, filled};
 use protocol::input::{Reader, Unreadable};
 use protocol::output::Writer;
-use variants_and_fragments::Answered;
 
 // The answer to the request, whose case is read.
 pub fn answer(
@@ -22,10 +21,8 @@ pub fn answer(
     let haplotypes = reader.front(&mut haplotypes)?;
     let phased = reader.front(&mut phased)?;
     let names = reader.front(&mut names)?;
-    match haplotype_assembly::given_phase(words, bases, phase, sets, haplotypes, phased, names) {
-        Answered::Done => done(output),
-        Answered::Refused(r) => refused(output, r),
-    }
+    let answer = haplotype_assembly::given_phase(words, bases, phase, sets, haplotypes, phased, names);
+    done_or_refused(output, answer);
     output.line(haplotypes);
     output.line(phased);
     output.line(names);

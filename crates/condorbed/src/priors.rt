@@ -1,10 +1,9 @@
 // `priors`: `<words i32>` `<bases u8>` six rates `[priors i64]`.
-use crate::answers::{done, refused};
+use crate::answers::done_or_refused;
 use crate::arrays::{PAIRS, filled};
 use crate::rates::read_rates;
 use protocol::input::{Reader, Unreadable};
 use protocol::output::Writer;
-use variants_and_fragments::Answered;
 
 // The answer to the request, whose case is read.
 pub fn answer(
@@ -16,10 +15,8 @@ pub fn answer(
     let mut priors = filled::<i64, PAIRS>();
     let rates = read_rates(reader)?;
     let priors = reader.front(&mut priors)?;
-    match genotype_probs::genotype_priors(words, bases, rates, priors) {
-        Answered::Done => done(output),
-        Answered::Refused(r) => refused(output, r),
-    }
+    let answer = genotype_probs::genotype_priors(words, bases, rates, priors);
+    done_or_refused(output, answer);
     output.line(priors);
     Ok(())
 }

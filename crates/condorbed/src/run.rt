@@ -5,7 +5,7 @@ use crate::arrays::{HAPLOTYPES, LIKELIHOODS, ONES, ORDERS, PAIRS, filled};
 use crate::rates::read_rates;
 use protocol::input::{Reader, Unreadable};
 use protocol::output::Writer;
-use with_haplotypes::{Round, RoundAnswer};
+use with_haplotypes::RoundAnswer;
 
 // The answer to the request, whose case is read.
 pub fn answer(
@@ -46,8 +46,8 @@ pub fn answer(
         quals,
         gqs,
     ) {
-        Round::Done(x) => done_with(output, x),
-        Round::Refused(r) => refused(output, r),
+        Ok(x) => done_with(output, x),
+        Err(r) => refused(output, r),
     }
     output.line(haplotypes);
     output.line(likelihoods);
