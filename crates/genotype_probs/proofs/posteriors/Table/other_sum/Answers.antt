@@ -1,10 +1,10 @@
 -- Each pair is added or is not, as the test says.
-use Rattle.std.proofs.Common.{◌≡◌, ◌+◌, ◌^◌, ◌<◌, ◌≤◌, cond, true, false, get_or, ℤ, pos, nat_abs, refl, sym, ap, ◌∙◌, arith, w64, to_z, of_z}
-use Rattle.steps.specs.Logs.{Log, steps, ln_add_exp}
+use Rattle.std.proofs.Common.{◌≡◌, ◌^◌, ◌≤◌, get_or, ℤ, pos, nat_abs, sym, ap, ◌∙◌, arith, w64, to_z, of_z}
+use Rattle.steps.specs.Logs.{steps}
 use Rattle.steps.specs.Inner.Logs.{log_of, size}
 use Rattle.steps.proofs.Signed.{read_small}
 use Rattle.steps.proofs.Marks.{of_small, size_steps}
-use Rattle.genotype_probs.specs.Posteriors.{mirror, is_other}
+use Rattle.genotype_probs.specs.Posteriors.{mirror}
 use Rattle.genotype_probs.proofs.AlleleLaws.{nine}
 use Rattle.genotype_probs.proofs.OtherSums.{adding_start, adding_more, adding_end}
 use Rattle.genotype_probs.proofs.posteriors.Table.other_sum.Goals as goal

@@ -1,5 +1,5 @@
 -- The entry is no mark.
-use Rattle.std.proofs.Common.{◌≡◌, ◌^◌, ◌≤◌, List, get_or, ℤ, pos, nat_abs, ap, ◌∙◌, arith, w64, to_z, of_z}
+use Rattle.std.proofs.Common.{◌≡◌, ◌^◌, ◌≤◌, get_or, ℤ, pos, nat_abs, ap, ◌∙◌, arith, w64, to_z, of_z}
 use Rattle.steps.specs.Logs.{Log, steps}
 use Rattle.steps.specs.Inner.Logs.{log_of, size}
 use Rattle.steps.specs.Phred.{phred_of, capped}
