@@ -18,14 +18,6 @@ pub fn opens_comment(b: u8) -> bool
     b == b'#'
 }
 
-// Whether b is a digit.
-#[tactic(auto, unfolding(crate::specs::Text::is_digit))]
-fn is_digit(b: u8) -> bool
-    ensures { result ≡ is_digit b }
-{
-    (b'0' <= b) & (b <= b'9')
-}
-
 // What the bytes of a token so far amount to: its sign, whether there was a digit, and its size.
 #[derive(Clone, Copy)]
 pub struct Number {
@@ -47,11 +39,11 @@ impl Number {
     }
 
     // The state after one byte more; none where the token is no number, whatever follows.
-    #[tactic(auto, unfolding(crate::specs::Inner::State::pushed))]
+    #[tactic(auto, unfolding(crate::specs::Inner::State::pushed, crate::specs::Text::is_digit))]
     pub fn push(self, b: u8) -> Option<Number>
         ensures { result ≡ State.pushed self b }
     {
-        if is_digit(b) {
+        if b.is_ascii_digit() {
             self.grow(b)
         } else {
             self.sign(b)
