@@ -53,13 +53,6 @@ pub fn arrive(
     let mut likelihoods = [0; LIKELIHOODS];
     let mut counts = [0; COUNTS];
     let mut calls = [0; CALLS];
-    let parts = read_parts(
-        reader,
-        &mut phase,
-        &mut haplotypes,
-        &mut likelihoods,
-        &mut counts,
-    )?;
     let Parts {
         phase,
         haplotypes,
@@ -67,9 +60,14 @@ pub fn arrive(
         counts,
         total,
         fragment,
-    } = parts;
-    let strand = reader.read()?;
-    let calls = reader.slice(&mut calls)?;
+    } = read_parts(
+        reader,
+        &mut phase,
+        &mut haplotypes,
+        &mut likelihoods,
+        &mut counts,
+    )?;
+    let (strand, calls) = (reader.read()?, reader.slice(&mut calls)?);
     let answer = late_reads::arrive(
         words,
         bases,
@@ -97,13 +95,6 @@ pub fn depart(
     let mut haplotypes = [0; HAPLOTYPES];
     let mut likelihoods = [0; LIKELIHOODS];
     let mut counts = [0; COUNTS];
-    let parts = read_parts(
-        reader,
-        &mut phase,
-        &mut haplotypes,
-        &mut likelihoods,
-        &mut counts,
-    )?;
     let Parts {
         phase,
         haplotypes,
@@ -111,7 +102,13 @@ pub fn depart(
         counts,
         total,
         fragment,
-    } = parts;
+    } = read_parts(
+        reader,
+        &mut phase,
+        &mut haplotypes,
+        &mut likelihoods,
+        &mut counts,
+    )?;
     let answer = late_reads::depart(
         words,
         bases,

@@ -25,7 +25,8 @@ pub enum Operation {
     Depart,
 }
 
-// What the next word of the input asks for: `End` at the end of the input.
+// What the next word of the input asks for. The end of the input is neither an operation nor a fault, so that no `Option` or
+// `Result` has these three.
 #[derive(Clone, Copy)]
 pub enum Asked {
     End,

@@ -72,7 +72,8 @@ pub struct Start {
 }
 
 // Standard input and the buffer of its bytes, of which those from `at` up to `fill` are not yet read; how many bytes
-// may still be read; the place; and whether a read failed, which counts as the end of the input.
+// may still be read; the place; and whether a read failed, which counts as the end of the input. std's `BufReader` allocates,
+// and this program has no heap.
 #[derive(Drop)]
 pub struct Reader {
     stdin: Stdin,

@@ -12,7 +12,7 @@ use std::io::{Stdout, Write};
 const ROOM: usize = 65500;
 
 // Standard output, the buffer of its bytes, of which the first `used` wait to be written, and whether a write failed,
-// after which none is tried.
+// after which none is tried. std's `BufWriter` allocates, and this program has no heap.
 #[derive(Drop)]
 pub struct Writer {
     stdout: Stdout,
