@@ -68,7 +68,8 @@ first_letter reference allele =
 unfoldable pub stop_at : List ℕ → List ℕ → ℕ
 stop_at reference allele = first_fail (λ i. eqb (get_or reference i 0) (get_or allele i 0)) (length allele - 1)
 
--- What a comparison leaves is the reference base, and the allele's letter: `Compared` of src/letters.rt. 01, section 3: Where that base equals the current reference base, both letters are taken where the comparison stops
+-- 01, section 3: Where that base equals the current reference base, both letters are taken where the comparison stops. What a comparison leaves is
+-- `Compared` of src/letters.rt, the reference base and the allele's letter
 unfoldable pub compared : List ℕ → List ℕ → Base → Compared
 compared reference allele current =
     let first = first_letter reference allele in

@@ -117,8 +117,8 @@ pub fn first_letter(reference: &[u8], allele: &[u8]) -> Letter
     Letter::D
 }
 
-// Where the comparison of an allele with a reference of its length stops: at the first base that differs, or at the last. At the loop's head
-// all bases before i agree.
+// Where the comparison of an allele with a reference of its length stops: at the first base that differs, or at the last. Document 01 asks for a
+// loop that yields its index by break, which a `for` cannot, so it counts i itself.
 pub fn stop_at(reference: &[u8], allele: &[u8]) -> usize
     requires { (0 < length allele.now) × (length allele.now ≡ length reference.now) }
     ensures { (result < length allele.now) × (result ≡ stop_at reference.now allele.now) }

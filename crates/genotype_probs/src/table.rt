@@ -1,5 +1,5 @@
 // The 4 by 36 table of priors that is made from accepted rates.
-ghost use Rattle.std.specs.Prelude.{◌≡◌, true, cond, ◌+◌, ◌%◌, ◌<◌, ◌≤◌, ◌^◌, eqb, pos, nat_abs, ◌+ℤ◌};
+ghost use Rattle.std.specs.Prelude.{◌≡◌, true, cond, ◌<◌, ◌≤◌, ◌^◌, eqb, pos, nat_abs, ◌+ℤ◌};
 ghost use Rattle.std.specs.Int.Signed.{lt_z};
 ghost use Rattle.genotype_probs.specs.Rates.{het_snv_rate, het_indel_rate, ts_rate, tv_rate, rate_sum};
 ghost use Rattle.genotype_probs.specs.Letters.{base_number, letter_number, transition_of, change};
@@ -30,7 +30,7 @@ fn change(rates: Rates, base: Base, other: Base) -> LogProb
 
 // ln(0.5)
 #[tactic(auto, using(steps::proofs::Probs::ln_half_lem))]
-fn ln_half() -> LogProb
+pub fn ln_half() -> LogProb
     ensures { result.0 ≡ ln_half }
 {
     LogProb::from_prob(Prob::half())
@@ -132,7 +132,7 @@ impl PriorTable {
     }
 
     // The prior of two letters at a reference base: −4096 where they differ.
-    pub fn value(&self, base: Base, first: Letter, second: Letter) -> LogProb
+    pub(crate) fn value(&self, base: Base, first: Letter, second: Letter) -> LogProb
         ensures { result.0 ≡ table_value (prior_table self.now.rates.rates) (base_number base) (letter_number first) (letter_number second) }
     {
         let x = first.number();
