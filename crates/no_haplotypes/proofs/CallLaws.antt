@@ -1,6 +1,6 @@
 -- One variant called: the words that the counts over its calls make, its depth, and its answer from its posteriors.
 -- Assumes nothing.
-use Rattle.std.proofs.Common.{◌≡◌, cond, false, ◌&&◌, List, [], ◌∷◌, map, ℕ, ◌+◌, ◌*◌, ◌≤◌, ◌<◌, eqb, ltb, Float, ℤ, pos, length, get_or, drop, max, refl, sym, ap, ◌∙◌, arith, lt-ltb, le-ltb}
+use Rattle.std.proofs.Common.{◌≡◌, cond, ◌&&◌, List, map, ℕ, ◌+◌, ◌*◌, ◌<◌, eqb, ltb, ℤ, pos, length, get_or, max, refl, ap, ◌∙◌, arith, lt-ltb, le-ltb}
 use Rattle.std.proofs.lemmas.List.{length-map}
 use Rattle.steps.proofs.Signed.{cases}
 use Rattle.variants_and_fragments.specs.declared.Sizes.{Sizes}
@@ -12,16 +12,14 @@ use Rattle.variants_and_fragments.specs.Pileup.{Row, only, pile_of}
 use Rattle.variants_and_fragments.proofs.Alls.{all_imp}
 use Rattle.variants_and_fragments.proofs.Decoded.{strand_is, dp_is}
 use Rattle.genotype_probs.specs.declared.posteriors.Genotype.{Genotype}
-use Rattle.genotype_probs.specs.Posteriors.{max_genotype, genotype_of, qual_of, gq_of}
-use Rattle.genotype_probs.proofs.AlleleLaws.{nine}
+use Rattle.genotype_probs.specs.Posteriors.{genotype_of}
 use Rattle.genotype_probs.proofs.TableSums.{tabulate_cong}
 use Rattle.pileup.specs.Inner.Packed.{unpacked}
-use Rattle.no_haplotypes.specs.declared.answer.Answer.{Answer}
 use Rattle.no_haplotypes.specs.declared.tally.Tally.{Tally}
-use Rattle.no_haplotypes.specs.NoHaplotypes.{row_strand, called_from, gq_from, strand_calls, calls_at, depth_after, answer_from}
+use Rattle.no_haplotypes.specs.NoHaplotypes.{row_strand, called_from, strand_calls, calls_at, depth_after, answer_from}
 use Rattle.no_haplotypes.specs.Inner.Piles.{CallsHeld}
 use Rattle.no_haplotypes.specs.Inner.Tally.{shown_on, Tallied, scored_from, posteriors_from}
-use Rattle.no_haplotypes.specs.Inner.Calling.{answer_values, made_from, VariantCalled}
+use Rattle.no_haplotypes.specs.Inner.Calling.{answer_values, made_from}
 use Rattle.no_haplotypes.proofs.CountLaws.{only_same, all_calls, forward_reverse}
 use Rattle.no_haplotypes.proofs.TallyLaws.{all_in}
 

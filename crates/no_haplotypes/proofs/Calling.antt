@@ -1,6 +1,6 @@
 -- Calling an accepted case: its piles, its priors, and that what is made from them are the posteriors of the definition.
 -- Assumes nothing.
-use Rattle.std.proofs.Common.{◌≡◌, List, [], map, ℕ, ◌+◌, ◌-◌, ◌*◌, ◌/◌, ◌%◌, ◌^◌, ◌≤◌, ◌<◌, ltb, Float, ℤ, pos, nat_abs, length, get_or, take, drop, refl, sym, ap, ◌∙◌, arith, length-take}
+use Rattle.std.proofs.Common.{◌≡◌, List, [], map, ℕ, ◌+◌, ◌-◌, ◌*◌, ◌/◌, ◌%◌, ◌^◌, ◌≤◌, ◌<◌, ltb, Float, ℤ, pos, nat_abs, length, get_or, drop, sym, ap, ◌∙◌, arith, length-take}
 use Rattle.std.proofs.lemmas.List.{length-map, get_or-map, get_or-drop, drop-take}
 use Rattle.steps.proofs.Signed.{by_test}
 use Rattle.variants_and_fragments.specs.declared.Sizes.{Sizes}

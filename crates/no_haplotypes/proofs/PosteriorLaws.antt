@@ -1,6 +1,6 @@
 -- The posteriors of a variant from its nine priors and what its calls add up to: what the places hold after scoring, and after normalising.
 -- Assumes nothing.
-use Rattle.std.proofs.Common.{◌≡◌, Bool, true, false, cond, List, ℕ, ◌+◌, ◌*◌, ◌/◌, ◌%◌, ◌^◌, ◌≤◌, ◌<◌, eqb, ltb, ℤ, pos, nat_abs, ◌+ℤ◌, length, get_or, refl, sym, ap, ◌∙◌, arith, lt-ltb}
+use Rattle.std.proofs.Common.{◌≡◌, Bool, true, false, cond, List, ℕ, ◌+◌, ◌*◌, ◌/◌, ◌%◌, ◌^◌, ◌≤◌, ◌<◌, eqb, ℤ, pos, nat_abs, ◌+ℤ◌, length, get_or, refl, sym, ap, ◌∙◌, arith, lt-ltb}
 use lib.IntN.{+ℤ_idr}
 use Rattle.steps.proofs.Signed.{add_abs}
 use Rattle.variants_and_fragments.specs.declared.Sizes.{Sizes}

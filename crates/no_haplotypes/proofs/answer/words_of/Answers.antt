@@ -1,5 +1,5 @@
 -- Each number is a word as it stands.
-use Rattle.std.proofs.Common.{◌≡◌, ◌^◌, ◌<◌, ℕ, ℤ, pos, map, w32, to_z, of_z, ◌∙◌}
+use Rattle.std.proofs.Common.{◌≡◌, ◌^◌, ◌<◌, ℕ, ℤ, pos, w32, to_z, of_z, ◌∙◌}
 use lib.Signed.{mag}
 use mir.Val.{hbits}
 use Rattle.steps.proofs.Signed.{read_back}

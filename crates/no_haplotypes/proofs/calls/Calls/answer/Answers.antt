@@ -1,5 +1,5 @@
 -- What the calls add up to fixes the posteriors, these the genotype and both qualities, and the counts the other words.
-use Rattle.std.proofs.Common.{◌≡◌, false, ℕ, ◌≤◌, List, length, ap, ◌∙◌}
+use Rattle.std.proofs.Common.{◌≡◌, false, ℕ, ◌≤◌, List, ◌∙◌}
 use Rattle.genotype_probs.specs.Posteriors.{max_genotype, genotype_of, gq_of}
 use Rattle.no_haplotypes.specs.NoHaplotypes.{called_from, gq_from}
 use Rattle.no_haplotypes.proofs.CallLaws.{words_are}

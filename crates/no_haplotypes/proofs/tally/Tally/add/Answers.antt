@@ -1,5 +1,5 @@
 -- No sum is near the end of its type, so none wraps.
-use Rattle.std.proofs.Common.{◌≡◌, ◌+◌, ◌*◌, ◌^◌, ◌≤◌, ◌<◌, ℕ, List, get_or, set, ℤ, pos, nat_abs, ◌+ℤ◌, ◌-ℤ◌, refl, ap, arith, w64, to_z, of_z, FitsSigned}
+use Rattle.std.proofs.Common.{◌≡◌, ◌+◌, ◌*◌, ◌^◌, ◌≤◌, ℕ, List, get_or, set, ℤ, pos, nat_abs, ◌+ℤ◌, ◌-ℤ◌, refl, ap, arith, w64, to_z, of_z, FitsSigned}
 use Rattle.std.proofs.lemmas.List.{get_or-set_other}
 use Rattle.steps.proofs.Signed.{minus_abs, plus_fits, plus_read, read_small}
 use Rattle.no_haplotypes.proofs.TallyLaws.{qual_small, other_small}

@@ -1,5 +1,5 @@
 -- One call more is added.
-use Rattle.std.proofs.Common.{get_or, refl, arith}
+use Rattle.std.proofs.Common.{get_or, refl}
 use Rattle.pileup.specs.Inner.Packed.{unpacked}
 use Rattle.no_haplotypes.proofs.TallyLaws.{rows_more, tallied_start, tallied_on, sums_to}
 use Rattle.no_haplotypes.proofs.tally.Tally.of.Goals as goal

@@ -1,5 +1,5 @@
 -- None of the sums is large, so none of theirs wraps.
-use Rattle.std.proofs.Common.{◌≡◌, ◌+◌, ◌^◌, ◌≤◌, ◌<◌, get_or, ℤ, pos, nat_abs, ◌+ℤ◌, ap, ◌∙◌, arith, eq-eqb, ne_eqb, w64, to_z, of_z}
+use Rattle.std.proofs.Common.{◌≡◌, ◌+◌, ◌^◌, ◌≤◌, get_or, ℤ, pos, nat_abs, ◌+ℤ◌, ap, arith, eq-eqb, ne_eqb, w64, to_z, of_z}
 use Rattle.steps.proofs.Signed.{add_abs, plus_read, read_small}
 use Rattle.no_haplotypes.specs.Inner.Tally.{pair_gain}
 use Rattle.no_haplotypes.proofs.tally.Tally.pair_gain.Goals as goal

@@ -1,5 +1,5 @@
 -- One place more is scored.
-use Rattle.std.proofs.Common.{◌≡◌, ◌+◌, ◌/◌, ◌%◌, ◌<◌, get_or, pos, nat_abs, ◌+ℤ◌, ap, ◌∙◌, arith, w64}
+use Rattle.std.proofs.Common.{◌<◌, get_or, pos, nat_abs, ap, ◌∙◌, arith, w64}
 use Rattle.std.proofs.lemmas.List.{get_or-set_same, get_or-set_other}
 use native.Mathlib.Decide.{ℕ_discrete}
 use Rattle.steps.proofs.Signed.{plus_read}
