@@ -1,7 +1,7 @@
 -- Both of its answers, by the test of the allele. Assumes nothing.
 use Rattle.std.proofs.Common.{eq-eqb, ne_eqb}
 use Rattle.sweeps.specs.Sweeps.{call_term}
-use Rattle.call_genotypes.proofs.visit.call_term.Goals as goal
+use Rattle.likelihoods.proofs.likelihoods.call_term.Goals as goal
 
 pub returns-then-row-own : goal.returns-then-row-own
 unfolding call_term
