@@ -1,5 +1,5 @@
 -- A row that is not shown adds nothing to the calls that are left.
-use Rattle.std.proofs.Common.{◌≡◌, refl, length, sym, ap, ◌∙◌, arith}
+use Rattle.std.proofs.Common.{refl, length, sym, ap, ◌∙◌, arith}
 use Rattle.haplotype_assembly.proofs.Shown.{first_in, next_on, next_skip, next_none}
 use Rattle.haplotype_assembly.proofs.flist.ShownCallsIterator.next.Goals as goal
 
