@@ -17,6 +17,7 @@ use variants_and_fragments::layout::direction_of;
 // ---- the alleles
 
 // Opens a block at variant v where v does not go on with the one before.
+#[tactic(auto, using(crate::proofs::Pieces::new_length))]
 pub fn open_block(next: usize, v: usize, buffer: &mut [u8], at: usize) -> usize
     requires { (v < 1024) × (at + length (block_start next v) ≤ length buffer.old) }
     ensures { Put buffer.old buffer.new at result (block_start next v) }
@@ -90,6 +91,7 @@ pub struct Head {
 }
 
 // The byte of a strand: '+' where it is a reverse one.
+#[tactic(auto, unfolding(crate::specs::Lines::strand_byte))]
 pub fn strand_byte(strand: usize) -> u8
     ensures { result ≡ strand_byte strand }
 {
@@ -101,6 +103,7 @@ pub fn strand_byte(strand: usize) -> u8
 }
 
 // Writes the number of blocks, the id and the strand.
+#[tactic(auto, using(crate::proofs::Pieces::header_length))]
 pub fn write_header(head: Head, buffer: &mut [u8], at: usize) -> usize
     requires { at + length (header_of head) ≤ length buffer.old }
     ensures { Put buffer.old buffer.new at result (header_of head) }

@@ -28,6 +28,7 @@ pub fn ordered(byte: u8, a: u8, b: u8) -> (u8, u8)
 }
 
 // The phased rule without the byte.
+#[tactic(auto, unfolding(crate::specs::Inner::PhaseRead::rule_at, crate::specs::Phase::phased_test))]
 pub fn phased_rule(case: &Case<'_>, v: usize) -> bool
     requires { v < case.now.laid.sizes.n }
     ensures { result ≡ rule_at case.now.laid.words.now v }
@@ -41,6 +42,7 @@ pub fn phased_rule(case: &Case<'_>, v: usize) -> bool
 }
 
 // Variant v is phased.
+#[tactic(auto, unfolding(crate::specs::Inner::PhaseRead::phased_at))]
 pub fn is_phased(case: &Case<'_>, phase: &[u8], v: usize) -> bool
     requires { (v < case.now.laid.sizes.n) × (v < length phase.now) }
     ensures { result ≡ phased_at case.now.laid.words.now phase.now v }

@@ -1,5 +1,5 @@
 -- Each way out is one of number 7.
-use Rattle.std.proofs.Common.{◌≡◌, ℕ, ◌<◌, true, false, sym, ◌∙◌, get_or, below_none, below_more, rules, arith}
+use Rattle.std.proofs.Common.{◌≡◌, sym, ◌∙◌, get_or, below_none, below_more, rules, arith}
 use lib.IntN.{pos}
 use mir.Facts.{to_z-of_z}
 use mir.Syntax.{w32}

@@ -1,5 +1,5 @@
 -- A row that is not shown adds nothing to the calls that are left.
-use Rattle.std.proofs.Common.{◌≡◌, refl, length, sym, ap, ◌∙◌, arith}
+use Rattle.std.proofs.Common.{refl, length, sym, ap, ◌∙◌, arith}
 use Rattle.haplotype_assembly.proofs.Shown.{first_in, next_on, next_skip, next_none}
 use Rattle.haplotype_assembly.proofs.flist.ShownCallsIterator.next.Goals as goal
 
@@ -14,7 +14,7 @@ invariant_of-self c = (first_in c.loop-word.self-inside.case.laid.words.now c.in
 
 pub returns-then-phased_rule-clause-steps : goal.returns-then-phased_rule-clause-steps
 returns-then-phased_rule-clause-steps c =
-    sym c.self.view_is ∙ sym c.loop-word.invariant.same ∙ next_on _ c.in-Some.ensures.cases.0 _ c.unpack-row.ensures _ c.phased_rule.ensures c.if-phased_rule.true
+    cc (c.self.view_is, c.loop-word.invariant.same, next_on c.loop-word.self-inside.case.laid.words.now c.in-Some.ensures.cases.0 _ c.unpack-row.ensures _ c.phased_rule.ensures c.if-phased_rule.true)
 
 pub returns-then-phased_rule-clause-goes : goal.returns-then-phased_rule-clause-goes
 returns-then-phased_rule-clause-goes c =

@@ -1,4 +1,4 @@
-use Rattle.std.proofs.Common.{◌≡◌, get_or, rules}
+use Rattle.std.proofs.Common.{get_or, rules}
 use lib.IntN.{pos}
 use mir.Facts.{to_z-of_z}
 use mir.Syntax.{w32}
