@@ -9,14 +9,16 @@ use native.Mathlib.Numerals.{add-one}
 use borrow.Author.Tests.{eq-eqb, ne_eqb}
 use lib.Dec.{eqb}
 use lib.IntN.{ℤ, pos, nat_abs}
-use lib.ListN.{get_or}
+use lib.ListN.{length, get_or, take, drop}
+use Rattle.std.proofs.lemmas.List.{length-drop, length-take-le, get_or-take, get_or-drop}
 use Rattle.variants_and_fragments.specs.Case.{Call}
 use Rattle.variants_and_fragments.proofs.Sums.{sum_map}
-use Rattle.pileup.specs.Inner.Packed.{row_at, rows_at, group_start}
+use Rattle.pileup.specs.declared.row.Row.{Row as RowHeld}
+use Rattle.pileup.specs.Inner.Packed.{row_at, rows_at, group_start, held_row, row_from, unpacked}
 use Rattle.variants_and_fragments.specs.Sums.{sum_to}
 use Rattle.sweeps.specs.Sweeps.{allele0, call_term, likelihood}
 use Rattle.sweeps.proofs.Basics.{lik_cong}
-use Rattle.likelihoods.specs.Inner.Likelihoods.{row_call, call_at, calls_between, calls_of, likelihood_at, flagged, allele_on, call_share, CallsIn}
+use Rattle.likelihoods.specs.Inner.Likelihoods.{row_call, call_at, calls_between, calls_of, likelihood_at, flagged, allele_on, call_share, CallIn, CallsIn, EndsIn}
 use Rattle.likelihoods.proofs.RunningSums.{table_sum}
 use Rattle.likelihoods.proofs.SweepCases.{likelihood_sum}
 
@@ -29,22 +31,20 @@ pub term_small : (n : ℕ) (c : Call) (a : ℕ) → nat_abs c.qual ≤ n → nat
 unfolding call_term
 term_small n c a h k = either_small n (eqb c.allele a) c.one_minus_qual c.qual k h
 
--- the term of a call from its parts
-pub term_of : (call : Call) (own allele b : ℕ) (q o : ℤ) → allele ≡ call.allele → b ≡ own → q ≡ call.qual → o ≡ call.one_minus_qual → cond (eqb allele b) o q ≡ call_term call own
-unfolding call_term
-term_of call own allele b q o ea eb eq eo = rw (ea, eb, eq, eo) refl
+-- what a call adds from its parts: its term where its flag is 1, and else nothing
+module _ (call : Call) (hap mask : List ℕ) (h : ℕ) where
+  pub share_counted : (q o y : ℤ) → CallIn call hap mask → get_or mask call.variant 0 ≡ 1 → q ≡ call.qual → o ≡ call.one_minus_qual → y ≡ cond (eqb call.allele (allele_on hap h call.variant)) o q
+      → (y ≡ call_share (flagged mask) (allele_on hap h) call) × (nat_abs y ≤ 262144)
+  unfolding flagged call_term
+  share_counted q o y k e eq eo ey =
+      let t : y ≡ cond (eqb call.allele (allele_on hap h call.variant)) call.one_minus_qual call.qual = rw (eq, eo) at ey in (
+        rw (eq-eqb (get_or mask call.variant 0) 1 e) t,
+        rw t (either_small 262144 (eqb call.allele (allele_on hap h call.variant)) _ _ k.one_minus_qual_small k.qual_small),
+      )
 
-module _ (rows hap mask : List ℕ) (i h : ℕ) where
-  abbrev v : ℕ
-  v = (call_at rows i).variant
-
-  pub share_flagged : get_or mask v 0 ≡ 1 → call_term (call_at rows i) (allele_on hap h v) ≡ call_share (flagged mask) (allele_on hap h) (call_at rows i)
+  pub share_left_out : (get_or mask call.variant 0 ≡ 1 → ⊥) → (pos 0 ≡ call_share (flagged mask) (allele_on hap h) call) × (0 ≤ 262144)
   unfolding flagged
-  share_flagged e = rw (eq-eqb (get_or mask v 0) 1 e)
-
-  pub share_unflagged : (get_or mask v 0 ≡ 1 → ⊥) → pos 0 ≡ call_share (flagged mask) (allele_on hap h) (call_at rows i)
-  unfolding flagged
-  share_unflagged e = rw (ne_eqb (get_or mask v 0) 1 e)
+  share_left_out n = (rw (ne_eqb (get_or mask call.variant 0) 1 n), omega arith)
 
 -- a likelihood over rows a to e adds up what each adds
 abbrev pub row_share : List ℕ → List ℕ → List ℕ → ℕ → ℕ → ℕ → ℤ
@@ -89,13 +89,43 @@ ends_within ends (suc n) rises f h = elim (ℕ_discrete f n) [
   | no e ↦ omega (arith, ends_within ends n (λ g k. rises g (omega arith)) f (omega arith), rises n (omega arith))
 ]
 
--- what holds of the calls holds of fewer
-pub calls_fewer : {rows : List ℕ} {n m : ℕ} {hap mask : List ℕ} → m ≤ n → CallsIn rows n hap mask → CallsIn rows m hap mask
-calls_fewer h k = record {
-  count_top = omega (arith, k.count_top);
-  long = omega (arith, k.long);
-  pair_there = λ i l. k.pair_there i (omega arith);
-  flag_there = λ i l. k.flag_there i (omega arith);
-  qual_small = λ i l. k.qual_small i (omega arith);
-  one_minus_qual_small = λ i l. k.one_minus_qual_small i (omega arith);
-}
+-- ---- the rows of read f
+module _ {rows ends hap mask : List ℕ} {n : ℕ} (k : CallsIn rows (group_start ends n) hap mask) (o : EndsIn ends n) (f : ℕ) (h : f < n) where
+  pub read_rises : group_start ends f ≤ get_or ends f 0
+  read_rises = o.rises f h
+
+  read_within : get_or ends f 0 ≤ group_start ends n
+  read_within = ends_within ends n o.rises f h
+
+  pub read_long : get_or ends f 0 ≤ length rows
+  read_long = omega (arith, read_within, k.long)
+
+  pub read_few : get_or ends f 0 ≤ 16384
+  read_few = omega (arith, read_within, k.count_top)
+
+  pub read_call : (j : ℕ) → group_start ends f + j < get_or ends f 0 → CallIn (call_at rows (group_start ends f + j)) hap mask
+  read_call j l =
+      let i : group_start ends f + j < group_start ends n = omega (arith, read_within) in
+      record {
+        pair_there = k.pair_there _ i;
+        flag_there = k.flag_there _ i;
+        qual_small = k.qual_small _ i;
+        one_minus_qual_small = k.one_minus_qual_small _ i;
+      }
+
+  -- as a part of the slice
+  abbrev part : List ℕ
+  part = take (get_or ends f 0 - group_start ends f) (drop (group_start ends f) rows)
+
+  pub read_length : length part ≡ get_or ends f 0 - group_start ends f
+  read_length = length-take-le (get_or ends f 0 - group_start ends f) (drop (group_start ends f) rows) (omega (arith, length-drop (group_start ends f) rows, read_long))
+
+  -- row j of it
+  pub read_row : (j : ℕ) (row : RowHeld) → j < length part → row ≡ held_row (unpacked (get_or part j 0)) → (group_start ends f + j < get_or ends f 0) × (row_call (row_from row) ≡ call_at rows (group_start ends f + j))
+  read_row j row l e =
+      let a = group_start ends f in
+      let m : j < get_or ends f 0 - a = omega (arith, read_length) in (
+        omega arith,
+        ap (λ (r : RowHeld). row_call (row_from r)) e
+            ∙ ap (λ (w : ℕ). row_call (unpacked w)) (get_or-take (get_or ends f 0 - a) (drop a rows) j 0 m ∙ get_or-drop a rows j 0),
+      )

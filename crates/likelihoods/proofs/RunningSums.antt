@@ -24,32 +24,23 @@ table_sum g t a (suc n) =
     ∙ ap (λ (k : ℕ). t (g k) +ℤ sum_to n (λ j. t (g (a + suc j)))) (sym (add-zero a))
     ∙ sym (sum_to_shift n (λ j. t (g (a + j))))
 
--- ---- a loop's sum of f 0, .., f (i − 1), of n terms in all; top i bounds it
-pub record Running (f : ℕ → ℤ) (top : ℕ → ℕ) (n : ℕ) (sum : ℤ) (i : ℕ) : Type 0 where
-  pub inside : i ≤ n
+-- ---- a loop's sum of f 0, .., f (i − 1), at most `top` from 0
+pub record Running (f : ℕ → ℤ) (i : ℕ) (sum : ℤ) (top : ℕ) : Type 0 where
   pub is : sum ≡ sum_to i f
-  pub small : nat_abs sum ≤ top i
+  pub small : nat_abs sum ≤ top
 
-module _ (f : ℕ → ℤ) (top : ℕ → ℕ) (n : ℕ) where
-  pub running_start : Running f top n (pos 0) 0
+pub running_start : (f : ℕ → ℤ) (top : ℕ) → Running f 0 (pos 0) top
+unfolding sum_to
+running_start f top = record { is = refl; small = omega arith }
+
+-- one addition of the code: the sum so far and the next term, within the next bound
+module _ (f : ℕ → ℤ) (i : ℕ) (sum term : ℤ) {top : ℕ} (top' : ℕ) (r : Running f i sum top) (e : term ≡ f i) (l : top + nat_abs term ≤ top') (h : top' < 2 ^ 63) where
+  pub running_fits : SFits w64 (to_z w64 (of_z w64 sum) +ℤ to_z w64 (of_z w64 term))
+  running_fits = plus_fits w64 sum term (omega (arith, r.small))
+
+  pub running_more : Running f (i + 1) (to_z w64 (of_z w64 (to_z w64 (of_z w64 sum) +ℤ to_z w64 (of_z w64 term)))) top'
   unfolding sum_to
-  running_start = record { inside = omega arith; is = refl; small = omega arith }
-
-  pub running_more : (sum next : ℤ) (i : ℕ) → Running f top n sum i → i < n → next ≡ sum +ℤ f i → top i + nat_abs (f i) ≤ top (i + 1) → Running f top n next (i + 1)
-  unfolding sum_to
-  running_more sum next i r h e l = record {
-    inside = omega arith;
-    is = e ∙ ap (λ (z : ℤ). z +ℤ f i) r.is ∙ rw (add-one i);
-    small = omega (arith, ap nat_abs e, add_abs sum (f i), r.small);
-  }
-
-  pub running_end : (sum : ℤ) (i : ℕ) → Running f top n sum i → n ≤ i → (sum ≡ sum_to n f) × (nat_abs sum ≤ top n)
-  running_end sum i r h = let e : i ≡ n = omega (arith, r.inside) in (rw (← e) r.is, rw (← e) r.small)
-
--- ---- one addition of the code: the sum so far and a term that is x
-module _ (sum term x : ℤ) (e : term ≡ x) (h : nat_abs sum + nat_abs x < 2 ^ 63) where
-  pub added_fits : SFits w64 (to_z w64 (of_z w64 sum) +ℤ to_z w64 (of_z w64 term))
-  added_fits = plus_fits w64 sum term (rw e h)
-
-  pub added_read : to_z w64 (of_z w64 (to_z w64 (of_z w64 sum) +ℤ to_z w64 (of_z w64 term))) ≡ sum +ℤ x
-  added_read = plus_read w64 sum term (rw e h) ∙ ap (λ (z : ℤ). sum +ℤ z) e
+  running_more = rw (plus_read w64 sum term (omega (arith, r.small))) (record {
+    is = rw (add-one i, r.is, e);
+    small = omega (arith, add_abs sum term, r.small);
+  })

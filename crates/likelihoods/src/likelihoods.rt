@@ -1,10 +1,11 @@
 // Likelihoods of the reads on the two haplotypes, from the rows by fragment.
-ghost use Rattle.std.specs.Prelude.{◌≡◌, cond, ◌+◌, ◌*◌, ◌<◌, ◌≤◌, eqb, nat_abs, length};
-ghost use Rattle.pileup.specs.Inner.Packed.{group_start};
+ghost use Rattle.std.specs.Prelude.{◌≡◌, cond, ◌*◌, ◌<◌, ◌≤◌, eqb, nat_abs, length, get_or};
+ghost use Rattle.pileup.specs.Inner.Packed.{group_start, row_from};
 ghost use Rattle.variants_and_fragments.specs.Written.{written};
-ghost use Rattle.likelihoods.specs.Inner.Likelihoods.{CallsIn, EndsIn, LikelihoodsAre, call_at, flagged, allele_on, call_share, likelihood_at};
+ghost use Rattle.likelihoods.specs.Inner.Likelihoods.{CallIn, CallsIn, EndsIn, LikelihoodsAre, row_call, flagged, allele_on, call_share, likelihood_at};
 
-use pileup::row::unpack;
+use pileup::piles::group_start;
+use pileup::row::{Row, unpack};
 use steps::LogProb;
 
 // A read's likelihoods on the two haplotypes.
@@ -12,6 +13,18 @@ use steps::LogProb;
 pub struct ReadLikelihoods {
     pub first: LogProb,
     pub second: LogProb,
+}
+
+// The reads' usable calls as rows, one read's after the other's, and where each read's rows end. With them two haplotypes and a flag per
+// variant: 1 where the variant counts.
+#[derive(Clone, Copy)]
+pub struct ReadRows<'a> {
+    pub rows: &'a [u64],
+    pub ends: &'a [usize],
+    pub hap: &'a [u8],
+    pub mask: &'a [u8],
+    pub ghost calls_in: { CallsIn rows.now (group_start ends.now (length ends.now)) hap.now mask.now },
+    pub ghost ends_in: { EndsIn ends.now (length ends.now) },
 }
 
 // one_minus_qual on a match and qual otherwise.
@@ -25,7 +38,8 @@ fn call_term(allele: usize, own: u8, qual: LogProb, one_minus_qual: LogProb) -> 
     }
 }
 
-// x, where the flag is 1. The product keeps the compiler from making a jump of the test of the allele, which no machine can guess.
+// x, where the flag is 1. The product keeps the compiler from making a jump of the test of the allele, which no machine can guess; so the flag
+// is a byte here and no bool.
 fn weighed(flag: u8, x: LogProb) -> LogProb
     requires { nat_abs x.0 ≤ 262144 }
     ensures { flag ≡ 1 → result.0 ≡ x.0 }
@@ -33,67 +47,50 @@ fn weighed(flag: u8, x: LogProb) -> LogProb
     LogProb(flag as i64 * x.0)
 }
 
-// What the call of row i adds to its read's likelihood on haplotype h: nothing at a variant whose flag is not 1.
-fn call_share(rows: &[u64], hap: &[u8], mask: &[u8], i: usize, h: usize) -> LogProb
-    requires { CallsIn rows.now (i + 1) hap.now mask.now × (h < 2) }
-    ensures { (result.0 ≡ call_share (flagged mask.now) (allele_on hap.now h) (call_at rows.now i)) × (nat_abs result.0 ≤ 262144) }
-{
-    let row = unpack(rows[i]);
-    let v = row.variant;
-    let flag = mask[v];
-    let qual = weighed(flag, row.qual);
-    let one_minus_qual = weighed(flag, row.one_minus_qual);
-    let y = call_term(row.allele, hap[2 * v + h], qual, one_minus_qual);
-    if flag == 1 { y } else { LogProb(0) }
-}
-
-// A read's likelihoods, from its rows, a to e. At the loop's head the first j of them are added.
-pub fn read_likelihoods(
-    rows: &[u64],
-    hap: &[u8],
-    mask: &[u8],
-    a: usize,
-    e: usize,
-) -> ReadLikelihoods
-    requires { CallsIn rows.now e hap.now mask.now × (a ≤ e) }
-    ensures { LikelihoodsAre rows.now a e hap.now mask.now result }
-{
-    let n = e - a;
-    let mut first = LogProb(0);
-    let mut second = LogProb(0);
-    let mut j = 0;
-    while j < n {
-        let i = a + j;
-        first.0 += call_share(rows, hap, mask, i, 0).0;
-        second.0 += call_share(rows, hap, mask, i, 1).0;
-        j += 1;
+impl ReadRows<'_> {
+    // What a row's call adds to its read's likelihood on haplotype h: nothing at a variant whose flag is not 1.
+    fn call_share(&self, row: Row, h: usize) -> LogProb
+        requires { CallIn (row_call (row_from row)) self.now.hap.now self.now.mask.now × (h < 2) }
+        ensures { (result.0 ≡ call_share (flagged self.now.mask.now) (allele_on self.now.hap.now h) (row_call (row_from row))) × (nat_abs result.0 ≤ 262144) }
+    {
+        let v = row.variant;
+        let flag = self.mask[v];
+        let qual = weighed(flag, row.qual);
+        let one_minus_qual = weighed(flag, row.one_minus_qual);
+        let y = call_term(row.allele, self.hap[2 * v + h], qual, one_minus_qual);
+        let counts = flag == 1;
+        if counts { y } else { LogProb(0) }
     }
-    ReadLikelihoods { first, second }
-}
 
-// Writes the two likelihoods of each of n fragments, whose rows end where `ends` says. At the loop's head those of the first f are written,
-// and the rows of fragment f start at a.
-pub fn write_likelihoods(
-    rows: &[u64],
-    ends: &[usize],
-    hap: &[u8],
-    mask: &[u8],
-    lik: &mut [i64],
-    n: usize,
-)
-    requires { CallsIn rows.now (group_start ends.now n) hap.now mask.now × EndsIn ends.now n × (2 * n ≤ length lik.old) }
-    ensures { lik.new ≡ written (likelihood_at rows.now ends.now hap.now mask.now) (2 * n) lik.old }
-{
-    let mut a = 0;
-    let mut f = 0;
-    while f < n {
-        let e = ends[f];
-        let r = read_likelihoods(rows, hap, mask, a, e);
-        let x = r.first.0;
-        let y = r.second.0;
-        lik[2 * f] = x;
-        lik[2 * f + 1] = y;
-        a = e;
-        f += 1;
+    // The likelihoods of read f. At the loop's head those of its rows so far are added.
+    pub fn read_likelihoods(&self, f: usize) -> ReadLikelihoods
+        requires { f < length self.now.ends.now }
+        ensures { LikelihoodsAre self.now.rows.now (group_start self.now.ends.now f) (get_or self.now.ends.now f 0) self.now.hap.now self.now.mask.now result }
+    {
+        let a = group_start(self.ends, f);
+        let e = self.ends[f];
+        let rows = &self.rows[a..e];
+        let mut first = LogProb(0);
+        let mut second = LogProb(0);
+        for word in rows {
+            let row = unpack(*word);
+            first.0 += self.call_share(row, 0).0;
+            second.0 += self.call_share(row, 1).0;
+        }
+        ReadLikelihoods { first, second }
+    }
+
+    // Writes the two likelihoods of each read. At the loop's head those of the first f are written.
+    pub fn write_likelihoods(&self, lik: &mut [i64])
+        requires { 2 * length self.now.ends.now ≤ length lik.old }
+        ensures { lik.new ≡ written (likelihood_at self.now.rows.now self.now.ends.now self.now.hap.now self.now.mask.now) (2 * length self.now.ends.now) lik.old }
+    {
+        for f in 0..self.ends.len() {
+            let r = self.read_likelihoods(f);
+            let x = r.first.0;
+            let y = r.second.0;
+            lik[2 * f] = x;
+            lik[2 * f + 1] = y;
+        }
     }
 }

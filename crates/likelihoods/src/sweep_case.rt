@@ -1,22 +1,16 @@
 // What the sweeps use of a case's words.
 ghost use Rattle.std.specs.Prelude.{◌≡◌, ◌≤◌, length};
 ghost use Rattle.variants_and_fragments.specs.Layout.{allele_count_at};
-ghost use Rattle.variants_and_fragments.specs.Inner.Layout.{Sized};
-ghost use Rattle.variants_and_fragments.specs.Inner.Alleles.{VariantsIn};
 ghost use Rattle.variants_and_fragments.specs.Written.{written};
 
-use variants_and_fragments::Sizes;
-use variants_and_fragments::layout::allele_count;
+use variants_and_fragments::WithVariants;
 
 // Writes each variant's number of alleles. At the loop's head those of the first v are written.
-pub fn write_allele_counts(words: &[i32], s: Sizes, ks: &mut [u8])
-    requires { Sized words.now s × VariantsIn words.now s × (s.n ≤ length ks.old) }
-    ensures { ks.new ≡ written (allele_count_at words.now) s.n ks.old }
+pub fn write_allele_counts(case: &WithVariants<'_>, ks: &mut [u8])
+    requires { case.now.laid.sizes.n ≤ length ks.old }
+    ensures { ks.new ≡ written (allele_count_at case.now.laid.words.now) case.now.laid.sizes.n ks.old }
 {
-    let n = s.n;
-    let mut v = 0;
-    while v < n {
-        ks[v] = allele_count(words, s, v) as u8;
-        v += 1;
+    for v in 0..case.laid.sizes.n {
+        ks[v] = case.laid.allele_count(v) as u8;
     }
 }

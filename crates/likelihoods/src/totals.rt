@@ -1,128 +1,109 @@
-// Totals of a pair of haplotypes over the flagged variants, recomputed from the rows or from the likelihoods that stand.
-ghost use Rattle.std.specs.Prelude.{◌≡◌, ◌+◌, ◌*◌, ◌^◌, ◌≤◌, nat_abs, length};
-ghost use Rattle.pileup.specs.Inner.Packed.{group_start};
+// Totals of a pair of haplotypes over the flagged variants, recomputed from the rows or from the likelihoods that stand. The three sums are
+// loops: std's `sum` of signed numbers has no bound to offer.
+ghost use Rattle.std.specs.Prelude.{◌≡◌, ◌/◌, ◌^◌, ◌<◌, ◌≤◌, nat_abs, length};
 ghost use Rattle.variants_and_fragments.specs.Sums.{sum_to};
 ghost use Rattle.sweeps.specs.Sweeps.{total_of};
 ghost use Rattle.steps.specs.Logs.{mix_of};
-ghost use Rattle.likelihoods.specs.Inner.Likelihoods.{CallsIn, EndsIn, flagged};
+ghost use Rattle.likelihoods.specs.Inner.Likelihoods.{flagged};
 ghost use Rattle.likelihoods.specs.Inner.Held.{Within};
 ghost use Rattle.likelihoods.specs.Inner.Totals.{PriorsIn, held_case, prior_share, fragment_share, standing_share, standing_total};
 
-use crate::likelihoods::read_likelihoods;
+use crate::likelihoods::{ReadLikelihoods, ReadRows};
 use steps::LogProb;
 use steps::one_plus::ln_one_plus_exp;
-use variants_and_fragments::Sizes;
 
-// What variant v adds: the prior of its pair where its flag is 1.
-fn prior_share(ks: &[u8], pri: &[i64], hap: &[u8], mask: &[u8], v: usize) -> LogProb
-    requires { PriorsIn (v + 1) ks.now pri.now hap.now mask.now }
-    ensures { (result.0 ≡ prior_share ks.now pri.now hap.now mask.now v) × (nat_abs result.0 ≤ 2 ^ 21) }
-{
-    if mask[v] == 1 {
-        let k = ks[v] as usize;
-        let i = hap[2 * v] as usize;
-        let j = hap[2 * v + 1] as usize;
-        return LogProb(pri[9 * v + (i * k + j)]);
-    }
-    LogProb(0)
+// Each variant's number of alleles and its nine priors. With them two haplotypes and a flag per variant: 1 where the variant counts.
+#[derive(Clone, Copy)]
+pub struct PairPriors<'a> {
+    pub ks: &'a [u8],
+    pub pri: &'a [i64],
+    pub hap: &'a [u8],
+    pub mask: &'a [u8],
+    pub ghost priors_in: { PriorsIn (length ks.now) ks.now pri.now hap.now mask.now },
 }
 
-// The priors of n variants. At the loop's head those of the first v are added.
-fn priors_total(ks: &[u8], pri: &[i64], hap: &[u8], mask: &[u8], n: usize) -> LogProb
-    requires { PriorsIn n ks.now pri.now hap.now mask.now }
-    ensures { (result.0 ≡ sum_to n (prior_share ks.now pri.now hap.now mask.now)) × (nat_abs result.0 ≤ 2 ^ 39) }
+impl PairPriors<'_> {
+    // What variant v adds: the prior of its pair where its flag is 1.
+    fn share(&self, v: usize) -> LogProb
+        requires { v < length self.now.ks.now }
+        ensures { (result.0 ≡ prior_share self.now.ks.now self.now.pri.now self.now.hap.now self.now.mask.now v) × (nat_abs result.0 ≤ 2 ^ 21) }
+    {
+        if self.mask[v] == 1 {
+            let k = self.ks[v] as usize;
+            let i = self.hap[2 * v] as usize;
+            let j = self.hap[2 * v + 1] as usize;
+            return LogProb(self.pri[9 * v + (i * k + j)]);
+        }
+        LogProb(0)
+    }
+
+    // The priors of all variants. At the loop's head those of the first v are added.
+    fn total(&self) -> LogProb
+        ensures { (result.0 ≡ sum_to (length self.now.ks.now) (prior_share self.now.ks.now self.now.pri.now self.now.hap.now self.now.mask.now)) × (nat_abs result.0 ≤ 2 ^ 39) }
+    {
+        let mut sum = LogProb(0);
+        for v in 0..self.ks.len() {
+            sum.0 += self.share(v).0;
+        }
+        sum
+    }
+}
+
+// ln_add_exp of a read's two likelihoods less 4,096 each: the second, and what the first adds to it. `LogProb::mix` is the same by the knots,
+// which take longer than the lines.
+fn mixed(r: ReadLikelihoods) -> LogProb
+    requires { (nat_abs r.first.0 ≤ 2 ^ 34) × (nat_abs r.second.0 ≤ 2 ^ 34) }
+    ensures { result.0 ≡ mix_of r.first.0 r.second.0 }
+{
+    let rise = ln_one_plus_exp(r.first.0 - r.second.0);
+    LogProb(r.second.0 - 4096 + rise)
+}
+
+// The mixed likelihoods of the reads. At the loop's head those of the first f are added.
+fn fragments_total(reads: &ReadRows<'_>) -> LogProb
+    requires { length reads.now.ends.now ≤ 4096 }
+    ensures { (result.0 ≡ sum_to (length reads.now.ends.now) (fragment_share reads.now.rows.now reads.now.ends.now reads.now.hap.now reads.now.mask.now)) × (nat_abs result.0 ≤ 2 ^ 39) }
 {
     let mut sum = LogProb(0);
-    let mut v = 0;
-    while v < n {
-        sum.0 += prior_share(ks, pri, hap, mask, v).0;
-        v += 1;
+    for f in 0..reads.ends.len() {
+        sum.0 += mixed(reads.read_likelihoods(f)).0;
     }
     sum
 }
 
-// ln_add_exp of a read's two likelihoods less 4,096 each: the second, and what the first adds to it.
-fn mixed(a: LogProb, b: LogProb) -> LogProb
-    requires { (nat_abs a.0 ≤ 2 ^ 34) × (nat_abs b.0 ≤ 2 ^ 34) }
-    ensures { result.0 ≡ mix_of a.0 b.0 }
+// The total of the haplotypes over the flagged variants: their priors plus, per read, its mixed likelihoods.
+pub fn total(priors: &PairPriors<'_>, reads: &ReadRows<'_>) -> LogProb
+    requires few { length reads.now.ends.now ≤ 4096 }
+    requires same { (reads.now.hap.now ≡ priors.now.hap.now) × (reads.now.mask.now ≡ priors.now.mask.now) }
+    ensures { (result.0 ≡ total_of (held_case (length priors.now.ks.now) (length reads.now.ends.now) priors.now.ks.now priors.now.pri.now reads.now.rows.now reads.now.ends.now priors.now.mask.now) (flagged priors.now.mask.now) priors.now.hap.now) × (nat_abs result.0 ≤ 2 ^ 40) }
 {
-    let rise = ln_one_plus_exp(a.0 - b.0);
-    LogProb(b.0 - 4096 + rise)
-}
-
-// The mixed likelihoods of n fragments, whose rows end where `ends` says. At the loop's head those of the first f are added, and the rows of
-// fragment f start at a.
-fn fragments_total(
-    rows: &[u64],
-    ends: &[usize],
-    hap: &[u8],
-    mask: &[u8],
-    n: usize,
-) -> LogProb
-    requires { CallsIn rows.now (group_start ends.now n) hap.now mask.now × EndsIn ends.now n × (n ≤ 4096) }
-    ensures { (result.0 ≡ sum_to n (fragment_share rows.now ends.now hap.now mask.now)) × (nat_abs result.0 ≤ 2 ^ 39) }
-{
-    let mut sum = LogProb(0);
-    let mut a = 0;
-    let mut f = 0;
-    while f < n {
-        let e = ends[f];
-        let r = read_likelihoods(rows, hap, mask, a, e);
-        sum.0 += mixed(r.first, r.second).0;
-        a = e;
-        f += 1;
-    }
-    sum
-}
-
-// The total of the haplotypes over the flagged variants: their priors plus, per fragment, its mixed likelihoods.
-pub fn total(
-    s: Sizes,
-    ks: &[u8],
-    pri: &[i64],
-    rows: &[u64],
-    ends: &[usize],
-    hap: &[u8],
-    mask: &[u8],
-) -> LogProb
-    requires few_fragments { s.f ≤ 4096 }
-    requires priors_in { PriorsIn s.n ks.now pri.now hap.now mask.now }
-    requires calls_in { CallsIn rows.now (group_start ends.now s.f) hap.now mask.now × EndsIn ends.now s.f }
-    ensures { (result.0 ≡ total_of (held_case s.n s.f ks.now pri.now rows.now ends.now mask.now) (flagged mask.now) hap.now) × (nat_abs result.0 ≤ 2 ^ 40) }
-{
-    let x = priors_total(ks, pri, hap, mask, s.n);
-    let y = fragments_total(rows, ends, hap, mask, s.f);
+    let x = priors.total();
+    let y = fragments_total(reads);
     LogProb(x.0 + y.0)
 }
 
-// The mixed likelihoods of n fragments, as they stand in lik. At the loop's head those of the first f are added.
-fn mixes_total(lik: &[i64], n: usize) -> LogProb
-    requires { (n ≤ 4096) × (2 * n ≤ length lik.now) × Within (2 ^ 32) lik.now }
-    ensures { (result.0 ≡ sum_to n (standing_share lik.now)) × (nat_abs result.0 ≤ 2 ^ 45) }
+// The mixed likelihoods of the reads, two of each, as they stand in lik. At the loop's head those of the first f are added.
+fn mixes_total(lik: &[i64]) -> LogProb
+    requires { (length lik.now ≤ 8192) × Within (2 ^ 32) lik.now }
+    ensures { (result.0 ≡ sum_to (length lik.now / 2) (standing_share lik.now)) × (nat_abs result.0 ≤ 2 ^ 45) }
 {
     let mut sum = LogProb(0);
-    let mut f = 0;
-    while f < n {
-        sum.0 += mixed(LogProb(lik[2 * f]), LogProb(lik[2 * f + 1])).0;
-        f += 1;
+    for f in 0..lik.len() / 2 {
+        let r = ReadLikelihoods {
+            first: LogProb(lik[2 * f]),
+            second: LogProb(lik[2 * f + 1]),
+        };
+        sum.0 += mixed(r).0;
     }
     sum
 }
 
-// The total over the flagged variants, of the likelihoods that stand: their priors plus, per fragment, its mixed likelihoods.
-pub fn standing_total(
-    s: Sizes,
-    ks: &[u8],
-    pri: &[i64],
-    lik: &[i64],
-    hap: &[u8],
-    mask: &[u8],
-) -> LogProb
-    requires priors_in { PriorsIn s.n ks.now pri.now hap.now mask.now }
-    requires f_bound { (s.f ≤ 4096) × (2 * s.f ≤ length lik.now) × Within (2 ^ 32) lik.now }
-    ensures { result.0 ≡ standing_total s.n s.f ks.now pri.now lik.now hap.now mask.now }
+// The total over the flagged variants, of the likelihoods that stand: their priors plus, per read, its mixed likelihoods.
+pub fn standing_total(priors: &PairPriors<'_>, lik: &[i64]) -> LogProb
+    requires { (length lik.now ≤ 8192) × Within (2 ^ 32) lik.now }
+    ensures { result.0 ≡ standing_total (length priors.now.ks.now) (length lik.now / 2) priors.now.ks.now priors.now.pri.now lik.now priors.now.hap.now priors.now.mask.now }
 {
-    let x = priors_total(ks, pri, hap, mask, s.n);
-    let y = mixes_total(lik, s.f);
+    let x = priors.total();
+    let y = mixes_total(lik);
     LogProb(x.0 + y.0)
 }

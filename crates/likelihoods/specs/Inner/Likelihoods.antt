@@ -39,6 +39,13 @@ call_share counts a c = cond (counts c.variant) (call_term c (a c.variant)) (pos
 unfoldable pub likelihood_at : List ℕ → List ℕ → List ℕ → List ℕ → ℕ → ℤ
 likelihood_at rows ends hap mask e = likelihood (flagged mask) (allele_on hap (e % 2)) (calls_of rows ends (e / 2))
 
+-- a call's variant has a pair and a flag, and its qualities are at most 262144 steps from 0
+pub record CallIn (call : Call) (hap mask : List ℕ) : Type 0 where
+  pub pair_there : 2 * call.variant + 1 < length hap
+  pub flag_there : call.variant < length mask
+  pub qual_small : nat_abs call.qual ≤ 262144
+  pub one_minus_qual_small : nat_abs call.one_minus_qual ≤ 262144
+
 -- the first count rows are there, their variants have a pair and a flag, and their qualities are at most 262144 steps from 0
 pub record CallsIn (rows : List ℕ) (count : ℕ) (hap mask : List ℕ) : Type 0 where
   pub count_top : count ≤ 16384
