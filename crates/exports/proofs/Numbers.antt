@@ -1,17 +1,17 @@
 -- The numbers of each answer are read as its outcome, so that the operation's promise holds of them. No refusal has number 0.
 -- Assumes nothing.
-use mathlib.Core.Path.{◌≡◌, refl, sym, ap, ◌∙◌, subst}
+use Rattle.std.proofs.Common.{◌≡◌, refl, sym, ap, ◌∙◌, subst, Result, Ok, Err}
 use Rattle.variants_and_fragments.specs.declared.Sizes.{Sizes}
 use Rattle.variants_and_fragments.specs.declared.Refusal.{Refusal}
 use Rattle.variants_and_fragments.specs.declared.Refusal.TheVariants.{Head, Variant, Alleles, Call, Chain, Rates, Phase, Orders, Limit, Short, DensityQual, Normalize, Fragment, Room}
-use Rattle.variants_and_fragments.specs.Refusals.{Outcome, done, number, place, refusal}
+use Rattle.variants_and_fragments.specs.Refusals.{Outcome, done, number, place, refusal, outcome_of}
 use Rattle.haplotype_assembly.specs.FlistBuffer.{Amount}
 use Rattle.with_haplotypes.specs.declared.RoundAnswer.{RoundAnswer}
 use Rattle.late_reads.specs.declared.Updated.{Updated}
 use Rattle.late_reads.specs.declared.Updated.TheVariants.{Unsettled, Refused}
 use Rattle.late_reads.specs.LateReads as late
 use Rattle.exports.specs.declared.answers.Answer.{Answer}
-use Rattle.exports.specs.Answers.{read_as, read_answer, read_check, read_flist, read_round, read_late, answer_of, numbers_of, check_numbers, flist_numbers, round_numbers, late_numbers, Exported}
+use Rattle.exports.specs.Answers.{read_as, read_answer, read_check, read_flist, read_round, read_late, numbers_of, check_numbers, flist_numbers, round_numbers, late_numbers, Exported}
 
 -- the numbers a are those of the outcome, and are read as it
 pub record Numbers {X N : Type 0} (read : N → Outcome X) (numbers : Outcome X → N) (outcome : Outcome X) (a : N) : Type 0 where
@@ -41,14 +41,10 @@ reads_refusal (Fragment p) values = refl
 reads_refusal (Room p) values = refl
 
 -- ---- with no values
--- of an outcome that is known, and of an answer that is known to have these numbers
-pub answered_done : {o : Outcome Unit} {a : Answer} → o ≡ done tt → a ≡ answer_of 0 0 → Numbers read_answer numbers_of o a
+pub unit_numbers : (r : Result Unit Refusal) {a : Answer} → a ≡ numbers_of (outcome_of r) → Numbers read_answer numbers_of (outcome_of r) a
 unfolding read_answer read_as numbers_of
-answered_done e f = rw (e, f) (record { reads = refl; exact = refl })
-
-pub answered_refused : {o : Outcome Unit} {a : Answer} (x : Refusal) → o ≡ refusal x → a ≡ answer_of (number x) (place x) → Numbers read_answer numbers_of o a
-unfolding read_answer numbers_of
-answered_refused x e f = rw (e, f) (record { reads = reads_refusal x tt; exact = refl })
+unit_numbers (Ok x) e = rw e (record { reads = refl; exact = refl })
+unit_numbers (Err x) e = rw e (record { reads = reads_refusal x tt; exact = refl })
 
 -- ---- of the check
 pub check_done : (s : Sizes) → Numbers read_check check_numbers (done s) (check_numbers (done s))

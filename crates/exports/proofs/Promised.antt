@@ -4,21 +4,13 @@ use mathlib.Core.Path.{◌≡◌}
 use mathlib.Core.List.{List}
 use Prim.Native.Nat.{ℕ}
 use lib.IntN.{ℤ}
-use lib.Ieee.{Float}
 use Rattle.variants_and_fragments.specs.Refusals.{Outcome}
-use Rattle.var_filter.specs.declared.DensityParameters.{DensityParameters}
-use Rattle.var_filter.specs.Filter.{limits_of}
-use Rattle.var_filter.specs.Filtered.{VarFiltered}
 use Rattle.genotype_probs.specs.declared.Rates.{Rates}
 use Rattle.with_haplotypes.specs.declared.RoundAnswer.{RoundAnswer}
 use Rattle.with_haplotypes.specs.Round.{round_input}
 use Rattle.with_haplotypes.specs.Promise.{RoundSlices, CalledWithHaplotypes}
 use Rattle.late_reads.specs.Values.{values}
 use Rattle.late_reads.specs.LateReads.{late_input, LateAnswer, LateSlices, Arrives, Departs}
-
-pub filtered_at : (w : List ℤ) (b : List ℕ) (quals : List Float) (taken given : DensityParameters) (depth : ℕ) (before : List ℕ) (o : Outcome Unit) (after : List ℕ) → taken ≡ given
-    → VarFiltered w b quals (limits_of taken depth) before o after → VarFiltered w b quals (limits_of given depth) before o after
-filtered_at w b quals taken given depth before o after e p = rw (← e) p
 
 pub called_at : (w : List ℤ) (b : List ℕ) (taken given : Rates) (phase : List ℕ) (sets : List ℤ) (orders : List ℕ) (limit : ℕ) (before : RoundSlices) (o : Outcome RoundAnswer) (after : RoundSlices) → taken ≡ given
     → CalledWithHaplotypes (round_input w b taken phase orders limit) sets before o after → CalledWithHaplotypes (round_input w b given phase orders limit) sets before o after

@@ -1,9 +1,9 @@
 // What the operations answer, in numbers: 0 and place 0 for done, or a refusal's number and place.
 ghost use Rattle.std.specs.Prelude.{◌≡◌};
-ghost use Rattle.variants_and_fragments.specs.Refusals as refusals;
-ghost use Rattle.exports.specs.Answers.{answer_of};
+ghost use Rattle.variants_and_fragments.specs.Refusals.{outcome_of};
+ghost use Rattle.exports.specs.Answers.{numbers_of};
 
-use variants_and_fragments::{Refusal, number, place};
+use variants_and_fragments::Refusal;
 
 // The answer of an operation that returns no values.
 #[repr(C)]
@@ -15,7 +15,7 @@ pub struct Answer {
 
 // The answer of the check of a case: where done, the sizes that the head gives; else these are 0.
 #[repr(C)]
-#[derive(Clone, Copy)]
+#[derive(Clone, Copy, Default)]
 pub struct CheckAnswer {
     pub number: usize,
     pub place: usize,
@@ -29,7 +29,7 @@ pub struct CheckAnswer {
 
 // The answer of the fragment lines: where done, how many bytes and lines were written; else these are 0.
 #[repr(C)]
-#[derive(Clone, Copy)]
+#[derive(Clone, Copy, Default)]
 pub struct FlistAnswer {
     pub number: usize,
     pub place: usize,
@@ -40,7 +40,7 @@ pub struct FlistAnswer {
 // The answer of a round: where done, how many sweeps were made, whether the last one changed nothing, the phased totals at
 // the start and at the end, and the source's total at the end; else these are 0.
 #[repr(C)]
-#[derive(Clone, Copy)]
+#[derive(Clone, Copy, Default)]
 pub struct RoundAnswer {
     pub number: usize,
     pub place: usize,
@@ -53,7 +53,7 @@ pub struct RoundAnswer {
 
 // The answer of an arrival or a departure: where done, that the sample is not settled, and the new phased total; else these are 0.
 #[repr(C)]
-#[derive(Clone, Copy)]
+#[derive(Clone, Copy, Default)]
 pub struct LateAnswer {
     pub number: usize,
     pub place: usize,
@@ -61,24 +61,21 @@ pub struct LateAnswer {
     pub total: i64,
 }
 
-// Done, with no values.
-pub fn done() -> Answer
-    ensures { result ≡ answer_of 0 0 }
-{
-    Answer {
-        number: 0,
-        place: 0,
-    }
-}
+// The numbers of an answer with no values.
+impl From<Result<(), Refusal>> for Answer {
+    ghost from_gives = { λ r a. a ≡ numbers_of (outcome_of r) };
 
-// Refused, where there are no values.
-pub fn refused(x: Refusal) -> Answer
-    ensures { result ≡ answer_of (refusals.number x) (refusals.place x) }
-{
-    let n = number(x);
-    let p = place(x);
-    Answer {
-        number: n,
-        place: p,
+    #[tactic(auto, unfolding(crate::specs::Answers::numbers_of))]
+    fn from(answer: Result<(), Refusal>) -> Answer {
+        match answer {
+            Ok(()) => Answer {
+                number: 0,
+                place: 0,
+            },
+            Err(x) => Answer {
+                number: x.number(),
+                place: x.place(),
+            },
+        }
     }
 }

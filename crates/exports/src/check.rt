@@ -2,7 +2,7 @@
 ghost use Rattle.exports.specs.Promises.{CheckCase};
 
 use crate::answers::CheckAnswer;
-use variants_and_fragments::{Checked, check_case, number, place};
+use variants_and_fragments::check_case;
 
 // `check_case`.
 #[unsafe(no_mangle)]
@@ -10,25 +10,23 @@ pub extern "C" fn condorbed_check_case(words: &[i32], bases: &[u8]) -> CheckAnsw
     ensures { CheckCase words.now bases.now result }
 {
     match check_case(words, bases) {
-        Checked::Accepted(s) => CheckAnswer {
-            number: 0,
-            place: 0,
-            n: s.n,
-            f: s.f,
-            c: s.c,
-            used: s.used,
-            free: s.free,
-            cutoff: s.cutoff,
-        },
-        Checked::Refused(x) => CheckAnswer {
-            number: number(x),
-            place: place(x),
-            n: 0,
-            f: 0,
-            c: 0,
-            used: 0,
-            free: 0,
-            cutoff: 0,
+        Ok(case) => {
+            let s = case.laid.sizes;
+            CheckAnswer {
+                number: 0,
+                place: 0,
+                n: s.n,
+                f: s.f,
+                c: s.c,
+                used: s.used,
+                free: s.free,
+                cutoff: s.cutoff,
+            }
+        }
+        Err(x) => CheckAnswer {
+            number: x.number(),
+            place: x.place(),
+            ..CheckAnswer::default()
         },
     }
 }

@@ -1,10 +1,9 @@
 // The filters of a case's variants.
 ghost use Rattle.exports.specs.Promises.{VarFilter};
 
-use crate::answers::{Answer, done, refused};
-use crate::inputs::{DensityParameters, density_of};
+use crate::answers::Answer;
+use crate::inputs::DensityParameters;
 use var_filter::var_filter;
-use variants_and_fragments::Answered;
 
 // `var_filter`.
 #[unsafe(no_mangle)]
@@ -18,8 +17,5 @@ pub extern "C" fn condorbed_var_filter(
 ) -> Answer
     ensures { VarFilter words.now bases.now quals.now density max_depth filters.old result filters.new }
 {
-    match var_filter(words, bases, quals, density_of(density), max_depth, filters) {
-        Answered::Done => done(),
-        Answered::Refused(x) => refused(x),
-    }
+    Answer::from(var_filter(words, bases, quals, density.into(), max_depth, filters))
 }

@@ -3,7 +3,6 @@ ghost use Rattle.exports.specs.Promises.{GenerateFlistBuffer};
 
 use crate::answers::FlistAnswer;
 use haplotype_assembly::{Buffered, generate_flist_buffer};
-use variants_and_fragments::{number, place};
 
 // `generate_flist_buffer`.
 #[unsafe(no_mangle)]
@@ -23,8 +22,8 @@ pub extern "C" fn condorbed_generate_flist_buffer(
             lines,
         },
         Buffered::Refused(x) => FlistAnswer {
-            number: number(x),
-            place: place(x),
+            number: x.number(),
+            place: x.place(),
             bytes: 0,
             lines: 0,
         },

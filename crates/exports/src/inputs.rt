@@ -26,26 +26,30 @@ pub struct DensityParameters {
 }
 
 // The rates that the operations take.
-pub fn rates_of(r: Rates) -> genotype_probs::Rates
-    ensures { result ≡ rates_of r }
-{
-    genotype_probs::Rates {
-        hom_snv: LogProb(r.hom_snv),
-        het_snv: LogProb(r.het_snv),
-        hom_indel: LogProb(r.hom_indel),
-        het_indel: LogProb(r.het_indel),
-        ts: LogProb(r.ts),
-        tv: LogProb(r.tv),
+impl From<Rates> for genotype_probs::Rates {
+    ghost from_gives = { λ r x. x ≡ rates_of r };
+
+    fn from(r: Rates) -> genotype_probs::Rates {
+        genotype_probs::Rates {
+            hom_snv: LogProb(r.hom_snv),
+            het_snv: LogProb(r.het_snv),
+            hom_indel: LogProb(r.hom_indel),
+            het_indel: LogProb(r.het_indel),
+            ts: LogProb(r.ts),
+            tv: LogProb(r.tv),
+        }
     }
 }
 
 // The density that `var_filter` takes.
-pub fn density_of(d: DensityParameters) -> var_filter::DensityParameters
-    ensures { result ≡ density_of d }
-{
-    var_filter::DensityParameters {
-        n: d.n,
-        len: d.len,
-        gq: PHREDProb(d.gq),
+impl From<DensityParameters> for var_filter::DensityParameters {
+    ghost from_gives = { λ d x. x ≡ density_of d };
+
+    fn from(d: DensityParameters) -> var_filter::DensityParameters {
+        var_filter::DensityParameters {
+            n: d.n,
+            len: d.len,
+            gq: PHREDProb(d.gq),
+        }
     }
 }

@@ -8,7 +8,6 @@ ghost use Rattle.exports.specs.Promises.{Arrives, Departs};
 use crate::answers::LateAnswer;
 use late_reads::{Updated, arrive, depart};
 use steps::LogProb;
-use variants_and_fragments::{number, place};
 
 // The numbers of an answer.
 fn late_answer(answer: Updated) -> LateAnswer
@@ -22,8 +21,8 @@ fn late_answer(answer: Updated) -> LateAnswer
             total: total.0,
         },
         Updated::Refused(x) => LateAnswer {
-            number: number(x),
-            place: place(x),
+            number: x.number(),
+            place: x.place(),
             settled: false,
             total: 0,
         },

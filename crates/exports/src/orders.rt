@@ -1,9 +1,8 @@
 // The orders of a case's variants.
 ghost use Rattle.exports.specs.Promises.{SweepOrders};
 
-use crate::answers::{Answer, done, refused};
+use crate::answers::Answer;
 use shuffle::sweep_orders;
-use variants_and_fragments::Answered;
 
 // `sweep_orders`.
 #[unsafe(no_mangle)]
@@ -15,8 +14,5 @@ pub extern "C" fn condorbed_sweep_orders(
 ) -> Answer
     ensures { SweepOrders words.now bases.now seed orders.old result orders.new }
 {
-    match sweep_orders(words, bases, seed, orders) {
-        Answered::Done => done(),
-        Answered::Refused(x) => refused(x),
-    }
+    Answer::from(sweep_orders(words, bases, seed, orders))
 }

@@ -2,9 +2,8 @@
 ghost use Rattle.haplotype_assembly.specs.GivenPhase.{phase_slices};
 ghost use Rattle.exports.specs.Promises.{GivenPhase};
 
-use crate::answers::{Answer, done, refused};
+use crate::answers::Answer;
 use haplotype_assembly::given_phase;
-use variants_and_fragments::Answered;
 
 // `given_phase`.
 #[unsafe(no_mangle)]
@@ -19,8 +18,5 @@ pub extern "C" fn condorbed_given_phase(
 ) -> Answer
     ensures { GivenPhase words.now bases.now phase.now sets.now (phase_slices haplotypes.old phased.old names.old) result (phase_slices haplotypes.new phased.new names.new) }
 {
-    match given_phase(words, bases, phase, sets, haplotypes, phased, names) {
-        Answered::Done => done(),
-        Answered::Refused(x) => refused(x),
-    }
+    Answer::from(given_phase(words, bases, phase, sets, haplotypes, phased, names))
 }

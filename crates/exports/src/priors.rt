@@ -1,10 +1,9 @@
 // The priors of a case's genotypes.
 ghost use Rattle.exports.specs.Promises.{GenotypePriors};
 
-use crate::answers::{Answer, done, refused};
-use crate::inputs::{Rates, rates_of};
+use crate::answers::Answer;
+use crate::inputs::Rates;
 use genotype_probs::genotype_priors;
-use variants_and_fragments::Answered;
 
 // `genotype_priors`.
 #[unsafe(no_mangle)]
@@ -16,8 +15,5 @@ pub extern "C" fn condorbed_genotype_priors(
 ) -> Answer
     ensures { GenotypePriors words.now bases.now rates priors.old result priors.new }
 {
-    match genotype_priors(words, bases, rates_of(rates), priors) {
-        Answered::Done => done(),
-        Answered::Refused(x) => refused(x),
-    }
+    Answer::from(genotype_priors(words, bases, rates.into(), priors))
 }

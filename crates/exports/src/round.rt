@@ -5,8 +5,7 @@ ghost use Rattle.exports.specs.Inputs.{rates_of};
 ghost use Rattle.exports.specs.Promises.{CallGenotypesWithHaplotypes};
 
 use crate::answers::RoundAnswer;
-use crate::inputs::{Rates, rates_of};
-use variants_and_fragments::{number, place};
+use crate::inputs::Rates;
 use with_haplotypes::{Round, call_genotypes_with_haplotypes};
 
 // `call_genotypes_with_haplotypes`.
@@ -30,7 +29,7 @@ pub extern "C" fn condorbed_call_genotypes_with_haplotypes(
     match call_genotypes_with_haplotypes(
         words,
         bases,
-        rates_of(rates),
+        rates.into(),
         phase,
         sets,
         orders,
@@ -51,8 +50,8 @@ pub extern "C" fn condorbed_call_genotypes_with_haplotypes(
             source: r.source.0,
         },
         Round::Refused(x) => RoundAnswer {
-            number: number(x),
-            place: place(x),
+            number: x.number(),
+            place: x.place(),
             sweeps: 0,
             settled: false,
             start: 0,

@@ -5,12 +5,12 @@ use Prim.Native.Nat.{ℕ, ◌+◌, ◌*◌, ◌/◌, ◌%◌}
 use native.Mathlib.Omega.{arith}
 use lib.IntN.{pos}
 use lib.ListN.{get_or}
-use Rattle.variants_and_fragments.specs.Case.{Case, Variant, allele_count, variant_of}
+use Rattle.variants_and_fragments.specs.Case.{Variant}
 use Rattle.variants_and_fragments.proofs.Decoded.{tabulate_at}
 use Rattle.genotype_probs.specs.declared.Rates.{Rates}
 use Rattle.genotype_probs.specs.Letters.{Base, Letter, base_number, letter_number, same_letter}
-use Rattle.genotype_probs.specs.Priors.{diploid, letters_prior, alleles_prior, get_prior, all_priors, prior_at}
-use Rattle.genotype_probs.specs.Inner.PriorTable.{table_entry, prior_table, table_value, lookup, table_prior, table_priors, table_prior_at}
+use Rattle.genotype_probs.specs.Priors.{diploid, letters_prior, alleles_prior, get_prior}
+use Rattle.genotype_probs.specs.Inner.PriorTable.{table_entry, prior_table, table_value, lookup, table_prior}
 use Rattle.genotype_probs.proofs.Numbers.{base_low, letter_low, base_there, letter_there}
 
 module _ (rates : Rates) where
@@ -36,9 +36,3 @@ module _ (rates : Rates) where
   pub table_holds : (variant : Variant) (i j : ℕ) → table_prior (prior_table rates) variant i j ≡ get_prior rates variant i j
   unfolding table_prior lookup get_prior alleles_prior
   table_holds variant i j = value_is _ _ _
-
-  -- so in each place of a case
-  pub places_hold : (case : Case) (e : ℕ) → table_prior_at (prior_table rates) case e ≡ prior_at rates case e
-  unfolding table_prior_at table_priors prior_at all_priors
-  places_hold case e =
-      let k = allele_count (variant_of case (e / 9)) in rw (table_holds (variant_of case (e / 9)) (e % 9 / k) (e % 9 % k))

@@ -1,4 +1,4 @@
-pub mod Pairs
+pub mod NinePlaces
 pub mod Numbers
 pub mod Comparisons
 pub mod RateLaws
@@ -9,7 +9,6 @@ pub mod AlleleLaws
 pub mod Maxima
 pub mod TableSums
 pub mod Samples
-pub mod AcceptedPriors
 pub mod OtherSums
 pub mod NormalizedLaws
 pub mod PriorSizes

@@ -9,10 +9,22 @@ use native.Mathlib.Omega.{arith}
 use native.Mathlib.Numerals.{add-one}
 use native.Mathlib.Decide.{ℕ_discrete}
 use lib.IntN.{ℤ, ◌-ℤ◌}
-use lib.Signed.{lt_z, ◌≤ℤ◌}
-use Rattle.steps.proofs.Signed.{by_test, cases, zlin, true_lt, false_lt, parts_minus}
+use lib.Signed.{lt_z, ◌≤ℤ◌, ◌<ℤ◌}
+use Rattle.std.proofs.Common.{Ordering, Less, Equal, Greater, is_lt, int_cmp}
+use Rattle.std.specs.Ordering.{MatchOrdering}
+use Rattle.std.specs.Cmp.{int_ranks}
+use Rattle.steps.proofs.Signed.{by_test, cases, zlin, lt_true, true_lt, false_lt, parts_minus}
 use Rattle.genotype_probs.specs.Posteriors.{FirstMaximum, first_maximum, post_at, max_genotype}
 use Rattle.genotype_probs.proofs.TableSums.{place_in}
+
+-- whether the order of two numbers is Less
+pub lt_test : (a b : ℤ) → is_lt (int_cmp a b) ≡ lt_z a b
+lt_test a b = go (int_cmp a b) (int_ranks a b)
+  where
+    go : (o : Ordering) → MatchOrdering o (a <ℤ b) (a ≡ b) (b <ℤ a) → is_lt o ≡ lt_z a b
+    go Less m = sym (lt_true a b m)
+    go Equal m = let l : lt_z a b ≡ false = omega zlin in sym l
+    go Greater m = let l : lt_z a b ≡ false = omega zlin in sym l
 
 self : (z : ℤ) → z ≤ℤ z
 self z = omega zlin

@@ -4,7 +4,6 @@ use mathlib.Core.Path.{◌≡◌, refl, sym, ap, ◌∙◌}
 use mathlib.Core.Bool.{true, false}
 use mathlib.Core.List.{[], ◌∷◌, map}
 use Prim.Native.Nat.{ℕ, zero, suc, ◌+◌, ◌-◌, ◌≤◌, ◌<◌, ◌^◌}
-use native.Mathlib.Numerals.{add-one}
 use native.Mathlib.Omega.{arith}
 use borrow.Author.Tests.{leb-true}
 use lib.Dec.{leb}
@@ -21,10 +20,11 @@ use Rattle.steps.proofs.AddExp.{add_size}
 use Rattle.steps.proofs.Marks.{of_small, log_injective}
 use Rattle.steps.proofs.Sums.{sum_steps}
 use Rattle.steps.proofs.OneMinus.{search_least, lowest_of, of_below, down_le}
-use Rattle.variants_and_fragments.specs.First.{first_fail_from, first_fail}
+use Rattle.variants_and_fragments.specs.First.{first_fail}
 use Rattle.variants_and_fragments.specs.Refusals.{Outcome, refused, done, each}
-use Rattle.variants_and_fragments.proofs.First.{first_all, first_le}
+use Rattle.variants_and_fragments.proofs.First.{first_all, first_end, first_le}
 use Rattle.variants_and_fragments.proofs.Outcomes.{each_on, each_at, each_past}
+use Rattle.steps.specs.declared.LogProb.{LogProb}
 use Rattle.genotype_probs.specs.declared.Rates.{Rates}
 use Rattle.variants_and_fragments.specs.Words.{within}
 use Rattle.genotype_probs.specs.Rates.{hom_snv_rate, het_snv_rate, hom_indel_rate, het_indel_rate, ts_rate, tv_rate, rate_ok, rate_sum, rate_tests, rate_test}
@@ -88,26 +88,26 @@ module _ {X : Type 0} (rates : Rates) (rest : Outcome X) where
   unfolding rates_fault first_fail
   rates_past x e = let p = each_past 6 (rate_test rates) 0 7 rest x e in (omega (arith, p.0, fault_top rates), p.1)
 
--- ---- the tests one after the other: the place among those from i on
-pub fault_from : Rates → ℕ → ℕ
-fault_from rates i = first_fail_from (rate_test rates) i (7 - i)
+-- where each test holds
+pub all_accepted : (rates : Rates) → ((p : ℕ) → p < 7 → rate_test rates p ≡ true) → rates_fault rates ≡ 7
+unfolding rates_fault
+all_accepted rates h = sym (first_end (rate_test rates) 7 7 h refl)
 
-pub fault_from_lem : (rates : Rates) → rates_fault rates ≡ fault_from rates 0
-unfolding rates_fault first_fail fault_from
-fault_from_lem rates = refl
+-- the first six tests are of the six rates
+pub six_tests : (rates : Rates) (p : ℕ) (d : LogProb) → p < 6 → rate_test rates p ≡ rate_ok (get_or {A = LogProb} (rates.hom_snv ∷ rates.het_snv ∷ rates.hom_indel ∷ rates.het_indel ∷ rates.ts ∷ rates.tv ∷ []) p d).0
+unfolding rate_test rate_tests
+six_tests rates zero d h = refl
+six_tests rates (suc zero) d h = refl
+six_tests rates (suc (suc zero)) d h = refl
+six_tests rates (suc (suc (suc zero))) d h = refl
+six_tests rates (suc (suc (suc (suc zero)))) d h = refl
+six_tests rates (suc (suc (suc (suc (suc zero))))) d h = refl
+six_tests rates (suc (suc (suc (suc (suc (suc p)))))) d h = absurd (omega arith)
 
-pub fault_past : (rates : Rates) (i : ℕ) → i < 7 → get_or (rate_tests rates) i true ≡ true → fault_from rates i ≡ fault_from rates (i + 1)
-unfolding fault_from first_fail_from rate_test
-fault_past rates i h e = let k : 7 - i ≡ suc (7 - (i + 1)) = omega arith in rw (k, e, add-one)
-
-pub fault_here : (rates : Rates) (i : ℕ) → i < 7 → get_or (rate_tests rates) i true ≡ false → fault_from rates i ≡ i
-unfolding fault_from first_fail_from rate_test
-fault_here rates i h e = let k : 7 - i ≡ suc (7 - (i + 1)) = omega arith in rw (k, e)
-
--- all hold
-pub fault_none : (rates : Rates) → fault_from rates 7 ≡ 7
-unfolding fault_from first_fail_from
-fault_none rates = refl
+-- and the last is of their sum
+pub last_test : (rates : Rates) → rate_test rates 6 ≡ lt_z (rate_sum rates) (pos 0)
+unfolding rate_test rate_tests
+last_test rates = refl
 
 -- ---- sums of rates
 pub rate_sum_lem : (rates : Rates) → ln_sum_exp (map steps (hom_snv_rate rates ∷ het_snv_rate rates ∷ hom_indel_rate rates ∷ het_indel_rate rates ∷ [])) ≡ steps (rate_sum rates)

@@ -13,10 +13,14 @@ use Rattle.steps.proofs.Signed.{minus_abs}
 use Rattle.steps.proofs.Sums.{sum_size}
 use Rattle.variants_and_fragments.specs.Decode.{tabulate_from, tabulate}
 use Rattle.genotype_probs.specs.Posteriors.{sum_of, entry_at, row_sum, table_sum, normalized}
-use Rattle.genotype_probs.specs.Inner.Posteriors.{TableAt}
+use Rattle.genotype_probs.specs.Inner.Posteriors.{TableIn, TableAt}
 use Rattle.genotype_probs.proofs.TableSums.{place_in}
 
--- what `qual_of` asks
+-- the first place is one of the k × k
+pub first_in : {tab : List ℤ} {k : ℕ} → TableIn tab k → 0 < k * k
+first_in {tab} {k} t = omega (arith, place_in 0 0 k t.k_low t.k_low)
+
+-- the first entry of a table at a place
 pub first_small : {post : List ℤ} {at k : ℕ} → TableAt post at k → (at < length post) × (nat_abs (get_or post at (pos 0)) ≤ 2 ^ 40)
 first_small {post} {at} {k} t =
     let e : at + 0 ≡ at = omega arith in

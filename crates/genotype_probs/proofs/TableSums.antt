@@ -79,21 +79,18 @@ place_in i j k h l = let m = mul-le-mul_right k h in omega (arith, m, suc-mul i 
 pub pair_in : (k p : ℕ) → 1 ≤ k → p < k * k → (p / k < k) × (p % k < k)
 pair_in k p h l = ((div-lt_iff_lt-mul {k = k} {x = p} {y = k} h).1 l, mod-lt p {m = k} h)
 
--- row i of the table at a place, as a part of the slice
-pub row_part : (post : List ℤ) (at k i : ℕ) → at + (i * k + k) ≤ length post → take k (drop (at + i * k) post) ≡ tabulate k (entry_at (drop at post) k i)
+-- row i, as a part of the table
+pub row_part : (tab : List ℤ) (k i : ℕ) → i * k + k ≤ length tab → take k (drop (i * k) tab) ≡ tabulate k (entry_at tab k i)
 unfolding entry_at
-row_part post at k i h =
-    let d = length-drop (at + i * k) post in
-    let e : length (take k (drop (at + i * k) post)) ≡ k = length-take-le k (drop (at + i * k) post) (omega arith) in
-    ext_get_or (pos 0) (take k (drop (at + i * k) post)) (tabulate k (entry_at (drop at post) k i)) (e ∙ sym (tabulate_length k (entry_at (drop at post) k i)))
+row_part tab k i h =
+    let d = length-drop (i * k) tab in
+    let e : length (take k (drop (i * k) tab)) ≡ k = length-take-le k (drop (i * k) tab) (omega arith) in
+    ext_get_or (pos 0) (take k (drop (i * k) tab)) (tabulate k (entry_at tab k i)) (e ∙ sym (tabulate_length k (entry_at tab k i)))
     (λ j l.
     let m : j < k = omega arith in
-    let a : at + i * k + j ≡ at + (i * k + j) = omega arith in
-    get_or-take k (drop (at + i * k) post) j (pos 0) m
-    ∙ get_or-drop (at + i * k) post j (pos 0)
-    ∙ ap (λ (q : ℕ). get_or post q (pos 0)) a
-    ∙ sym (get_or-drop at post (i * k + j) (pos 0))
-    ∙ sym (tabulate_at k (entry_at (drop at post) k i) j (pos 0) m))
+    get_or-take k (drop (i * k) tab) j (pos 0) m
+    ∙ get_or-drop (i * k) tab j (pos 0)
+    ∙ sym (tabulate_at k (entry_at tab k i) j (pos 0) m))
 
 -- ---- a table whose k × k entries are another's, each with a constant added
 module _ (c : ℤ) (tab other : List ℤ) (k : ℕ) (low : 1 ≤ k) (moved : (p : ℕ) → p < k * k → get_or tab p (pos 0) ≡ get_or other p (pos 0) +ℤ c) where

@@ -1,4 +1,3 @@
 pub mod Rates
 pub mod PriorTable
-pub mod PriorInputs
 pub mod Posteriors

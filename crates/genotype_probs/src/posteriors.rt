@@ -1,10 +1,9 @@
-// Tables of k × k log probabilities, row-major, each in nine places of a lent slice from `at` on, and the qualities that they give.
-ghost use Rattle.std.specs.Prelude.{◌≡◌, cond, ◌+◌, ◌*◌, ◌<◌, ◌≤◌, ◌^◌, ltb, pos, nat_abs, ◌-ℤ◌, length, get_or, drop};
-ghost use Rattle.steps.specs.Logs.{steps, ln_add_exp};
+// Tables of k × k log probabilities, row-major, each in nine places, and the qualities that they give.
+ghost use Rattle.std.specs.Prelude.{◌≡◌, ◌+◌, ◌*◌, ◌<◌, ◌≤◌, ◌^◌, nat_abs};
 ghost use Rattle.steps.specs.Inner.Logs.{log_of, size};
-ghost use Rattle.variants_and_fragments.specs.Inner.Written.{written_from};
+ghost use Rattle.variants_and_fragments.specs.Decode.{tabulate};
+ghost use Rattle.genotype_probs.specs.Inner.Posteriors.{TableIn};
 ghost use Rattle.genotype_probs.specs.Posteriors.{entry_at, row_sum, table_sum, normalized, post_at, max_genotype, genotype_of, qual_of, is_other, other_sum, gq_of};
-ghost use Rattle.genotype_probs.specs.Inner.Posteriors.{TableAt};
 
 use steps::phred::capped_phred;
 use steps::{LogProb, PHREDProb};
@@ -13,156 +12,130 @@ use steps::{LogProb, PHREDProb};
 #[derive(Clone, Copy)]
 pub struct Genotype(pub u8, pub u8);
 
-// Entry (i, j).
-fn entry(post: &[i64], at: usize, k: usize, i: usize, j: usize) -> LogProb
-    requires { TableAt post.now at k × (i < k) × (j < k) }
-    ensures { (result.0 ≡ entry_at (drop at post.now) k i j) × (nat_abs result.0 ≤ 2 ^ 40) }
-{
-    LogProb(post[at + (i * k + j)])
+// A table of k × k entries, row-major, in nine places.
+#[derive(Clone, Copy)]
+pub struct Table<'a> {
+    pub post: &'a [i64],
+    pub k: usize,
+    pub ghost table_in: { TableIn post.now k },
 }
 
-// The sum of row i.
-fn row_sum(post: &[i64], at: usize, k: usize, i: usize) -> LogProb
-    requires { TableAt post.now at k × (i < k) }
-    ensures { (result.0 ≡ row_sum (drop at post.now) k i) × (nat_abs result.0 ≤ 2 ^ 40 + 12288) }
-{
-    let a = at + i * k;
-    let e = a + k;
-    LogProb::ln_sum_exp(&post[a..e])
-}
-
-// The sum of row sums. At the loop's head `sum` is that of the first i rows.
-pub fn table_sum(post: &[i64], at: usize, k: usize) -> LogProb
-    requires { TableAt post.now at k }
-    ensures { (result.0 ≡ table_sum (drop at post.now) k) × (nat_abs result.0 ≤ 2 ^ 40 + 24576) }
-{
-    let mut sum = row_sum(post, at, k, 0);
-    let mut i = 1;
-    while i < k {
-        sum = sum.ln_add_exp(row_sum(post, at, k, i));
-        i += 1;
+impl Table<'_> {
+    // Entry (i, j).
+    fn entry(&self, i: usize, j: usize) -> LogProb
+        requires { (i < self.now.k) × (j < self.now.k) }
+        ensures { (result.0 ≡ entry_at self.now.post.now self.now.k i j) × (nat_abs result.0 ≤ 2 ^ 40) }
+    {
+        LogProb(self.post[i * self.k + j])
     }
-    sum
-}
 
-// A table's entry less the total, or 0 past its m entries.
-fn lowered(x: LogProb, total: LogProb, p: usize, m: usize) -> LogProb
-    requires { (nat_abs total.0 ≤ 2 ^ 61) × (p < m → nat_abs x.0 ≤ 2 ^ 61) }
-    ensures { result.0 ≡ cond (ltb p m) (x.0 -ℤ total.0) (pos 0) }
-{
-    if p < m {
-        return LogProb(x.0 - total.0);
+    // The sum of row i.
+    fn row_sum(&self, i: usize) -> LogProb
+        requires { i < self.now.k }
+        ensures { (result.0 ≡ row_sum self.now.post.now self.now.k i) × (nat_abs result.0 ≤ 2 ^ 40 + 12288) }
+    {
+        let start = i * self.k;
+        LogProb::ln_sum_exp(&self.post[start..start + self.k])
     }
-    LogProb(0)
-}
 
-// Subtracts the total from each entry. At the loop's head the first p places are written.
-fn subtract(post: &mut [i64], at: usize, k: usize, total: LogProb)
-    requires { TableAt post.old at k × (total.0 ≡ table_sum (drop at post.old) k) × (nat_abs total.0 ≤ 2 ^ 61) }
-    ensures { post.new ≡ written_from (normalized (drop at post.old) k) at 9 post.old }
-{
-    let m = k * k;
-    let mut p = 0;
-    while p < 9 {
-        let x = lowered(LogProb(post[at + p]), total, p, m).0;
-        post[at + p] = x;
-        p += 1;
-    }
-}
-
-// Subtracts the sum of row sums from each entry, and writes zeros past the k × k entries.
-pub fn normalize(post: &mut [i64], at: usize, k: usize)
-    requires { TableAt post.old at k }
-    ensures { post.new ≡ written_from (normalized (drop at post.old) k) at 9 post.old }
-{
-    let total = table_sum(post, at, k);
-    subtract(post, at, k, total);
-}
-
-// What is compared of the pair of row-major number p.
-fn post_of(post: &[i64], at: usize, k: usize, phased: bool, p: usize) -> LogProb
-    requires { TableAt post.now at k × (p < k * k) }
-    ensures { result.0 ≡ post_at phased (drop at post.now) k p }
-{
-    let i = p / k;
-    let j = p % k;
-    let x = entry(post, at, k, i, j);
-    if phased | (i == j) {
-        return x;
-    }
-    x.ln_add_exp(entry(post, at, k, j, i))
-}
-
-// The row-major number of the genotype that is kept. At the loop's head `best` is the first maximum of the first p, and `top` its value.
-pub fn max_genotype(post: &[i64], at: usize, k: usize, phased: bool) -> usize
-    requires { TableAt post.now at k }
-    ensures { result ≡ max_genotype phased (drop at post.now) k }
-{
-    let m = k * k;
-    let mut best = 0;
-    let mut top = post_of(post, at, k, phased, 0);
-    let mut p = 1;
-    while p < m {
-        let x = post_of(post, at, k, phased, p);
-        if top.0 < x.0 {
-            best = p;
-            top = x;
+    // The sum of row sums.
+    pub fn table_sum(&self) -> LogProb
+        ensures { (result.0 ≡ table_sum self.now.post.now self.now.k) × (nat_abs result.0 ≤ 2 ^ 40 + 24576) }
+    {
+        let mut sum = self.row_sum(0);
+        for i in 1..self.k {
+            sum = sum.ln_add_exp(self.row_sum(i));
         }
-        p += 1;
+        sum
     }
-    best
-}
 
-// The genotype of row-major number p.
-pub fn genotype_of(k: usize, p: usize) -> Genotype
-    requires { (1 ≤ k) × (k ≤ 3) × (p < k * k) }
-    ensures { result ≡ genotype_of k p }
-{
-    Genotype((p / k) as u8, (p % k) as u8)
-}
-
-// The quality of a variant: Phred of the entry of pair (0, 0), capped.
-pub fn qual_of(post: &[i64], at: usize) -> PHREDProb
-    requires { (at < length post.now) × (nat_abs (get_or post.now at (pos 0)) ≤ 2 ^ 40) }
-    ensures { result.0 ≡ qual_of (drop at post.now) }
-{
-    capped_phred(LogProb(post[at]))
-}
-
-// The sum with x added, where q is neither the pair p nor its mirror m.
-fn add_other(sum: LogProb, x: LogProb, p: usize, m: usize, q: usize) -> LogProb
-    requires { (size (log_of sum.0) ≤ 2 ^ 60) × (nat_abs x.0 ≤ 2 ^ 40) }
-    ensures { log_of result.0 ≡ cond (is_other p m q) (ln_add_exp (log_of sum.0) (steps x.0)) (log_of sum.0) }
-{
-    if q == p {
-        return sum;
+    // What is compared of the pair of row-major number p.
+    fn post_of(&self, phased: bool, p: usize) -> LogProb
+        requires { p < self.now.k * self.now.k }
+        ensures { result.0 ≡ post_at phased self.now.post.now self.now.k p }
+    {
+        let i = p / self.k;
+        let j = p % self.k;
+        let x = self.entry(i, j);
+        if phased | (i == j) {
+            return x;
+        }
+        x.ln_add_exp(self.entry(j, i))
     }
-    if q == m {
-        return sum;
+
+    // The row-major number of the genotype that is kept: the first maximum.
+    pub fn max_genotype(&self, phased: bool) -> usize
+        ensures value { result ≡ max_genotype phased self.now.post.now self.now.k }
+        ensures inside { result < self.now.k * self.now.k }
+    {
+        let mut best = 0;
+        let mut top = self.post_of(phased, 0);
+        for p in 1..self.k * self.k {
+            let x = self.post_of(phased, p);
+            if top < x {
+                best = p;
+                top = x;
+            }
+        }
+        best
     }
-    sum.ln_add_exp(x)
+
+    // The genotype of row-major number p.
+    pub fn genotype(&self, p: usize) -> Genotype
+        requires { p < self.now.k * self.now.k }
+        ensures { result ≡ genotype_of self.now.k p }
+    {
+        Genotype((p / self.k) as u8, (p % self.k) as u8)
+    }
+
+    // The quality of a variant: Phred of the entry of pair (0, 0), capped.
+    pub fn qual(&self) -> PHREDProb
+        ensures { result.0 ≡ qual_of self.now.post.now }
+    {
+        capped_phred(LogProb(self.post[0]))
+    }
+
+    // ln_sum_exp over the pairs other than p and its mirror m.
+    fn other_sum(&self, p: usize) -> LogProb
+        requires { p < self.now.k * self.now.k }
+        ensures { (log_of result.0 ≡ other_sum self.now.post.now self.now.k p) × (size (log_of result.0) ≤ 2 ^ 41) }
+    {
+        let m = p % self.k * self.k + p / self.k;
+        let mut sum = LogProb::ln_zero();
+        for q in 0..self.k * self.k {
+            if is_other(p, m, q) {
+                sum = sum.ln_add_exp(LogProb(self.post[q]));
+            }
+        }
+        sum
+    }
+
+    // The quality of the called genotype, of row-major number p: Phred of the sum over the other pairs, capped.
+    pub fn gq(&self, p: usize) -> PHREDProb
+        requires { p < self.now.k * self.now.k }
+        ensures { result.0 ≡ gq_of self.now.post.now self.now.k p }
+    {
+        capped_phred(self.other_sum(p))
+    }
 }
 
-// ln_sum_exp over the pairs other than p and its mirror. At the loop's head `sum` is that of those before q.
-fn other_sum(post: &[i64], at: usize, k: usize, p: usize) -> LogProb
-    requires { TableAt post.now at k × (p < k * k) }
-    ensures { (log_of result.0 ≡ other_sum (drop at post.now) k p) × (size (log_of result.0) ≤ 2 ^ 41) }
+// q is neither the pair p nor its mirror m.
+#[tactic(auto, unfolding(crate::specs::Posteriors::is_other))]
+fn is_other(p: usize, m: usize, q: usize) -> bool
+    ensures { result ≡ is_other p m q }
 {
-    let n = k * k;
-    let m = p % k * k + p / k;
-    let mut sum = LogProb::ln_zero();
-    let mut q = 0;
-    while q < n {
-        sum = add_other(sum, LogProb(post[at + q]), p, m, q);
-        q += 1;
-    }
-    sum
+    q != p && q != m
 }
 
-// The quality of the called genotype, of row-major number p: Phred of the sum over the other pairs, capped.
-pub fn gq_of(post: &[i64], at: usize, k: usize, p: usize) -> PHREDProb
-    requires { TableAt post.now at k × (p < k * k) }
-    ensures { result.0 ≡ gq_of (drop at post.now) k p }
+// Subtracts the sum of row sums from each of the k × k entries, and writes zeros past them.
+pub fn normalize(post: &mut [i64], k: usize)
+    requires { TableIn post.old k }
+    ensures { post.new ≡ tabulate 9 (normalized post.old k) }
 {
-    capped_phred(other_sum(post, at, k, p))
+    let total = Table { post, k }.table_sum();
+    let entries = k * k;
+    for x in &mut post[0..entries] {
+        *x -= total.0;
+    }
+    post[entries..9].fill(0);
 }

@@ -5,7 +5,7 @@ ghost use Rattle.variants_and_fragments.specs.Written.{written};
 ghost use Rattle.likelihoods.specs.Inner.Likelihoods.{CallIn, CallsIn, EndsIn, LikelihoodsAre, row_call, flagged, allele_on, call_share, likelihood_at};
 
 use pileup::piles::group_start;
-use pileup::row::{Row, unpack};
+use pileup::row::Row;
 use steps::LogProb;
 
 // A read's likelihoods on the two haplotypes.
@@ -73,7 +73,7 @@ impl ReadRows<'_> {
         let mut first = LogProb(0);
         let mut second = LogProb(0);
         for word in rows {
-            let row = unpack(*word);
+            let row = Row::unpack(*word);
             first.0 += self.call_share(row, 0).0;
             second.0 += self.call_share(row, 1).0;
         }

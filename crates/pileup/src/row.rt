@@ -22,7 +22,7 @@ fn debt(qual: LogProb) -> u64
     requires { DownTo 262144 qual.0 }
     ensures { (result ≡ debt_of qual.0) × (result ≤ 262144) }
 {
-    (0 - qual.0) as u64
+    (-qual.0) as u64
 }
 
 // The quality that lies so far below 0.
@@ -30,7 +30,7 @@ fn below(debt: u64) -> LogProb
     requires { debt < 524288 }
     ensures { result.0 ≡ neg_ℤ (pos debt) }
 {
-    LogProb(0 - debt as i64)
+    LogProb(-(debt as i64))
 }
 
 // The quality that lies gap - 262144 over the one that lies `qual` below 0.
@@ -41,30 +41,35 @@ fn above(qual: u64, gap: u64) -> LogProb
     LogProb(gap as i64 - (262144 + qual) as i64)
 }
 
-// The row as one word: from the lowest bits on, 10 for the variant, 2 for the allele, 19 for how far the quality lies below 0, 20 for the gap
-// one_minus_qual - qual plus 262144, so that it is not negative, and 12 for the fragment.
-pub fn pack(row: Row) -> u64
-    requires { Packable (row_from row) }
-    ensures { result ≡ packed (row_from row) }
-{
-    let qual = debt(row.qual);
-    let other = debt(row.one_minus_qual);
-    let gap = 262144 + qual - other;
-    row.variant as u64
-        + 1024 * (row.allele as u64 + 4 * (qual + 524288 * (gap + 1048576 * row.fragment as u64)))
-}
+// Rows and piles hold a call as one word: one store makes a pile of it, and one list element is one call in the proofs (docs/DECISIONS.md, "Rows,
+// then piles, one word per call"). Methods and no `From`: a row past the largest case has no word.
+impl Row {
+    // From the lowest bits on: 10 for the variant, 2 for the allele, 19 for how far the quality lies below 0, 20 for the gap one_minus_qual - qual
+    // plus 262144, so that it is not negative, and 12 for the fragment.
+    pub fn pack(self) -> u64
+        requires { Packable (row_from self) }
+        ensures { result ≡ packed (row_from self) }
+    {
+        let qual = debt(self.qual);
+        let gap = 262144 + qual - debt(self.one_minus_qual);
+        self.variant as u64
+            + 1024
+                * (self.allele as u64
+                    + 4 * (qual + 524288 * (gap + 1048576 * self.fragment as u64)))
+    }
 
-// The row of a word. In one_minus_qual - qual all but the gap cancels.
-pub fn unpack(word: u64) -> Row
-    ensures { result ≡ held_row (unpacked word) }
-{
-    let qual = word / 4096 % 524288;
-    Row {
-        fragment: (word / 2251799813685248) as usize,
-        variant: (word % 1024) as usize,
-        allele: (word / 1024 % 4) as usize,
-        qual: below(qual),
-        one_minus_qual: above(qual, word / 2147483648 % 1048576),
+    // The row of a word. In one_minus_qual - qual all but the gap cancels.
+    pub fn unpack(word: u64) -> Row
+        ensures { result ≡ held_row (unpacked word) }
+    {
+        let qual = word / 4096 % 524288;
+        Row {
+            fragment: (word / 2251799813685248) as usize,
+            variant: (word % 1024) as usize,
+            allele: (word / 1024 % 4) as usize,
+            qual: below(qual),
+            one_minus_qual: above(qual, word / 2147483648 % 1048576),
+        }
     }
 }
 

@@ -1,6 +1,5 @@
 // Scratch arrays of an operation, as long as the largest case needs, or a small one.
 ghost use Rattle.std.specs.Prelude.{◌≡◌, length};
-ghost use Rattle.pileup.specs.Inner.Collected.{Counted};
 
 // A word per call record.
 pub fn call_words() -> [u64; 16384]
@@ -53,16 +52,4 @@ pub fn few_nine_each() -> [i64; 1152]
     ensures { length result ≡ 1152 }
 {
     [0i64; 1152]
-}
-
-// All of a become 0. At the loop's head the first i are.
-pub fn clear(a: &mut [usize])
-    ensures { Counted (λ v. 0) a.new }
-{
-    let n = a.len();
-    let mut i = 0;
-    while i < n {
-        a[i] = 0;
-        i += 1;
-    }
 }

@@ -7,7 +7,7 @@ ghost use Rattle.shuffle.specs.Answers.{orders_outcome, SweepOrders};
 ghost use Rattle.shuffle.specs.Inner.Answers.{checked_as};
 
 use crate::orders::{first_bad_order, order_count, write_orders};
-use variants_and_fragments::{Answered, Checked, Refusal, check_case};
+use variants_and_fragments::{Refusal, check_case};
 
 mod fisher_yates;
 mod orders;
@@ -26,17 +26,17 @@ pub fn check_orders(orders: &[u32], n: usize) -> Result<usize, Refusal>
 }
 
 // Fills the slice with orders of the case's variants, one after the other, from the seed as first state.
-pub fn sweep_orders(words: &[i32], bases: &[u8], seed: u64, orders: &mut [u32]) -> Answered
+pub fn sweep_orders(
+    words: &[i32],
+    bases: &[u8],
+    seed: u64,
+    orders: &mut [u32],
+) -> Result<(), Refusal>
     ensures { SweepOrders words.now bases.now seed orders.old (outcome_of result) orders.new }
 {
-    match check_case(words, bases) {
-        Checked::Refused(x) => Answered::Refused(x),
-        Checked::Accepted(s) => {
-            let Some(m) = order_count(s.n, orders.len()) else {
-                return Answered::Refused(Refusal::Orders(0));
-            };
-            write_orders(orders, s.n, m, seed);
-            Answered::Done
-        }
-    }
+    let case = check_case(words, bases)?;
+    let n = case.laid.sizes.n;
+    let m = order_count(n, orders.len()).ok_or(Refusal::Orders(0))?;
+    write_orders(orders, n, m, seed);
+    Ok(())
 }

@@ -1,9 +1,10 @@
 -- Laws of any_below, count_below and past_last: what one more number adds, and what they say of the numbers below.
 -- Assumes nothing.
-use mathlib.Core.Path.{◌≡◌, refl, sym, ◌∙◌}
-use mathlib.Core.Bool.{Bool, true, false, cond, ◌||◌, or-true}
+use mathlib.Core.Path.{◌≡◌, refl, ◌∙◌}
+use mathlib.Core.Bool.{Bool, true, false, cond, ◌||◌}
 use Prim.Native.Nat.{ℕ, zero, suc, ◌+◌, ◌-◌, ◌≤◌, ◌<◌}
 use native.Mathlib.Omega.{arith}
+use Rattle.std.proofs.lemmas.Bool.Decides.{nat_tests}
 use native.Mathlib.Decide.{ℕ_discrete}
 use Rattle.var_filter.specs.Filter.{any_below, count_below}
 use Rattle.var_filter.specs.Inner.FilterWindow.{past_last}
@@ -13,10 +14,7 @@ use Rattle.variants_and_fragments.proofs.Sums.{count_to_grows}
 pub any_one : (n : ℕ) (p : ℕ → Bool) (k : ℕ) → k < n → p k ≡ true → any_below n p ≡ true
 unfolding any_below
 any_one zero p k h e = absurd (omega arith)
-any_one (suc n) p k h e = elim (ℕ_discrete k n) [
-  | yes q ↦ rw (← q, e, or-true)
-  | no q ↦ rw (any_one n p k (omega arith) e)
-]
+any_one (suc n) p k h e = grind (arith, nat_tests, any_one n p k)
 
 pub any_none : (n : ℕ) (p : ℕ → Bool) → ((k : ℕ) → k < n → p k ≡ false) → any_below n p ≡ false
 unfolding any_below
@@ -46,11 +44,7 @@ count_le p m n h = count_to_grows m n (λ k. cond (p k) 1 0) h
 pub count_top : (n : ℕ) (p : ℕ → Bool) → count_below n p ≤ n
 unfolding count_to
 count_top zero p = omega arith
-count_top (suc n) p = go (p n) (count_top n p)
-  where
-    go : (b : Bool) → count_below n p ≤ n → count_below n p + cond b 1 0 ≤ suc n
-    go true h = omega arith
-    go false h = omega arith
+count_top (suc n) p = grind (arith, nat_tests, count_top n p)
 
 pub past_in : (n : ℕ) (p : ℕ → Bool) → p n ≡ true → past_last (suc n) p ≡ suc n
 unfolding past_last
@@ -63,40 +57,24 @@ past_out n p e = rw e
 pub past_le : (n : ℕ) (p : ℕ → Bool) → past_last n p ≤ n
 unfolding past_last
 past_le zero p = omega arith
-past_le (suc n) p = go (p n) (past_le n p)
-  where
-    go : (b : Bool) → past_last n p ≤ n → cond b (suc n) (past_last n p) ≤ suc n
-    go true h = omega arith
-    go false h = omega arith
+past_le (suc n) p = grind (arith, nat_tests, past_le n p)
 
 -- p holds of none from there on, and of the one before
 pub past_none : (n : ℕ) (p : ℕ → Bool) (k : ℕ) → past_last n p ≤ k → k < n → p k ≡ false
 unfolding past_last
 past_none zero p k h l = absurd (omega arith)
-past_none (suc n) p k h l = go (p n) refl h (past_none n p k)
-  where
-    go : (b : Bool) → p n ≡ b → cond b (suc n) (past_last n p) ≤ k → (past_last n p ≤ k → k < n → p k ≡ false) → p k ≡ false
-    go true e i rec = absurd (omega arith)
-    go false e i rec = elim (ℕ_discrete k n) [ yes q ↦ rw q e | no q ↦ rec i (omega arith) ]
+past_none (suc n) p k h l = grind (arith, nat_tests, past_none n p k)
 
 pub past_holds : (n : ℕ) (p : ℕ → Bool) → 0 < past_last n p → p (past_last n p - 1) ≡ true
 unfolding past_last
 past_holds zero p h = absurd (omega arith)
-past_holds (suc n) p h = go (p n) refl h (past_holds n p)
-  where
-    go : (b : Bool) → p n ≡ b → 0 < cond b (suc n) (past_last n p) → (0 < past_last n p → p (past_last n p - 1) ≡ true) → p (cond b (suc n) (past_last n p) - 1) ≡ true
-    go true e i rec = let q : suc n - 1 ≡ n = omega arith in rw q e
-    go false e i rec = rec i
+past_holds (suc n) p h = grind (arith, nat_tests, past_holds n p)
 
 -- all that count stand below it
 pub past_count : (n : ℕ) (p : ℕ → Bool) → count_below (past_last n p) p ≡ count_below n p
 unfolding past_last
 past_count zero p = refl
-past_count (suc n) p = go (p n) refl (past_count n p)
-  where
-    go : (b : Bool) → p n ≡ b → count_below (past_last n p) p ≡ count_below n p → count_below (cond b (suc n) (past_last n p)) p ≡ count_below (suc n) p
-    go true e rec = refl
-    go false e rec = rec ∙ sym (count_out n p e)
+past_count (suc n) p = grind (arith, nat_tests, past_count n p, count_out n p)
 
 -- where q fails up to v and is p from there to e, it counts what p counts past v
 pub count_after : (p q : ℕ → Bool) (v e : ℕ) → ((m : ℕ) → m ≤ v → q m ≡ false) → ((m : ℕ) → v < m → m < e → q m ≡ p m) → (k : ℕ) → v < k → k ≤ e → count_below k q + count_below (suc v) p ≡ count_below k p
@@ -107,5 +85,4 @@ count_after p q v e none same (suc k) h l = elim (ℕ_discrete k v) [
 ]
   where
     go : (b : Bool) → p k ≡ b → q k ≡ p k → count_below k q + count_below (suc v) p ≡ count_below k p → count_below (suc k) q + count_below (suc v) p ≡ count_below (suc k) p
-    go true t s i = omega (arith, count_in k p t, count_in k q (s ∙ t), i)
-    go false t s i = omega (arith, count_out k p t, count_out k q (s ∙ t), i)
+    go b t s i = grind (arith, nat_tests, count_in k p, count_in k q, count_out k p, count_out k q)

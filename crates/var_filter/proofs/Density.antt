@@ -6,6 +6,7 @@ use mathlib.Core.Bool.{Bool, true, false, cond, ◌&&◌, ◌||◌, and-true, an
 use mathlib.Core.List.{List}
 use Prim.Native.Nat.{ℕ, suc, ◌+◌, ◌-◌, ◌≤◌, ◌<◌}
 use native.Mathlib.Omega.{arith}
+use Rattle.std.proofs.lemmas.Bool.Decides.{nat_tests}
 use native.Mathlib.Decide.{dec_le, dec_lt}
 use borrow.Author.Tests.{lt-ltb, le-ltb, le-leb, lt-leb}
 use lib.Dec.{leb, ltb}
@@ -28,10 +29,7 @@ abbrev pub covers : Case → List Float → Limits → ℕ → ℕ → Bool
 covers case quals limits v m = any_below v (λ i. any_below (length case.variants) (λ j. leb m j && dense case quals limits i j))
 
 farther : (m a b : ℕ) → a ≤ b → (ltb m a || ltb m b) ≡ ltb m b
-farther m a b h = elim (dec_lt m a) [
-  | yes l ↦ let k : m < b = omega arith in rw (lt-ltb m a l, lt-ltb m b k)
-  | no l ↦ rw (le-ltb m a (omega arith))
-]
+farther m a b h = grind (arith, nat_tests)
 
 module _ (case : Case) (quals : List Float) (limits : Limits) (v e : ℕ) (reach : ReachTo case limits v e) where
   abbrev p : ℕ → Bool
@@ -86,10 +84,7 @@ module _ (case : Case) (quals : List Float) (limits : Limits) (v e : ℕ) (reach
 
     -- else it marks up to the last
     last_past : limits.density_count < ahead → suc v < past_last e p
-    last_past h = elim (dec_lt (suc v) (past_last e p)) [
-      | yes l ↦ l
-      | no l ↦ absurd (omega (arith, past_count e p, count_le p (past_last e p) (suc v) (omega arith)))
-    ]
+    last_past h = grind (arith, past_count e p, count_le p (past_last e p) (suc v))
 
     dense_last : p v ≡ true → limits.density_count < ahead → dense case quals limits v (past_last e p - 1) ≡ true
     unfolding dense

@@ -35,6 +35,17 @@ unfolding unless
 unless_past true n p rest x h = (refl, h)
 unless_past false n p rest x h = absurd (not_done h)
 
+-- what follows matters only where the test holds
+pub unless_stops : {X : Type 0} {a p : ℕ} (b : Bool) (n q : ℕ) (rest : Outcome X) → ◌≡◌ {A = Outcome Unit} (refused a p) (unless b n q (done tt)) → ◌≡◌ {A = Outcome X} (refused a p) (unless b n q rest)
+unfolding unless
+unless_stops true n q rest e = absurd (not_done e)
+unless_stops {X} {a} {p} false n q rest e = let x : a ≡ n = cc in let y : p ≡ q = cc in rw (x, y) refl
+
+pub unless_passes : {X : Type 0} (b : Bool) (n q : ℕ) (rest : Outcome X) → ◌≡◌ {A = Outcome Unit} (done tt) (unless b n q (done tt)) → rest ≡ unless b n q rest
+unfolding unless
+unless_passes true n q rest e = refl
+unless_passes false n q rest e = absurd (not_done (sym e))
+
 -- ---- a test at each of some numbers
 module _ {X : Type 0} (n : ℕ) (test : ℕ → Bool) (i k : ℕ) (rest : Outcome X) where
   pub each_on : i + k ≤ first_fail_from test i k → rest ≡ each n test i k rest
@@ -58,24 +69,14 @@ module _ {X : Type 0} (n : ℕ) (test : ℕ → Bool) (i k : ℕ) (rest : Outcom
   each_holds good = each_on (all_from test i k good)
 
 -- what follows matters only where each holds
-module _ (n : ℕ) (test : ℕ → Bool) (i k : ℕ) where
-  past : {X : Type 0} {a p : ℕ} (b : Bool) (m q : ℕ) (rest : Outcome X) → ◌≡◌ {A = Outcome Unit} (refused a p) (unless b m q (done tt)) → ◌≡◌ {A = Outcome X} (refused a p) (unless b m q rest)
-  unfolding unless
-  past true m q rest e = absurd (not_done e)
-  past {X} {a} {p} false m q rest e = let x : a ≡ m = cc in let y : p ≡ q = cc in rw (x, y) refl
-
-  on : {X : Type 0} (b : Bool) (m q : ℕ) (rest : Outcome X) → ◌≡◌ {A = Outcome Unit} (done tt) (unless b m q (done tt)) → rest ≡ unless b m q rest
-  unfolding unless
-  on true m q rest e = refl
-  on false m q rest e = absurd (not_done (sym e))
-
-  pub each_stops : {X : Type 0} (rest : Outcome X) (x : Refusal) → refusal x ≡ each {X = Unit {0}} n test i k (done tt) → refusal x ≡ each n test i k rest
+module _ {X : Type 0} (n : ℕ) (test : ℕ → Bool) (i k : ℕ) (rest : Outcome X) where
+  pub each_stops : (x : Refusal) → refusal x ≡ each {X = Unit {0}} n test i k (done tt) → refusal x ≡ each n test i k rest
   unfolding each
-  each_stops rest x e = past _ _ _ rest e
+  each_stops x e = unless_stops _ _ _ rest e
 
-  pub each_passes : {X : Type 0} (rest : Outcome X) → ◌≡◌ {A = Outcome Unit} (done tt) (each n test i k (done tt)) → rest ≡ each n test i k rest
+  pub each_passes : ◌≡◌ {A = Outcome Unit} (done tt) (each n test i k (done tt)) → rest ≡ each n test i k rest
   unfolding each
-  each_passes rest e = on _ _ _ rest e
+  each_passes e = unless_passes _ _ _ rest e
 
 -- ---- 10
 module _ {X : Type 0} (slices : List (ℕ × ℕ)) (rest : Outcome X) where
@@ -90,6 +91,19 @@ module _ {X : Type 0} (slices : List (ℕ × ℕ)) (rest : Outcome X) where
   pub enough_past : (x : X) → long_enough slices rest ≡ done x → (smallest_short slices ≡ 0) × (rest ≡ done x)
   unfolding long_enough
   enough_past x h = let p = unless_past _ 10 _ rest x h in (eqb-true _ _ p.0, p.1)
+
+  -- what follows matters only where each is long enough
+  pub enough_stops : (x : Refusal) → refusal x ≡ long_enough {X = Unit {0}} slices (done tt) → refusal x ≡ long_enough slices rest
+  unfolding long_enough
+  enough_stops x e = unless_stops _ _ _ rest e
+
+  pub enough_passes : ◌≡◌ {A = Outcome Unit} (done tt) (long_enough slices (done tt)) → rest ≡ long_enough slices rest
+  unfolding long_enough
+  enough_passes e = unless_passes _ _ _ rest e
+
+-- none is too short
+pub enough_fits : (slices : List (ℕ × ℕ)) → ◌≡◌ {A = Outcome Unit} (done tt) (long_enough slices (done tt)) → smallest_short slices ≡ 0
+enough_fits slices e = (enough_past slices (done tt) tt (sym e)).0
 
 -- ---- an outcome before another one
 pub then_on : {X Y : Type 0} (o : Outcome X) (next : X → Outcome Y) (x : X) → o ≡ done x → next x ≡ and_then o next

@@ -59,17 +59,17 @@ pub enum Refusal {
     Room(usize),
 }
 
-// The filters that a variant fails.
-#[derive(Clone, Copy)]
+// The filters that a variant fails, each with its bit.
+#[derive(Clone, Copy, PartialEq, Eq, Debug)]
 pub enum VarFilter {
-    Pass,
-    Density,
-    Depth,
-    DensityAndDepth,
-    StrandBias,
-    DensityAndStrandBias,
-    DepthAndStrandBias,
-    DensityAndDepthAndStrandBias,
+    Pass = 0,
+    Density = 1,
+    Depth = 2,
+    DensityAndDepth = 3,
+    StrandBias = 4,
+    DensityAndStrandBias = 5,
+    DepthAndStrandBias = 6,
+    DensityAndDepthAndStrandBias = 7,
 }
 
 // The check of a case: numbers 1 to 5 of document 01's table as amended by requests 1, 3 and 5, in order, or the case.

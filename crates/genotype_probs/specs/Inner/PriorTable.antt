@@ -1,7 +1,7 @@
 -- How the code holds the priors: letters as numbers, and the 4 by 36 table. Only contracts of inner functions go by this file;
 -- `table_holds` (proofs/HeldPriors.antt) ties it to `get_prior`. Assumes nothing.
-use Rattle.std.specs.Prelude.{cond, List, ℕ, zero, suc, ◌+◌, ◌*◌, ◌/◌, ◌%◌, eqb, ltb, ℤ, pos, ◌+ℤ◌, get_or}
-use Rattle.variants_and_fragments.specs.Case.{Case, Variant, allele_count, allele_of, variant_of}
+use Rattle.std.specs.Prelude.{cond, List, ℕ, zero, suc, ◌+◌, ◌*◌, ◌/◌, ◌%◌, eqb, ℤ, pos, ◌+ℤ◌, get_or}
+use Rattle.variants_and_fragments.specs.Case.{Variant, allele_of}
 use Rattle.variants_and_fragments.specs.Decode.{tabulate}
 use Rattle.genotype_probs.specs.declared.Rates.{Rates}
 use Rattle.genotype_probs.specs.declared.letters.Compared.{Compared}
@@ -58,13 +58,6 @@ lookup table reference first second =
     let two = compared reference second one.ref in
     table_value table (base_number two.ref) (letter_number one.letter) (letter_number two.letter)
 
--- `get_prior`, `all_priors` and `prior_at`, looked up
+-- `get_prior`, looked up
 unfoldable pub table_prior : List ℤ → Variant → ℕ → ℕ → ℤ
 table_prior table variant i j = lookup table (allele_of variant 0) (allele_of variant i) (allele_of variant j)
-
-unfoldable pub table_priors : List ℤ → Variant → ℕ → ℤ
-table_priors table variant p =
-    let k = allele_count variant in cond (ltb p (k * k)) (table_prior table variant (p / k) (p % k)) (pos 0)
-
-unfoldable pub table_prior_at : List ℤ → Case → ℕ → ℤ
-table_prior_at table case e = table_priors table (variant_of case (e / 9)) (e % 9)

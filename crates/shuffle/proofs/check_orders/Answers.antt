@@ -2,14 +2,12 @@
 use Rattle.std.proofs.Common.{◌≡◌, ◌<◌, length, rules}
 use Rattle.std.proofs.lemmas.Option.{MatchOption-at_some, MatchOption-at_none}
 use Rattle.shuffle.specs.Orders.{order_count}
-use Rattle.shuffle.specs.Inner.Answers.{checked_as}
 use Rattle.shuffle.proofs.Slices.{count_fills}
 use Rattle.shuffle.proofs.Outcomes.{no_orders, bad_order, good_orders}
 use Rattle.shuffle.proofs.check_orders.Goals as goal
 use Rattle.shuffle.proofs.check_orders.Goals.{In_ok-m}
 
 pub returns-in_err-m : goal.returns-in_err-m
-unfolding checked_as
 returns-in_err-m c =
     let none = no_orders c.args.n c.args.orders.now (MatchOption-at_none _ _ c.in_err-m.ensures.ok_part c.order_count.ensures) in
     search (rules, none)
@@ -22,11 +20,9 @@ pub first_bad_order-requires-clause-n_value : goal.first_bad_order-requires-clau
 first_bad_order-requires-clause-n_value c = let m = counted (goal.at.first_bad_order-requires-clause-n_value c).In_ok-m in count_fills _ _ _ m.1 m.0
 
 pub returns-in-Some : goal.returns-in-Some
-unfolding checked_as
 returns-in-Some c =
     let m = counted (goal.at.returns-in-Some c).In_ok-m in
     bad_order _ _ _ m.1 m.0 _ c.in-Some.ensures.0 c.in-Some.ensures.1
 
 pub returns-in-None : goal.returns-in-None
-unfolding checked_as
 returns-in-None c = let m = counted (goal.at.returns-in-None c).In_ok-m in good_orders _ _ _ m.1 m.0 c.in-None.ensures

@@ -1,33 +1,50 @@
--- The outcome of the case's check, then that of the slice's length: each return is one law of outcomes. Assumes nothing.
-use Rattle.std.proofs.Common.{ltb, ◌∙◌, arith, le-ltb, lt-ltb, length}
-use Rattle.variants_and_fragments.proofs.Accepted.{case_in}
+-- Each return is one law of the outcome, and of what is promised. Assumes nothing.
+use Rattle.std.proofs.Common.{◌≡◌, ℕ, ◌<◌, Option, None, Err, length, ◌∙◌}
+use Rattle.std.specs.Option.{ok_or}
+use Rattle.std.proofs.lemmas.Option.{MatchOption-at_some, MatchOption-at_none}
+use Rattle.std.proofs.lemmas.Result.{err_from_is_err_and}
+use Rattle.variants_and_fragments.specs.declared.Refusal.{Refusal}
+use Rattle.variants_and_fragments.specs.declared.Refusal.TheVariants.{Orders}
 use Rattle.variants_and_fragments.proofs.Decoded.{variants_are}
-use Rattle.variants_and_fragments.proofs.Outcomes.{unless_on, unless_at, case_stops, case_past, is_done, refuses, does}
+use Rattle.variants_and_fragments.proofs.Outcomes.{case_stops, promise_refused, promise_done}
 use Rattle.shuffle.specs.Orders.{order_count}
 use Rattle.shuffle.specs.Answers.{sweep_orders_outcome, sweep_orders_written}
+use Rattle.shuffle.proofs.Outcomes.{no_room, some_room}
 use Rattle.shuffle.proofs.Slices.{count_fills}
 use Rattle.shuffle.proofs.sweep_orders.Goals as goal
+use Rattle.shuffle.proofs.sweep_orders.Goals.{In_ok-m}
 
-pub returns-in-Refused : goal.returns-in-Refused
+pub returns-in_err-case : goal.returns-in_err-case
 unfolding sweep_orders_outcome
-returns-in-Refused c = refuses _ (case_stops _ _ _ _ c.in-Refused.ensures)
+returns-in_err-case c =
+    let p = err_from_is_err_and c.from_residual.result c.from_residual.ensures.1 in rw (p.1, p.2)
+    (promise_refused _ (case_stops _ _ _ _ c.in_err-case.ensures.outcome))
 
-pub returns-in_default : goal.returns-in_default
-unfolding sweep_orders_outcome
-returns-in_default c =
-    let m = order_count c.in-Accepted.s.n (length c.args.orders.now) in
-    refuses _ (unless_at (ltb 0 m) 8 0 _ (le-ltb 0 m (omega (arith, c.in_default.ensures))) ∙ case_past _ _ _ _ c.in-Accepted.ensures)
+-- the error that takes the place of none
+ok_or_none : (o : Option ℕ) (x y : Refusal) → o ≡ None → Err x ≡ ok_or o y → x ≡ y
+ok_or_none o x y n e = cc
+
+pub returns-in_err-m : goal.returns-in_err-m
+returns-in_err-m c =
+    let none = MatchOption-at_none _ _ c.in_err-m.ensures.ok_part c.order_count.ensures in
+    let x = ok_or_none _ _ (Orders 0) c.in_err-m.ensures.ok_part c.in_err-m.ensures.value in
+    let p = err_from_is_err_and c.from_residual-in_err-m.result c.from_residual-in_err-m.ensures.1 in rw (p.1, p.2, x)
+    (promise_refused (Orders 0) (no_room _ _ _ c.in_ok-case.case c.in_ok-case.ensures.outcome none))
+
+-- past the count
+counted : (c : In_ok-m) → (0 < c.in_ok-m.m) × (c.in_ok-m.m ≡ order_count c.in_ok-case.case.laid.sizes.n (length c.args.orders.now))
+counted c = MatchOption-at_some _ _ c.in_ok-m.m c.in_ok-m.ensures.ok_part c.order_count.ensures
 
 pub write_orders-requires-clause-n_bound : goal.write_orders-requires-clause-n_bound
-write_orders-requires-clause-n_bound c = (case_in _ _ _ (is_done _ _ _ c.in-Accepted.ensures)).sized.n_top
+write_orders-requires-clause-n_bound c = c.in_ok-case.case.laid.sized.n_top
 
 pub write_orders-requires-clause-n_value : goal.write_orders-requires-clause-n_value
-write_orders-requires-clause-n_value c = count_fills _ _ _ c.in-Some.ensures.1 c.in-Some.ensures.0
+write_orders-requires-clause-n_value c =
+    let m = counted (goal.at.write_orders-requires-clause-n_value c).In_ok-m in count_fills _ _ _ m.1 m.0
 
-pub returns-in-Some : goal.returns-in-Some
-unfolding sweep_orders_outcome sweep_orders_written
-returns-in-Some c =
-    let m = order_count c.in-Accepted.s.n (length c.args.orders.now) in
-    let n = variants_are (case_in _ _ _ (is_done _ _ _ c.in-Accepted.ensures)) c.args.bases.now in
-    does (unless_on (ltb 0 m) 8 0 _ (lt-ltb 0 m (omega (arith, c.in-Some.ensures))) ∙ case_past _ _ _ _ c.in-Accepted.ensures)
-    (c.write_orders.ensures ∙ rw (c.in-Some.ensures.1, n))
+pub returns : goal.returns
+unfolding sweep_orders_written
+returns c =
+    let m = counted (goal.at.returns c).In_ok-m in
+    let n = rw c.in_ok-case.ensures.lent.0 at (variants_are c.in_ok-case.case.case_in c.args.bases.now) in
+    promise_done tt (some_room _ _ _ c.in_ok-case.case c.in_ok-case.ensures.outcome (rw m.1 at m.0)) (c.write_orders.ensures ∙ rw (m.1, n))

@@ -61,7 +61,8 @@ distance_requires c κs = (first_small c.before, second_small c.before.before, t
 mixes_of_requires : tie.Need-mixes_of-requires
 mixes_of_requires c κs =
     let l = c.before.before in
-    let b = l.before in (rw (distance_is c) (distance_size l.likelihood_at.result.0 b.likelihood_at-b.result.0 (to_z w64 (of_z w64 c.before.turned.result)) (first_small l) (second_small b) (turned_small c.before)),
+    let b = l.before in (
+      rw (distance_is c) (distance_size l.likelihood_at.result.0 b.likelihood_at-b.result.0 (to_z w64 (of_z w64 c.before.turned.result)) (first_small l) (second_small b) (turned_small c.before)),
       gap_small b.before,
     )
 

@@ -1,0 +1,11 @@
+-- The places of the first v variants are written, and `at` is where the bytes of variant v start.
+use Rattle.std.proofs.Common.{◌≡◌, ◌*◌}
+use Rattle.variants_and_fragments.specs.Alleles.{alleles_start}
+use Rattle.variants_and_fragments.specs.Decode.{decode}
+use Rattle.variants_and_fragments.specs.Written.{written}
+use Rattle.genotype_probs.specs.Priors.{prior_at}
+use Rattle.genotype_probs.proofs.priors.write_priors.Given as goal
+
+abbrev pub invariant-loop-v : goal.invariant-loop-v
+invariant-loop-v l =
+    (l.at ≡ alleles_start l.case.laid.words.now l.v) × (l.priors ≡ written (prior_at l.table.rates.rates (decode l.case.laid.words.now l.case.bases.now)) (9 * l.v) l.fn.priors)

@@ -1,0 +1,32 @@
+-- The sum of two rates does not wrap, and is below 0.
+use Rattle.std.proofs.Common.{◌≡◌, ◌+◌, ◌<◌, ◌^◌, nat_abs, ◌+ℤ◌, ap, ◌∙◌, arith, w64}
+use Rattle.steps.proofs.Signed.{plus_fits, plus_read, add_abs}
+use Rattle.genotype_probs.specs.declared.Rates.{Rates}
+use Rattle.genotype_probs.specs.declared.accepted.AcceptedRates.{AcceptedRates}
+use Rattle.genotype_probs.specs.Rates.{het_snv_rate, het_indel_rate}
+use Rattle.genotype_probs.specs.Priors.{one_minus_exp}
+use Rattle.genotype_probs.proofs.RateLaws.{rates_in, rate_size, rate_below, below_sum}
+use Rattle.genotype_probs.proofs.table.reference_haploid.Goals as goal
+
+small : (r : AcceptedRates) → nat_abs (het_snv_rate r.rates) + nat_abs (het_indel_rate r.rates) < 2 ^ 60
+small r =
+    let g = rates_in r.rates r.accepted in
+    omega (arith, rate_size (het_snv_rate r.rates) g.het_snv, rate_size (het_indel_rate r.rates) g.het_indel)
+
+pub overflow_add-rates : goal.overflow_add-rates
+overflow_add-rates c =
+    let r = c.args.rates.rates in let h = small c.args.rates in plus_fits w64 (het_snv_rate r) (het_indel_rate r) (omega arith)
+
+pub one_minus_exp-requires : goal.one_minus_exp-requires
+one_minus_exp-requires c =
+    let r = c.args.rates.rates in
+    let g = rates_in r c.args.rates.accepted in
+    let h = small c.args.rates in
+    rw (plus_read w64 (het_snv_rate r) (het_indel_rate r) (omega arith))
+    (omega (arith, add_abs (het_snv_rate r) (het_indel_rate r)), below_sum (het_snv_rate r) (het_indel_rate r) (rate_below (het_snv_rate r) g.het_snv) (rate_below (het_indel_rate r) g.het_indel))
+
+pub returns : goal.returns
+returns c =
+    let r = c.args.rates.rates in
+    let h = small c.args.rates in
+    c.one_minus_exp.ensures ∙ ap one_minus_exp (plus_read w64 (het_snv_rate r) (het_indel_rate r) (omega arith))
