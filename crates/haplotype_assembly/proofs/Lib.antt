@@ -1,6 +1,4 @@
 pub mod Cited
-pub mod Ranges
-pub mod Writes
 pub mod Pairs
 pub mod Names
 pub mod Decodes

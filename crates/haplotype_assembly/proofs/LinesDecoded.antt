@@ -20,7 +20,7 @@ use Rattle.variants_and_fragments.specs.Pileup.{Row, row_of, only, usable_calls}
 use Rattle.variants_and_fragments.specs.Inner.Pileup.{fragment_rows}
 use Rattle.variants_and_fragments.specs.Decode.{tabulate_from, tabulate, fragment_from, decode}
 use Rattle.pileup.specs.Inner.Packed.{RowIn, Grouped}
-use Rattle.haplotype_assembly.specs.declared.tally.Counted.{Counted}
+use Rattle.haplotype_assembly.specs.declared.Counted.{Counted}
 use Rattle.haplotype_assembly.specs.Phase.{phased_rule}
 use Rattle.haplotype_assembly.specs.Lines.{line_calls, line_of, has_line, lines_from, line_count, flist_buffer, flist_lines}
 use Rattle.haplotype_assembly.specs.FlistBuffer.{Amount, amount_of, generate_flist_buffer_written}
@@ -28,17 +28,16 @@ use Rattle.haplotype_assembly.specs.Inner.LinesRead.{shown_calls, shown_fragment
 use Rattle.haplotype_assembly.proofs.Cited.{fragment_here, sizes_are, group_rows, group_in}
 use Rattle.haplotype_assembly.proofs.Decodes.{accepted_in, count_is, rule_is}
 
+-- where the rows of fragments stand
+pub given : (s : Sizes) {group : ℕ → List Row} {rows ends : List ℕ} → s.n ≤ 1024 → s.f ≤ 4096 → Grouped s.n s.f s.f group ends rows → LinesGiven s rows ends
+given s n_top f_top grouped = record { ends_long = grouped.ends_long; rises = grouped.rises; rows_in = λ f l. group_in grouped n_top f_top f l }
+
 module _ (w : List ℤ) (b : List ℕ) (s : Sizes) (h : check_case_outcome w b ≡ done s) (rows ends : List ℕ) (grouped : Grouped s.n s.f s.f (fragment_rows (decode w b)) ends rows) where
   abbrev case : Case
   case = decode w b
 
   abbrev group : ℕ → List Row
   group f = fragment_rows case f
-
-  pub given : LinesGiven w s rows ends
-  given =
-      let k = accepted_in w b s h in
-      record { case_in = k; ends_long = grouped.ends_long; rows_in = λ f l. group_in grouped k.sized.n_top k.sized.f_top f l }
 
   -- ---- the calls of a line
   abbrev picks : Fragment → Call → Bool

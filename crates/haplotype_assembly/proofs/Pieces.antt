@@ -52,6 +52,13 @@ line_length n head calls =
     let quals = map call_quality calls ++ (0 ∷ []) in
     omega (arith, length-append (header_of head) (allele_bytes n calls ++ (space ∷ quals)), length-append (allele_bytes n calls) (space ∷ quals), length-append (map call_quality calls) (0 ∷ []))
 
+-- its room holds its header, and then what it shows, said otherwise
+pub header_fits : (n : ℕ) (head : Head) (calls : List Call) (at room : ℕ) → at + length (line_with n head calls) ≤ room → at + length (header_of head) ≤ room
+header_fits n head calls at room h = omega (arith, line_length n head calls)
+
+pub line_room : (n : ℕ) (head : Head) {calls a b : List Call} → a ≡ calls → b ≡ calls → length (line_with n head calls) ≡ length (header_of head) + length (allele_bytes n a) + length (map call_quality b) + 2
+line_room n head {calls} p q = rw (p, q) (line_length n head calls)
+
 -- ---- a fragment's line, where it has one
 module _ (n : ℕ) (single : Bool) (id : ℕ) (fragment : Fragment) (t : Tally) (e : Tallied n fragment.calls t) where
   pub line_none : has_line single t.calls ≡ false → fragment_line n single id fragment ≡ []
@@ -70,12 +77,28 @@ module _ (n : ℕ) (single : Bool) (id : ℕ) (fragment : Fragment) (t : Tally) 
   unfolding has_one
   one_some h = rw (← e.calls_are, h)
 
+  -- with the header that the code writes
+  pub line_shown : has_line single t.calls ≡ true → (strand : ℕ) → strand ≡ fragment.strand → fragment_line n single id fragment ≡ line_with n (record { blocks = t.blocks; id = id; strand = strand }) fragment.calls
+  line_shown h strand s = line_some h ∙ rw (← e.blocks_are, ← s)
+
+  pub line_fits : has_line single t.calls ≡ true → (strand : ℕ) → strand ≡ fragment.strand → (at room : ℕ) → at + length (fragment_line n single id fragment) ≤ room
+      → at + length (line_with n (record { blocks = t.blocks; id = id; strand = strand }) fragment.calls) ≤ room
+  line_fits h strand s at room fits = rw (line_shown h strand s) at fits
+
   -- its length is known from the tally
   pub line_count : length (line_with n (head_at n id fragment) fragment.calls) ≡ length (decimal t.blocks) + length (decimal id) + (t.bytes + t.calls + 5)
   line_count = omega (arith, line_length n (head_at n id fragment) fragment.calls, header_length (head_at n id fragment), ap (λ (x : ℕ). length (decimal x)) e.blocks_are, e.bytes_are, e.calls_are, length-map fragment.calls call_quality)
 
-  pub line_top : id ≤ 4096 → SmallTally t 16384 → length (line_with n (head_at n id fragment) fragment.calls) ≤ 33554432
-  line_top h i = omega (arith, line_count, decimal_top id, decimal_top t.blocks, i.calls_top, i.blocks_top, i.bytes_top)
+-- a line's length is small
+pub line_top : (t : Tally) (id bytes : ℕ) → bytes ≡ length (decimal t.blocks) + length (decimal id) + (t.bytes + t.calls + 5) → id ≤ 4096 → SmallTally t 16384 → bytes ≤ 33554432
+line_top t id bytes q h i = omega (arith, decimal_top id, decimal_top t.blocks, i.calls_top, i.blocks_top, i.bytes_top)
+
+-- lines counted
+pub no_more : (lines more : ℕ) → more ≡ 0 → lines ≡ lines + more
+no_more lines more e = omega arith
+
+pub one_more : (lines more : ℕ) → more ≡ 1 → lines + 1 ≡ lines + more
+one_more lines more e = omega arith
 
 pub one_top : (single : Bool) (fragment : Fragment) → has_one single fragment ≤ 1
 unfolding has_one
@@ -84,3 +107,6 @@ one_top single fragment = go (has_line single (length fragment.calls))
     go : (b : Bool) → cond b 1 0 ≤ 1
     go true = omega arith
     go false = omega arith
+
+pub few_more : (single : Bool) (fragment : Fragment) (lines f after : ℕ) → lines ≤ f → after ≡ lines + has_one single fragment → after ≤ f + 1
+few_more single fragment lines f after h e = omega (arith, one_top single fragment)

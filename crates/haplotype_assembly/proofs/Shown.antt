@@ -1,36 +1,101 @@
--- The calls that a line shows of the rows at p..e: the row read at p, where its variant meets the phased rule, and those of the rows after it.
+-- The calls that a line shows: the first of its rows, where its variant meets the phased rule, and those of the rows after it.
 -- Assumes nothing.
-use mathlib.Core.Path.{◌≡◌, sym, ap, ◌∙◌}
-use mathlib.Core.Bool.{Bool, true, false}
-use mathlib.Core.List.{List, [], ◌∷◌}
-use Prim.Native.Nat.{ℕ, ◌+◌, ◌≤◌, ◌<◌}
+use mathlib.Core.Path.{◌≡◌, refl, sym, ap, ◌∙◌}
+use mathlib.Core.Bool.{Bool, true, false, cond}
+use mathlib.Core.List.{List, [], ◌∷◌, map}
+use Prim.Native.Nat.{ℕ, zero, suc, ◌+◌, ◌-◌, ◌≤◌, ◌<◌}
+use native.Mathlib.Omega.{arith}
 use lib.IntN.{ℤ}
+use lib.ListN.{length, get_or, take, drop, length-map}
+use Rattle.std.proofs.Common.{length-take}
+use lib.Seq.{drop-cons}
+use Rattle.variants_and_fragments.specs.declared.Sizes.{Sizes}
+use Rattle.variants_and_fragments.specs.Decode.{tabulate_from}
+use Rattle.variants_and_fragments.specs.Inner.Case.{All, end, also}
 use Rattle.variants_and_fragments.specs.Pileup.{Row}
-use Rattle.pileup.specs.Inner.Packed.{row_at, RowIn, RowsIn, held_row, row_from}
+use Rattle.variants_and_fragments.proofs.Alls.{all_from}
 use Rattle.pileup.specs.declared.row.Row.{Row as RowHeld}
+use Rattle.pileup.specs.Inner.Packed.{held_row, RowIn, unpacked, row_at, rows_at, group_start}
 use Rattle.haplotype_assembly.specs.Inner.PhaseRead.{rule_at}
-use Rattle.haplotype_assembly.specs.Inner.LinesRead.{shown_calls, shown_at}
-use Rattle.haplotype_assembly.proofs.Cited.{table_more, table_end}
+use Rattle.haplotype_assembly.specs.Inner.LinesRead.{shown_calls, shown_at, LinesGiven, call_of, ShownIn}
 
-pub shown_end : (w : List ℤ) (rows : List ℕ) (p e : ℕ) → e ≤ p → shown_at w rows p e ≡ []
+module _ (w : List ℤ) where
+  pub shown_on : (row : Row) (rows : List Row) → rule_at w row.call.variant ≡ true → shown_calls w (row ∷ rows) ≡ row.call ∷ shown_calls w rows
+  unfolding shown_calls
+  shown_on row rows e = rw e
+
+  pub shown_skip : (row : Row) (rows : List Row) → rule_at w row.call.variant ≡ false → shown_calls w (row ∷ rows) ≡ shown_calls w rows
+  unfolding shown_calls
+  shown_skip row rows e = rw e
+
+  -- what is known of them, and how many they are
+  pub shown_in : {n f : ℕ} → n ≤ 1024 → (rows : List Row) → All (RowIn n f) rows → All ShownIn (shown_calls w rows)
+  unfolding shown_calls
+  shown_in h [] end = end
+  shown_in h (row ∷ rows) (also i is) = go (rule_at w row.call.variant) (shown_in h rows is)
+    where
+      go : (b : Bool) → All ShownIn (shown_calls w rows) → All ShownIn (cond b (row.call ∷ shown_calls w rows) (shown_calls w rows))
+      go true rest = also (record { variant_top = omega (arith, i.variant_in); allele_in = i.allele_in; qual_in = i.qual_in }) rest
+      go false rest = rest
+
+  pub shown_few : (rows : List Row) → length (shown_calls w rows) ≤ length rows
+  unfolding shown_calls
+  shown_few [] = omega arith
+  shown_few (row ∷ rows) = go (rule_at w row.call.variant) (shown_few rows)
+    where
+      go : (b : Bool) → length (shown_calls w rows) ≤ length rows → length (cond b (row.call ∷ shown_calls w rows) (shown_calls w rows)) ≤ suc (length rows)
+      go true h = omega arith
+      go false h = omega arith
+
+-- the first of them, and the others
+pub all_first : {X : Type 0} {P : X → Type 0} {xs : List X} {x : X} {rest : List X} → xs ≡ x ∷ rest → All P xs → P x × All P rest
+all_first {P = P} {x = x} {rest = rest} e all = go (rw e at all)
+  where
+    go : All P (x ∷ rest) → P x × All P rest
+    go (also p ps) = (p, ps)
+
+-- off words, the first of them being `word`
+module _ (w : List ℤ) {words : List ℕ} {word : ℕ} {rest : List ℕ} (e : words ≡ word ∷ rest) where
+  pub first_in : {P : Row → Type 0} → All P (map unpacked words) → P (unpacked word) × All P (map unpacked rest)
+  first_in {P} all = all_first {P = P} (ap (map unpacked) e) all
+
+  module _ (row : RowHeld) (read : row ≡ held_row (unpacked word)) (rule : Bool) (is : rule ≡ rule_at w row.variant) where
+    rule_here : rule_at w (unpacked word).call.variant ≡ rule
+    rule_here = ap (λ (x : RowHeld). rule_at w x.variant) (sym read) ∙ sym is
+
+    pub next_on : rule ≡ true → shown_calls w (map unpacked words) ≡ call_of row ∷ shown_calls w (map unpacked rest)
+    next_on t = ap (λ (x : List ℕ). shown_calls w (map unpacked x)) e ∙ shown_on w _ _ (rule_here ∙ t) ∙ ap (λ (x : RowHeld). call_of x ∷ shown_calls w (map unpacked rest)) (sym read)
+
+    pub next_skip : rule ≡ false → shown_calls w (map unpacked words) ≡ shown_calls w (map unpacked rest)
+    next_skip t = ap (λ (x : List ℕ). shown_calls w (map unpacked x)) e ∙ shown_skip w _ _ (rule_here ∙ t)
+
+pub next_none : (w : List ℤ) (words : List ℕ) → length words ≡ 0 → shown_calls w (map unpacked words) ≡ []
 unfolding shown_calls
-shown_end w rows p e h = ap (shown_calls w) (table_end (row_at rows) e p h)
+next_none w [] e = refl
+next_none w (word ∷ words) e = absurd (omega arith)
 
-module _ (rows : List ℕ) (p : ℕ) (row : RowHeld) (read : row ≡ held_row (row_at rows p)) where
-  here : row_from row ≡ row_at rows p
-  here = ap row_from read
+-- rows read at a.. are those of the words that stand there
+pub rows_slice : (words : List ℕ) (n a : ℕ) → a + n ≤ length words → tabulate_from (row_at words) a n ≡ map unpacked (take n (drop a words))
+unfolding tabulate_from
+rows_slice words zero a h = refl
+rows_slice words (suc n) a h = let l : a < length words = omega arith in rw (drop-cons words a 0 l) (ap (λ (t : List Row). row_at words a ∷ t) (rows_slice words n (suc a) (omega arith)))
 
-  pub read_in : {n f a e : ℕ} → RowsIn n f rows a e → a ≤ p → p < e → RowIn n f (row_from row)
-  read_in i l h = rw here (i.rows_in p l h)
+-- what a fragment's line shows, off the words of its rows
+module _ {s : Sizes} {rows ends : List ℕ} (g : LinesGiven s rows ends) (f : ℕ) (h : f < s.f) where
+  words : List ℕ
+  words = take (get_or ends f 0 - group_start ends f) (drop (group_start ends f) rows)
 
-  module _ (w : List ℤ) (e : ℕ) (h : p < e) (rule : Bool) (is : rule ≡ rule_at w row.variant) where
-    rule_here : rule_at w (row_at rows p).call.variant ≡ rule
-    rule_here = ap (λ (x : Row). rule_at w x.call.variant) (sym here) ∙ sym is
+  words_are : rows_at rows (group_start ends f) (get_or ends f 0) ≡ map unpacked words
+  unfolding words
+  words_are = rows_slice rows (get_or ends f 0 - group_start ends f) (group_start ends f) (omega (arith, g.rises f h, (g.rows_in f h).long))
 
-    pub shown_on : rule ≡ true → shown_at w rows p e ≡ (row_from row).call ∷ shown_at w rows (p + 1) e
-    unfolding shown_calls
-    shown_on t = ap (shown_calls w) (table_more (row_at rows) e p h) ∙ rw (rule_here, t) (ap (λ (x : Row). x.call ∷ shown_at w rows (p + 1) e) (sym here))
+  pub rows_all : All (RowIn s.n s.f) (map unpacked (take (get_or ends f 0 - group_start ends f) (drop (group_start ends f) rows)))
+  unfolding words
+  rows_all = rw words_are at (all_from {P = RowIn s.n s.f} (row_at rows) (group_start ends f) (get_or ends f 0 - group_start ends f) (λ k l m. (g.rows_in f h).rows_in k l (omega (arith, g.rises f h))))
 
-    pub shown_skip : rule ≡ false → shown_at w rows p e ≡ shown_at w rows (p + 1) e
-    unfolding shown_calls
-    shown_skip t = ap (shown_calls w) (table_more (row_at rows) e p h) ∙ rw (rule_here, t)
+  pub shown_words : (w : List ℤ) → shown_calls w (map unpacked (take (get_or ends f 0 - group_start ends f) (drop (group_start ends f) rows))) ≡ shown_at w rows (group_start ends f) (get_or ends f 0)
+  unfolding words
+  shown_words w = ap (shown_calls w) (sym words_are)
+
+  pub words_few : length (map unpacked (take (get_or ends f 0 - group_start ends f) (drop (group_start ends f) rows))) ≤ 16384
+  words_few = simp (length-map, length-take) (omega (arith, (g.rows_in f h).few))

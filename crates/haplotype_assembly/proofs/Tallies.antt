@@ -3,19 +3,19 @@
 use mathlib.Core.Path.{◌≡◌, ap}
 use mathlib.Core.Bool.{Bool, true, false, cond}
 use mathlib.Core.List.{List, [], ◌∷◌}
-use Prim.Native.Nat.{ℕ, suc, ◌+◌, ◌-◌, ◌≤◌, ◌<◌}
+use Prim.Native.Nat.{ℕ, suc, ◌+◌, ◌*◌, ◌≤◌, ◌<◌}
 use native.Mathlib.Omega.{arith}
 use native.Mathlib.Numerals.{add-one}
 use borrow.Author.Tests.{eq-eqb, ne_eqb}
 use lib.Dec.{eqb}
-use lib.IntN.{ℤ}
 use lib.ListN.{length, length-append}
 use Rattle.variants_and_fragments.specs.Case.{Call}
+use Rattle.variants_and_fragments.specs.Inner.Case.{All}
 use Rattle.haplotype_assembly.specs.declared.tally.Tally.{Tally}
 use Rattle.haplotype_assembly.specs.Lines.{digit, decimal, blocks, block_start, allele_bytes}
-use Rattle.haplotype_assembly.specs.Inner.LinesRead.{shown_at, tally_step, Tallied, SmallTally}
+use Rattle.haplotype_assembly.specs.Inner.LinesRead.{tally_step, Tallied, SmallTally, ShownIn}
 use Rattle.haplotype_assembly.proofs.Pieces.{start_same, new_length, start_top}
-use Rattle.haplotype_assembly.proofs.Shown.{shown_end}
+use Rattle.haplotype_assembly.proofs.Shown.{all_first}
 
 abbrev pub no_tally : ℕ → Tally
 no_tally n = record { calls = 0; blocks = 0; bytes = 0; next = n }
@@ -35,20 +35,21 @@ module _ (t : Tally) (v : ℕ) where
       let d : length (block_start t.next v) + 1 ≡ k + 3 = omega (arith, new_length t.next v q) in
       rw (d, ne_eqb v t.next q)
 
-  small_step : (k : ℕ) → SmallTally t k → v < 1024 → SmallTally (tally_step t v) (k + 1)
-  unfolding tally_step
-  small_step k i h = record {
-    calls_top = omega (arith, i.calls_top);
-    blocks_top = go (eqb v t.next);
-    bytes_top = omega (arith, i.bytes_top, start_top t.next v);
-  }
-    where
-      go : (b : Bool) → t.blocks + cond b 0 1 ≤ k + 1
-      go true = omega (arith, i.blocks_top)
-      go false = omega (arith, i.blocks_top)
+-- what is small: no more blocks than calls, and few bytes for each of at most 16384 calls
+pub record Small (t : Tally) : Type 0 where
+  pub blocks_top : t.blocks ≤ t.calls
+  pub bytes_top : t.bytes ≤ 1030 * t.calls
 
-small_more : (t : Tally) (j k : ℕ) → j ≤ k → SmallTally t j → SmallTally t k
-small_more t j k h i = record { calls_top = omega (arith, i.calls_top); blocks_top = omega (arith, i.blocks_top); bytes_top = omega (arith, i.bytes_top) }
+small_step : (t : Tally) (v : ℕ) → Small t → v < 1024 → Small (tally_step t v)
+unfolding tally_step
+small_step t v i h = record {
+  blocks_top = go (eqb v t.next);
+  bytes_top = omega (arith, i.bytes_top, start_top t.next v);
+}
+  where
+    go : (b : Bool) → t.blocks + cond b 0 1 ≤ t.calls + 1
+    go true = omega (arith, i.blocks_top)
+    go false = omega (arith, i.blocks_top)
 
 -- ---- with the calls left it becomes the tally of all
 pub record TallyLeft (n : ℕ) (all left : List Call) (t : Tally) : Type 0 where
@@ -68,43 +69,37 @@ left_end : {n : ℕ} {all : List Call} {t : Tally} → TallyLeft n all [] t → 
 unfolding blocks allele_bytes
 left_end i = record { calls_are = omega (arith, i.calls_left); blocks_are = omega (arith, i.blocks_left); bytes_are = omega (arith, i.bytes_left) }
 
--- ---- the loop over the rows at a..e: those below p are counted
-pub record Tallying (w : List ℤ) (n : ℕ) (rows : List ℕ) (a e : ℕ) (t : Tally) (p : ℕ) : Type 0 where
-  pub from : a ≤ p
-  pub few : p - a ≤ e
-  pub left : TallyLeft n (shown_at w rows a e) (shown_at w rows p e) t
-  pub small : SmallTally t (p - a)
+-- ---- the loop over the calls
+pub record Tallying (n : ℕ) (all left : List Call) (t : Tally) : Type 0 where
+  pub left_over : TallyLeft n all left t
+  pub small : Small t
+  pub left_in : All ShownIn left
 
-pub tallying_start : (w : List ℤ) (n : ℕ) (rows : List ℕ) (a e : ℕ) → Tallying w n rows a e (no_tally n) a
-tallying_start w n rows a e = record {
-  from = omega arith;
-  few = omega arith;
-  left = record { calls_left = omega arith; blocks_left = omega arith; bytes_left = omega arith };
-  small = record { calls_top = omega arith; blocks_top = omega arith; bytes_top = omega arith };
+pub tallying_start : (n : ℕ) (all : List Call) → All ShownIn all → Tallying n all all (no_tally n)
+tallying_start n all h = record {
+  left_over = record { calls_left = omega arith; blocks_left = omega arith; bytes_left = omega arith };
+  small = record { blocks_top = omega arith; bytes_top = omega arith };
+  left_in = h;
 }
 
-module _ {w : List ℤ} {n : ℕ} {rows : List ℕ} {a e : ℕ} {t : Tally} {p : ℕ} (i : Tallying w n rows a e t p) where
-  pub tallying_small : e ≤ 16384 → SmallTally t 16384
-  tallying_small h = small_more t (p - a) 16384 (omega (arith, i.few)) i.small
+module _ {n : ℕ} {all left : List Call} {t : Tally} (i : Tallying n all left t) where
+  pub tallying_small : length all ≤ 16384 → SmallTally t 16384
+  tallying_small h = record {
+    calls_top = omega (arith, i.left_over.calls_left);
+    blocks_top = omega (arith, i.left_over.calls_left, i.small.blocks_top);
+    bytes_top = omega (arith, i.left_over.calls_left, i.small.bytes_top);
+  }
 
-  pub tallying_end : e ≤ p → Tallied n (shown_at w rows a e) t
-  tallying_end h = left_end (rw (shown_end w rows p e h) at i.left)
+  pub tallying_end : left ≡ [] → Tallied n all t
+  tallying_end e = left_end (rw e at i.left_over)
 
-  module _ (h : p < e) where
-    pub tallying_on : (call : Call) → shown_at w rows p e ≡ call ∷ shown_at w rows (p + 1) e → call.variant < 1024 → Tallying w n rows a e (tally_step t call.variant) (p + 1)
-    tallying_on call q l =
-        let k : p + 1 - a ≡ p - a + 1 = omega (arith, i.from) in
-        record {
-          from = omega (arith, i.from);
-          few = omega (arith, i.from);
-          left = left_on (rw q at i.left);
-          small = rw k (small_step t call.variant (p - a) i.small l);
-        }
+  module _ {call : Call} {rest : List Call} (e : left ≡ call ∷ rest) where
+    pub tallying_in : ShownIn call
+    tallying_in = (all_first e i.left_in).0
 
-    pub tallying_skip : shown_at w rows p e ≡ shown_at w rows (p + 1) e → Tallying w n rows a e t (p + 1)
-    tallying_skip q = record {
-      from = omega (arith, i.from);
-      few = omega (arith, i.from);
-      left = rw q at i.left;
-      small = small_more t (p - a) (p + 1 - a) (omega arith) i.small;
+    pub tallying_on : Tallying n all rest (tally_step t call.variant)
+    tallying_on = record {
+      left_over = left_on (rw e at i.left_over);
+      small = small_step t call.variant i.small tallying_in.variant_top;
+      left_in = (all_first e i.left_in).1;
     }

@@ -1,12 +1,12 @@
 -- 01, section 7 and the table of refusals: what the operation `generate_flist_buffer` answers and writes.
 -- Assumes nothing.
-use Rattle.std.specs.Prelude.{Bool, List, [], ◌∷◌, ◌++◌, ℕ, ℤ, length, drop}
-use Rattle.variants_and_fragments.specs.Refusals.{Outcome, done, refusal, and_then, long_enough, Promise}
+use Rattle.std.specs.Prelude.{Result, Bool, List, [], ◌∷◌, ◌++◌, ℕ, ℤ, length, drop}
+use Rattle.variants_and_fragments.specs.Refusals.{Outcome, done, answered, and_then, long_enough, Promise}
 use Rattle.variants_and_fragments.specs.Check.{check_case_outcome}
 use Rattle.variants_and_fragments.specs.Case.{Case}
 use Rattle.variants_and_fragments.specs.Decode.{decode}
-use Rattle.haplotype_assembly.specs.declared.Buffered.{Buffered}
-use Rattle.haplotype_assembly.specs.declared.Buffered.TheVariants.{Done, Refused}
+use Rattle.variants_and_fragments.specs.declared.Refusal.{Refusal}
+use Rattle.haplotype_assembly.specs.declared.Counted.{Counted}
 use Rattle.haplotype_assembly.specs.Lines.{flist_buffer, flist_lines}
 
 -- how many bytes and lines are written
@@ -25,9 +25,8 @@ generate_flist_buffer_outcome w b single before =
     (done (amount_of (decode w b) single)))
 
 -- the answer in these terms
-unfoldable pub outcome_of : Buffered → Outcome Amount
-outcome_of (Done bytes lines) = done (record { bytes = bytes; lines = lines })
-outcome_of (Refused x) = refusal x
+abbrev pub outcome_of : Result Counted Refusal → Outcome Amount
+outcome_of answer = answered (λ counted. record { bytes = counted.bytes; lines = counted.lines }) answer
 
 -- section 7: the lines from the start of the buffer on; past them it is as before
 unfoldable pub generate_flist_buffer_written : Case → Bool → List ℕ → List ℕ

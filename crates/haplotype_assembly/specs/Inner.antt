@@ -1,3 +1,2 @@
 pub mod PhaseRead
-pub mod GivenPhase
 pub mod LinesRead

@@ -1,24 +1,23 @@
-// The bytes of fragment lines, written from the rows of a case into a buffer.
+// The bytes of fragment lines, written into a buffer. A function that writes takes the place to write at, and returns the place after what it
+// wrote: of a struct with the buffer and the place, each contract would have to say too that the buffer lent is the same.
 ghost use Rattle.std.specs.Prelude.{[], ◌∷◌, ◌++◌, map, ◌≡◌, ◌+◌, ◌≤◌, ◌<◌, length};
 ghost use Rattle.std.proofs.lemmas.List.Edits.{sets};
-ghost use Rattle.variants_and_fragments.specs.Inner.Accepted.{CaseIn};
+ghost use Rattle.variants_and_fragments.specs.Inner.Case.{All};
 ghost use Rattle.variants_and_fragments.specs.Inner.Sums.{DownTo};
-ghost use Rattle.pileup.specs.Inner.Packed.{row_from, RowsIn};
 ghost use Rattle.haplotype_assembly.specs.Lines.{digit, block_start, allele_bytes, call_quality, strand_byte};
-ghost use Rattle.haplotype_assembly.specs.Inner.LinesRead.{Put, shown_at, shown_fragment, shown_fragments, LinesGiven, header_of, line_with, fragment_line, has_one, lines_over};
+ghost use Rattle.haplotype_assembly.specs.Inner.LinesRead.{Put, call_of, ShownIn, shown_fragment, shown_fragments, header_of, line_with, fragment_line, has_one, lines_over};
 
+use crate::Counted;
+use crate::flist::{Flist, ShownCalls};
 use crate::numbers::write_number;
-use crate::phase::phased_rule;
-use crate::tally::{Counted, has_line, tally_rows};
-use pileup::piles::group_start;
-use pileup::row::{Row, unpack};
+use pileup::row::Row;
 use steps::phred::{phred, quality_byte};
-use variants_and_fragments::Sizes;
-use variants_and_fragments::layout::{direction_of, strand_of};
+use variants_and_fragments::layout::direction_of;
 
 // ---- the alleles
 
-// Opens a block at variant v where v does not go on with the one before; returns the place after it.
+// Opens a block at variant v where v does not go on with the one before.
+#[tactic(auto, using(crate::proofs::Pieces::new_length))]
 pub fn open_block(next: usize, v: usize, buffer: &mut [u8], at: usize) -> usize
     requires { (v < 1024) × (at + length (block_start next v) ≤ length buffer.old) }
     ensures { Put buffer.old buffer.new at result (block_start next v) }
@@ -32,43 +31,27 @@ pub fn open_block(next: usize, v: usize, buffer: &mut [u8], at: usize) -> usize
     end + 1
 }
 
-// Writes the allele of a call at v; returns the place after it.
+// Writes the allele of a call at v.
 pub fn write_call(next: usize, v: usize, allele: usize, buffer: &mut [u8], at: usize) -> usize
     requires v_bound { (v < 1024) × (allele < 3) }
     requires allele_in_bounds { at + length (block_start next v ++ (digit allele ∷ [])) ≤ length buffer.old }
     ensures { Put buffer.old buffer.new at result (block_start next v ++ (digit allele ∷ [])) }
 {
     let start = open_block(next, v, buffer, at);
-    buffer[start] = 48 + allele as u8;
+    buffer[start] = b'0' + allele as u8;
     start + 1
 }
 
-// Writes the alleles that the rows at a..e show; returns the place after them. At the loop's head those of the rows below p are written,
-// and `next` goes on with the block.
-pub fn write_alleles(
-    words: &[i32],
-    s: Sizes,
-    rows: &[u64],
-    a: usize,
-    e: usize,
-    buffer: &mut [u8],
-    at: usize,
-) -> usize
-    requires case_in { CaseIn words.now s }
-    requires rows_in { RowsIn s.n s.f rows.now a e }
-    requires e_in_bounds { at + length (allele_bytes s.n (shown_at words.now rows.now a e)) ≤ length buffer.old }
-    ensures { Put buffer.old buffer.new at result (allele_bytes s.n (shown_at words.now rows.now a e)) }
+// Writes the alleles of the calls; `next` goes on with the block before them.
+pub fn write_alleles(shown: ShownCalls<'_>, mut next: usize, buffer: &mut [u8], at: usize) -> usize
+    requires in_case { All ShownIn shown }
+    requires in_bounds { at + length (allele_bytes next shown) ≤ length buffer.old }
+    ensures { Put buffer.old buffer.new at result (allele_bytes next shown.entry) }
 {
     let mut end = at;
-    let mut next = s.n;
-    let mut p = a;
-    while p < e {
-        let row = unpack(rows[p]);
-        if phased_rule(words, s, row.variant) {
-            end = write_call(next, row.variant, row.allele, buffer, end);
-            next = row.variant + 1;
-        }
-        p += 1;
+    for row in shown {
+        end = write_call(next, row.variant, row.allele, buffer, end);
+        next = row.variant + 1;
     }
     end
 }
@@ -78,37 +61,21 @@ pub fn write_alleles(
 // The quality byte of a call.
 pub fn quality_of(row: Row) -> u8
     requires { DownTo 262144 row.qual.0 }
-    ensures { result ≡ call_quality (row_from row).call }
+    ensures { result ≡ call_quality (call_of row) }
 {
     quality_byte(phred(row.qual))
 }
 
-// Writes the quality bytes that the rows at a..e show; returns the place after them. At the loop's head those of the rows below p are
-// written.
-pub fn write_qualities(
-    words: &[i32],
-    s: Sizes,
-    rows: &[u64],
-    a: usize,
-    e: usize,
-    buffer: &mut [u8],
-    at: usize,
-) -> usize
-    requires case_in { CaseIn words.now s }
-    requires rows_in { RowsIn s.n s.f rows.now a e }
-    requires e_in_bounds { at + length (map call_quality (shown_at words.now rows.now a e)) ≤ length buffer.old }
-    ensures { Put buffer.old buffer.new at result (map call_quality (shown_at words.now rows.now a e)) }
+// Writes the quality bytes of the calls.
+pub fn write_qualities(shown: ShownCalls<'_>, buffer: &mut [u8], at: usize) -> usize
+    requires in_case { All ShownIn shown }
+    requires in_bounds { at + length (map call_quality shown) ≤ length buffer.old }
+    ensures { Put buffer.old buffer.new at result (map call_quality shown.entry) }
 {
     let mut end = at;
-    let mut p = a;
-    while p < e {
-        let row = unpack(rows[p]);
-        if phased_rule(words, s, row.variant) {
-            let quality = quality_of(row);
-            buffer[end] = quality;
-            end += 1;
-        }
-        p += 1;
+    for row in shown {
+        buffer[end] = quality_of(row);
+        end += 1;
     }
     end
 }
@@ -124,16 +91,19 @@ pub struct Head {
 }
 
 // The byte of a strand: '+' where it is a reverse one.
+#[tactic(auto, unfolding(crate::specs::Lines::strand_byte))]
 pub fn strand_byte(strand: usize) -> u8
     ensures { result ≡ strand_byte strand }
 {
     if direction_of(strand) == 0 {
-        return b'-';
+        b'-'
+    } else {
+        b'+'
     }
-    b'+'
 }
 
-// Writes the number of blocks, the id and the strand; returns the place after them.
+// Writes the number of blocks, the id and the strand.
+#[tactic(auto, using(crate::proofs::Pieces::header_length))]
 pub fn write_header(head: Head, buffer: &mut [u8], at: usize) -> usize
     requires { at + length (header_of head) ≤ length buffer.old }
     ensures { Put buffer.old buffer.new at result (header_of head) }
@@ -146,85 +116,54 @@ pub fn write_header(head: Head, buffer: &mut [u8], at: usize) -> usize
     end2 + 2
 }
 
-// Writes the line of the rows at a..e; returns the place after it.
-pub fn write_line(
-    words: &[i32],
-    s: Sizes,
-    rows: &[u64],
-    a: usize,
-    e: usize,
-    head: Head,
-    buffer: &mut [u8],
-    at: usize,
-) -> usize
-    requires case_in { CaseIn words.now s }
-    requires rows_in { RowsIn s.n s.f rows.now a e }
-    requires e_in_bounds { at + length (line_with s.n head (shown_at words.now rows.now a e)) ≤ length buffer.old }
-    ensures { Put buffer.old buffer.new at result (line_with s.n head (shown_at words.now rows.now a e)) }
-{
-    let alleles = write_header(head, buffer, at);
-    let space = write_alleles(words, s, rows, a, e, buffer, alleles);
-    buffer[space] = b' ';
-    let last = write_qualities(words, s, rows, a, e, buffer, space + 1);
-    buffer[last] = 0;
-    last + 1
-}
-
-// ---- all fragments
-
-// Writes fragment f's line, where it has one, after those counted.
-pub fn write_fragment(
-    words: &[i32],
-    s: Sizes,
-    rows: &[u64],
-    ends: &[usize],
-    single: bool,
-    f: usize,
-    buffer: &mut [u8],
-    c: Counted,
-) -> Counted
-    requires lines_given { LinesGiven words.now s rows.now ends.now }
-    requires f_lt_f { (f < s.f) × (c.lines ≤ f) }
-    requires f_in_bounds { c.bytes + length (fragment_line s.n single c.lines (shown_fragment words.now s rows.now ends.now f)) ≤ length buffer.old }
-    ensures put { Put buffer.old buffer.new c.bytes result.bytes (fragment_line s.n single c.lines (shown_fragment words.now s rows.now ends.now f)) }
-    ensures lines_value { result.lines ≡ c.lines + has_one single (shown_fragment words.now s rows.now ends.now f) }
-{
-    let a = group_start(ends, f);
-    let e = ends[f];
-    let t = tally_rows(words, s, rows, a, e);
-    if !has_line(single, t.calls) {
-        return c;
+impl Flist<'_> {
+    // Writes fragment f's line.
+    pub fn write_line(&self, f: usize, head: Head, buffer: &mut [u8], at: usize) -> usize
+        requires in_case { f < self.now.case.laid.sizes.f }
+        requires in_bounds { at + length (line_with self.now.case.laid.sizes.n head (shown_fragment self.now.case.laid.words.now self.now.case.laid.sizes self.now.rows.now self.now.ends.now f).calls) ≤ length buffer.old }
+        ensures { Put buffer.old buffer.new at result (line_with self.now.case.laid.sizes.n head (shown_fragment self.now.case.laid.words.now self.now.case.laid.sizes self.now.rows.now self.now.ends.now f).calls) }
+    {
+        let alleles = write_header(head, buffer, at);
+        let space = write_alleles(self.shown(f), self.case.laid.sizes.n, buffer, alleles);
+        buffer[space] = b' ';
+        let last = write_qualities(self.shown(f), buffer, space + 1);
+        buffer[last] = 0;
+        last + 1
     }
-    let head = Head {
-        blocks: t.blocks,
-        id: c.lines,
-        strand: strand_of(words, s, f),
-    };
-    let end = write_line(words, s, rows, a, e, head, buffer, c.bytes);
-    Counted {
-        bytes: end,
-        lines: c.lines + 1,
-    }
-}
 
-// Writes all lines. At the loop's head those of the fragments below f are written.
-pub fn write_lines(
-    words: &[i32],
-    s: Sizes,
-    rows: &[u64],
-    ends: &[usize],
-    single: bool,
-    buffer: &mut [u8],
-)
-    requires lines_given { LinesGiven words.now s rows.now ends.now }
-    requires ends_in_bounds { length (lines_over s.n single 0 (shown_fragments words.now s rows.now ends.now)) ≤ length buffer.old }
-    ensures { buffer.new ≡ sets buffer.old 0 (lines_over s.n single 0 (shown_fragments words.now s rows.now ends.now)) }
-{
-    let n = s.f;
-    let mut c = Counted { bytes: 0, lines: 0 };
-    let mut f = 0;
-    while f < n {
-        c = write_fragment(words, s, rows, ends, single, f, buffer, c);
-        f += 1;
+    // ---- all fragments
+
+    // Writes fragment f's line, where it has one, after those counted.
+    pub fn write_fragment(&self, f: usize, buffer: &mut [u8], counted: Counted) -> Counted
+        requires in_case { (f < self.now.case.laid.sizes.f) × (counted.lines ≤ f) }
+        requires in_bounds { counted.bytes + length (fragment_line self.now.case.laid.sizes.n self.now.single counted.lines (shown_fragment self.now.case.laid.words.now self.now.case.laid.sizes self.now.rows.now self.now.ends.now f)) ≤ length buffer.old }
+        ensures put { Put buffer.old buffer.new counted.bytes result.bytes (fragment_line self.now.case.laid.sizes.n self.now.single counted.lines (shown_fragment self.now.case.laid.words.now self.now.case.laid.sizes self.now.rows.now self.now.ends.now f)) }
+        ensures lines { result.lines ≡ counted.lines + has_one self.now.single (shown_fragment self.now.case.laid.words.now self.now.case.laid.sizes self.now.rows.now self.now.ends.now f) }
+    {
+        let tally = self.tally(f);
+        if !self.has_line(tally.calls) {
+            return counted;
+        }
+        let head = Head {
+            blocks: tally.blocks,
+            id: counted.lines,
+            strand: self.case.laid.strand(f),
+        };
+        let bytes = self.write_line(f, head, buffer, counted.bytes);
+        Counted {
+            bytes,
+            lines: counted.lines + 1,
+        }
+    }
+
+    // Writes all lines, from the start of the buffer on.
+    pub fn write(&self, buffer: &mut [u8])
+        requires { length (lines_over self.now.case.laid.sizes.n self.now.single 0 (shown_fragments self.now.case.laid.words.now self.now.case.laid.sizes self.now.rows.now self.now.ends.now)) ≤ length buffer.old }
+        ensures { buffer.new ≡ sets buffer.old 0 (lines_over self.now.case.laid.sizes.n self.now.single 0 (shown_fragments self.now.case.laid.words.now self.now.case.laid.sizes self.now.rows.now self.now.ends.now)) }
+    {
+        let mut counted = Counted { bytes: 0, lines: 0 };
+        for f in 0..self.case.laid.sizes.f {
+            counted = self.write_fragment(f, buffer, counted);
+        }
     }
 }

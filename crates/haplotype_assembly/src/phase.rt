@@ -1,268 +1,190 @@
-// The given phase, of a case that is accepted: its faults, the start haplotypes, the phased flags and the set names.
-ghost use Rattle.std.specs.Prelude.{◌≡◌, true, ℕ, suc, ◌*◌, ◌<◌, ◌≤◌, length};
-ghost use Rattle.variants_and_fragments.specs.First.{first_fail};
+// The given phase of an accepted case: its check, the start haplotypes, the phased flags and the set names.
+ghost use Rattle.std.specs.Prelude.{◌≡◌, true, List, ℕ, suc, ◌*◌, ◌<◌, ◌≤◌, pos, length, get_or, IfSome};
+ghost use Rattle.variants_and_fragments.specs.Refusals.{done, outcome_of};
 ghost use Rattle.variants_and_fragments.specs.Written.{written};
-ghost use Rattle.variants_and_fragments.specs.Inner.Accepted.{CaseIn};
-ghost use Rattle.haplotype_assembly.specs.Phase.{flag_of, low, high, ordered_first, ordered_second};
-ghost use Rattle.haplotype_assembly.specs.Inner.PhaseRead.{rule_at, phased_at, flags_at, start_at, phase_name_at, NamedTo};
-ghost use Rattle.haplotype_assembly.specs.Inner.GivenPhase.{phase_fault};
-ghost use Rattle.haplotype_assembly.specs.GivenPhase.{sets_ok};
+ghost use Rattle.haplotype_assembly.specs.Phase.{is_phase, ordered_first, ordered_second};
+ghost use Rattle.haplotype_assembly.specs.Inner.PhaseRead.{rule_at, phased_at, flags_at, start_at, set_of, phase_name_at, NamedTo, Faultless};
+ghost use Rattle.haplotype_assembly.specs.GivenPhase.{set_ok, phase_tests};
 
-use crate::fields::{allele_length, genotype, pos0};
-use variants_and_fragments::layout::{NONE, allele_count, nat_at, nat_of};
-use variants_and_fragments::{Sizes, earlier};
+use variants_and_fragments::layout::MAX_VARIANTS;
+use variants_and_fragments::{Case, Refusal};
 
-pub fn low(a: u8, b: u8) -> u8
-    ensures { result ≡ low a b }
+// A phase byte is '0' or '1'.
+fn is_phase(byte: u8) -> bool
+    ensures { result ≡ is_phase byte }
 {
-    if a <= b {
-        return a;
-    }
-    b
+    matches!(byte, b'0' | b'1')
 }
 
-pub fn high(a: u8, b: u8) -> u8
-    ensures { result ≡ high a b }
+// A genotype a, b in the order of its byte: '0' gives low, high; '1' high, low; another byte leaves it.
+pub fn ordered(byte: u8, a: u8, b: u8) -> (u8, u8)
+    ensures { (result.0 ≡ ordered_first byte a b) × (result.1 ≡ ordered_second byte a b) }
 {
-    if a <= b {
-        return b;
+    match byte {
+        b'0' => (a.min(b), a.max(b)),
+        b'1' => (a.max(b), a.min(b)),
+        _ => (a, b),
     }
-    a
-}
-
-// What comes first of a genotype a, b that the byte orders.
-pub fn ordered_first(byte: u8, a: u8, b: u8) -> u8
-    ensures { result ≡ ordered_first byte a b }
-{
-    if byte == b'0' {
-        return low(a, b);
-    }
-    if byte == b'1' {
-        return high(a, b);
-    }
-    a
-}
-
-// What comes second.
-pub fn ordered_second(byte: u8, a: u8, b: u8) -> u8
-    ensures { result ≡ ordered_second byte a b }
-{
-    if byte == b'0' {
-        return high(a, b);
-    }
-    if byte == b'1' {
-        return low(a, b);
-    }
-    b
 }
 
 // The phased rule without the byte.
-pub fn phased_rule(words: &[i32], s: Sizes, v: usize) -> bool
-    requires case_in { CaseIn words.now s }
-    requires v_lt_n { v < s.n }
-    ensures { result ≡ rule_at words.now v }
+#[tactic(auto, unfolding(crate::specs::Inner::PhaseRead::rule_at, crate::specs::Phase::phased_test))]
+pub fn phased_rule(case: &Case<'_>, v: usize) -> bool
+    requires { v < case.now.laid.sizes.n }
+    ensures { result ≡ rule_at case.now.laid.words.now v }
 {
-    let k = allele_count(words, s, v);
-    let a = genotype(words, s, v, 0);
-    let b = genotype(words, s, v, 1);
-    let l0 = allele_length(words, s, v, 0);
-    let l1 = allele_length(words, s, v, 1);
+    let k = case.laid.allele_count(v);
+    let a = case.laid.genotype(v, 0);
+    let b = case.laid.genotype(v, 1);
+    let l0 = case.laid.allele_length(v, 0);
+    let l1 = case.laid.allele_length(v, 1);
     (2 <= k) & ((a != b) & ((l0 == 1) & (l1 == 1)))
 }
 
-// 1 where variant v is phased, and 0 elsewhere.
-pub fn phased_flag(words: &[i32], s: Sizes, phase: &[u8], v: usize) -> u8
-    requires case_in { CaseIn words.now s }
-    requires v_lt_n { (v < s.n) × (v < length phase.now) }
-    ensures { result ≡ flag_of (phased_at words.now phase.now v) }
+// Variant v is phased.
+#[tactic(auto, unfolding(crate::specs::Inner::PhaseRead::phased_at))]
+pub fn is_phased(case: &Case<'_>, phase: &[u8], v: usize) -> bool
+    requires { (v < case.now.laid.sizes.n) × (v < length phase.now) }
+    ensures { result ≡ phased_at case.now.laid.words.now phase.now v }
 {
-    let byte = phase[v];
-    let rule = phased_rule(words, s, v);
-    if rule & ((byte == b'0') | (byte == b'1')) {
-        return 1;
-    }
-    0
+    phased_rule(case, v) & is_phase(phase[v])
 }
 
-// The start haplotypes. At the loop's head those of the variants below v are written.
-pub fn write_haplotypes(words: &[i32], s: Sizes, phase: &[u8], haplotypes: &mut [u8])
-    requires case_in { CaseIn words.now s }
-    requires n_in_bounds { (s.n ≤ length phase.now) × (2 * s.n ≤ length haplotypes.old) }
-    ensures { haplotypes.new ≡ written (start_at words.now phase.now) (2 * s.n) haplotypes.old }
+// The start haplotypes.
+pub fn write_haplotypes(case: &Case<'_>, phase: &[u8], haplotypes: &mut [u8])
+    requires { (case.now.laid.sizes.n ≤ length phase.now) × (2 * case.now.laid.sizes.n ≤ length haplotypes.old) }
+    ensures { haplotypes.new ≡ written (start_at case.now.laid.words.now phase.now) (2 * case.now.laid.sizes.n) haplotypes.old }
 {
-    let n = s.n;
-    let mut v = 0;
-    while v < n {
-        let byte = phase[v];
-        let a = genotype(words, s, v, 0);
-        let b = genotype(words, s, v, 1);
-        let first = ordered_first(byte, a, b);
-        let second = ordered_second(byte, a, b);
+    for v in 0..case.laid.sizes.n {
+        let a = case.laid.genotype(v, 0) as u8;
+        let b = case.laid.genotype(v, 1) as u8;
+        let (first, second) = ordered(phase[v], a, b);
         haplotypes[2 * v] = first;
         haplotypes[2 * v + 1] = second;
-        v += 1;
     }
 }
 
-// The phased flags. At the loop's head those of the variants below v are written.
-pub fn write_flags(words: &[i32], s: Sizes, phase: &[u8], phased: &mut [u8])
-    requires case_in { CaseIn words.now s }
-    requires n_in_bounds { (s.n ≤ length phase.now) × (s.n ≤ length phased.old) }
-    ensures { phased.new ≡ written (flags_at words.now phase.now) s.n phased.old }
+// The phased flags: 1 where a variant is phased, else 0.
+pub fn write_flags(case: &Case<'_>, phase: &[u8], phased: &mut [u8])
+    requires { (case.now.laid.sizes.n ≤ length phase.now) × (case.now.laid.sizes.n ≤ length phased.old) }
+    ensures { phased.new ≡ written (flags_at case.now.laid.words.now phase.now) case.now.laid.sizes.n phased.old }
 {
-    let n = s.n;
-    let mut v = 0;
-    while v < n {
-        let flag = phased_flag(words, s, phase, v);
-        phased[v] = flag;
-        v += 1;
+    for v in 0..case.laid.sizes.n {
+        phased[v] = u8::from(is_phased(case, phase, v));
     }
 }
 
 // The start haplotypes and the phased flags.
-pub fn write_phase(words: &[i32], s: Sizes, phase: &[u8], haplotypes: &mut [u8], phased: &mut [u8])
-    requires case_in { CaseIn words.now s }
-    requires n_in_bounds { (s.n ≤ length phase.now) × ((2 * s.n ≤ length haplotypes.old) × (s.n ≤ length phased.old)) }
-    ensures haplotypes_after { haplotypes.new ≡ written (start_at words.now phase.now) (2 * s.n) haplotypes.old }
-    ensures phased_after { phased.new ≡ written (flags_at words.now phase.now) s.n phased.old }
+pub fn write_phase(case: &Case<'_>, phase: &[u8], haplotypes: &mut [u8], phased: &mut [u8])
+    requires { (case.now.laid.sizes.n ≤ length phase.now) × ((2 * case.now.laid.sizes.n ≤ length haplotypes.old) × (case.now.laid.sizes.n ≤ length phased.old)) }
+    ensures haplotypes_after { haplotypes.new ≡ written (start_at case.now.laid.words.now phase.now) (2 * case.now.laid.sizes.n) haplotypes.old }
+    ensures phased_after { phased.new ≡ written (flags_at case.now.laid.words.now phase.now) case.now.laid.sizes.n phased.old }
 {
-    write_haplotypes(words, s, phase, haplotypes);
-    write_flags(words, s, phase, phased);
+    write_haplotypes(case, phase, haplotypes);
+    write_flags(case, phase, phased);
 }
 
 // ---- 7: the phase bytes and sets
 
-// Variant v's set is negative or below n.
-pub fn set_ok(sets: &[i32], n: usize, v: usize) -> bool
-    requires { v < length sets.now }
-    ensures { result ≡ sets_ok n sets.now v }
+// A set as a number, where it is one: a negative one means none.
+fn set_of(set: i32) -> Option<usize>
+    ensures { result ≡ set_of set }
 {
-    let t = nat_of(sets[v]);
-    (t < n) | (t == NONE)
+    usize::try_from(set).ok()
 }
 
-// The first variant with a set of n or more, or n.
-pub fn first_bad_set(sets: &[i32], n: usize) -> usize
-    requires { n ≤ length sets.now }
-    ensures { result ≡ first_fail (sets_ok n sets.now) n }
+// A set is negative or below n.
+pub fn set_ok(set: i32, n: usize) -> bool
+    ensures { result ≡ set_ok n set }
 {
-    let mut v = 0;
-    while v < n {
-        if !set_ok(sets, n, v) {
-            return v;
+    match set_of(set) {
+        Some(t) => t < n,
+        None => true,
+    }
+}
+
+// Number 7, of n variants. The place of a fault is n where the bytes or sets are not n, else the first variant with a set of n or more.
+pub fn check_phase(n: usize, phase: &[u8], sets: &[i32]) -> Result<(), Refusal>
+    ensures { outcome_of result ≡ phase_tests n phase.now sets.now (done tt) }
+{
+    if phase.len() != n || sets.len() != n {
+        return Err(Refusal::Phase(n));
+    }
+    for (v, set) in sets.iter().enumerate() {
+        if !set_ok(*set, n) {
+            return Err(Refusal::Phase(v));
         }
-        v += 1;
     }
-    v
-}
-
-// The place of what refusal 7 names, of n variants; n + 1 where nothing is wrong.
-pub fn phase_fault(n: usize, phase: &[u8], sets: &[i32]) -> usize
-    requires { n ≤ 1024 }
-    ensures { result ≡ phase_fault n phase.now sets.now }
-{
-    if phase.len() != n {
-        return n;
-    }
-    if sets.len() != n {
-        return n;
-    }
-    let v = first_bad_set(sets, n);
-    if v < n {
-        return v;
-    }
-    n + 1
+    Ok(())
 }
 
 // ---- set names
-// Takes variant v into its set's name.
-pub fn note_name(words: &[i32], s: Sizes, sets: &[i32], v: usize, least: &mut [usize])
-    requires case_in { CaseIn words.now s }
-    requires v_lt_n { (v < s.n) × (v < length sets.now) }
-    requires named_to { NamedTo words.now sets.now s.n v least.old }
-    ensures { NamedTo words.now sets.now s.n (suc v) least.new }
-{
-    let n = s.n;
-    let t = nat_at(sets, v);
-    if t < n {
-        let p = pos0(words, s, v);
-        let old = least[t];
-        least[t] = earlier(old, p + 1);
-    }
+
+// A case with phase bytes and sets that pass number 7.
+#[derive(Clone, Copy)]
+pub struct PhasedCase<'a> {
+    pub case: Case<'a>,
+    pub phase: &'a [u8],
+    pub sets: &'a [i32],
+    ghost faultless: { Faultless case.laid.sizes.n phase.now sets.now },
 }
 
-// The names of all sets.
-pub fn least_names(words: &[i32], s: Sizes, sets: &[i32], least: &mut [usize])
-    requires case_in { CaseIn words.now s }
-    requires n_in_bounds { s.n ≤ length sets.now }
-    requires named_to { NamedTo words.now sets.now s.n 0 least.old }
-    ensures { NamedTo words.now sets.now s.n s.n least.new }
-{
-    let n = s.n;
-    let mut v = 0;
-    while v < n {
-        note_name(words, s, sets, v, least);
-        v += 1;
+impl PhasedCase<'_> {
+    // Variant v's set, where it has one.
+    fn set(&self, v: usize) -> Option<usize>
+        requires { v < self.now.case.laid.sizes.n }
+        ensures value { result ≡ set_of (get_or self.now.sets.now v (pos 0)) }
+        ensures in_case { IfSome result (λ t. t < self.now.case.laid.sizes.n) }
+    {
+        set_of(self.sets[v])
     }
-}
 
-// Variant v's name, where `least` holds the names of all sets.
-pub fn name_at(
-    words: &[i32],
-    s: Sizes,
-    phase: &[u8],
-    sets: &[i32],
-    least: &[usize],
-    v: usize,
-) -> u32
-    requires v_lt_n { (v < s.n) × ((v < length phase.now) × (v < length sets.now)) }
-    requires v_value { sets_ok s.n sets.now v ≡ true }
-    requires named_to { NamedTo words.now sets.now s.n s.n least.now }
-    ensures { result ≡ phase_name_at words.now phase.now sets.now s.n v }
-{
-    let n = s.n;
-    let byte = phase[v];
-    if (byte != b'0') & (byte != b'1') {
-        return 0;
+    // Takes variant v's name, its position from 1, into the least of its set.
+    fn note_name(&self, v: usize, least: &mut [Option<u32>])
+        requires in_case { v < self.now.case.laid.sizes.n }
+        requires named_to { NamedTo self.now.case.laid.words.now self.now.sets.now self.now.case.laid.sizes.n v least.old }
+        ensures { NamedTo self.now.case.laid.words.now self.now.sets.now self.now.case.laid.sizes.n (suc v) least.new }
+    {
+        if let Some(t) = self.set(v) {
+            let name = self.case.pos0(v) as u32 + 1;
+            least[t] = Some(least[t].map_or(name, |other| other.min(name)));
+        }
     }
-    let t = nat_at(sets, v);
-    if n <= t {
-        return 0;
-    }
-    least[t] as u32
-}
 
-// The name of each variant. At the loop's head those of the variants below v are written.
-pub fn write_names(
-    words: &[i32],
-    s: Sizes,
-    phase: &[u8],
-    sets: &[i32],
-    least: &[usize],
-    names: &mut [u32],
-)
-    requires n_in_bounds { (s.n ≤ length phase.now) × ((s.n ≤ length sets.now) × (s.n ≤ length names.old)) }
-    requires by_index { (v : ℕ) → v < s.n → sets_ok s.n sets.now v ≡ true }
-    requires named_to { NamedTo words.now sets.now s.n s.n least.now }
-    ensures { names.new ≡ written (phase_name_at words.now phase.now sets.now s.n) s.n names.old }
-{
-    let n = s.n;
-    let mut v = 0;
-    while v < n {
-        let name = name_at(words, s, phase, sets, least, v);
-        names[v] = name;
-        v += 1;
+    // The least name of each set.
+    fn least_names(&self) -> [Option<u32>; MAX_VARIANTS]
+        ensures { NamedTo self.now.case.laid.words.now self.now.sets.now self.now.case.laid.sizes.n self.now.case.laid.sizes.n result }
+    {
+        let mut least = [None; MAX_VARIANTS];
+        for v in 0..self.case.laid.sizes.n {
+            self.note_name(v, &mut least);
+        }
+        least
     }
-}
 
-// The name of each variant, from the least position of each set.
-pub fn name_sets(words: &[i32], s: Sizes, phase: &[u8], sets: &[i32], names: &mut [u32])
-    requires case_in { CaseIn words.now s }
-    requires n_in_bounds { (s.n ≤ length phase.now) × ((s.n ≤ length sets.now) × (s.n ≤ length names.old)) }
-    requires by_index { (v : ℕ) → v < s.n → sets_ok s.n sets.now v ≡ true }
-    ensures { names.new ≡ written (phase_name_at words.now phase.now sets.now s.n) s.n names.old }
-{
-    let mut least = [0usize; 1024];
-    least_names(words, s, sets, &mut least);
-    write_names(words, s, phase, sets, &least, names);
+    // Variant v's name, where `least` holds those of all sets; 0 for none.
+    fn name(&self, least: &[Option<u32>], v: usize) -> u32
+        requires in_case { v < self.now.case.laid.sizes.n }
+        requires named_to { NamedTo self.now.case.laid.words.now self.now.sets.now self.now.case.laid.sizes.n self.now.case.laid.sizes.n least.now }
+        ensures { result ≡ phase_name_at self.now.case.laid.words.now self.now.phase.now self.now.sets.now self.now.case.laid.sizes.n v }
+    {
+        if !is_phase(self.phase[v]) {
+            return 0;
+        }
+        match self.set(v) {
+            Some(t) => least[t].unwrap_or(0),
+            None => 0,
+        }
+    }
+
+    // The name of each variant.
+    pub fn write_names(&self, names: &mut [u32])
+        requires { self.now.case.laid.sizes.n ≤ length names.old }
+        ensures { names.new ≡ written (phase_name_at self.now.case.laid.words.now self.now.phase.now self.now.sets.now self.now.case.laid.sizes.n) self.now.case.laid.sizes.n names.old }
+    {
+        let least = self.least_names();
+        for v in 0..self.case.laid.sizes.n {
+            names[v] = self.name(&least, v);
+        }
+    }
 }

@@ -1,17 +1,13 @@
-// The lengths of fragment lines: what a fragment's rows add to its line, and how many bytes and lines a case has.
+// The lengths of fragment lines: what a fragment's calls add to its line, and how many bytes and lines a case has.
 ghost use Rattle.std.specs.Prelude.{◌≡◌, ◌+◌, ◌*◌, ◌≤◌, ◌<◌, length};
-ghost use Rattle.variants_and_fragments.specs.Inner.Accepted.{CaseIn};
-ghost use Rattle.pileup.specs.Inner.Packed.{RowsIn};
 ghost use Rattle.haplotype_assembly.specs.Lines.{decimal, has_line};
-ghost use Rattle.haplotype_assembly.specs.Inner.LinesRead.{shown_at, shown_fragment, shown_fragments, LinesGiven, tally_step, Tallied, SmallTally, CountedOn, LinesCounted};
+ghost use Rattle.haplotype_assembly.specs.Inner.LinesRead.{shown_fragment, shown_fragments, tally_step, Tallied, SmallTally, CountedOn, LinesCounted};
 
+use crate::Counted;
+use crate::flist::Flist;
 use crate::numbers::digit_count;
-use crate::phase::phased_rule;
-use pileup::piles::group_start;
-use pileup::row::unpack;
-use variants_and_fragments::Sizes;
 
-// What rows add to a line, so far: shown calls, blocks, allele bytes, and the variant that goes on with the block.
+// What shown calls add to a line, so far: calls, blocks, allele bytes, and the variant that goes on with the block.
 #[derive(Clone, Copy)]
 pub struct Tally {
     pub calls: usize,
@@ -20,115 +16,93 @@ pub struct Tally {
     pub next: usize,
 }
 
-// The same with a call at v.
-pub fn tally_call(v: usize, t: Tally) -> Tally
-    requires { (v < 1024) × SmallTally t 16384 }
-    ensures { result ≡ tally_step t v }
-{
-    let next = t.next;
-    if v == next {
-        return Tally {
-            calls: t.calls + 1,
-            blocks: t.blocks,
-            bytes: t.bytes + 1,
-            next: v + 1,
-        };
-    }
-    let digits = digit_count(v + 1);
-    Tally {
-        calls: t.calls + 1,
-        blocks: t.blocks + 1,
-        bytes: t.bytes + (digits + 3),
-        next: v + 1,
-    }
-}
-
-// What the rows at a..e add to their line: those at variants that meet the phased rule. At the loop's head those below p are counted.
-pub fn tally_rows(words: &[i32], s: Sizes, rows: &[u64], a: usize, e: usize) -> Tally
-    requires case_in { CaseIn words.now s }
-    requires rows_in { RowsIn s.n s.f rows.now a e }
-    ensures { Tallied s.n (shown_at words.now rows.now a e) result × SmallTally result 16384 }
-{
-    let mut t = Tally {
-        calls: 0,
-        blocks: 0,
-        bytes: 0,
-        next: s.n,
-    };
-    let mut p = a;
-    while p < e {
-        let row = unpack(rows[p]);
-        if phased_rule(words, s, row.variant) {
-            t = tally_call(row.variant, t);
+impl Tally {
+    // The same with a call at v.
+    #[tactic(auto, using(crate::proofs::Decimals::decimal_top))]
+    pub fn with_call(self, v: usize) -> Tally
+        requires { (v < 1024) × SmallTally self 16384 }
+        ensures { result ≡ tally_step self v }
+    {
+        let calls = self.calls + 1;
+        let next = v + 1;
+        if v == self.next {
+            let bytes = self.bytes + 1;
+            return Tally {
+                calls,
+                bytes,
+                next,
+                ..self
+            };
         }
-        p += 1;
+        let digits = digit_count(v + 1);
+        Tally {
+            calls,
+            blocks: self.blocks + 1,
+            bytes: self.bytes + (digits + 3),
+            next,
+        }
     }
-    t
-}
 
-// A fragment with this many shown calls has a line.
-pub fn has_line(single: bool, calls: usize) -> bool
-    ensures { result ≡ has_line single calls }
-{
-    if single {
-        return 1 <= calls;
-    }
-    2 <= calls
-}
-
-// How many bytes the line of a fragment with this tally and id has.
-pub fn line_bytes(t: Tally, id: usize) -> usize
-    requires { SmallTally t 16384 × (id ≤ 4096) }
-    ensures { result ≡ length (decimal t.blocks) + length (decimal id) + (t.bytes + t.calls + 5) }
-{
-    digit_count(t.blocks) + digit_count(id) + (t.bytes + t.calls + 5)
-}
-
-// Bytes and lines, so far.
-#[derive(Clone, Copy)]
-pub struct Counted {
-    pub bytes: usize,
-    pub lines: usize,
-}
-
-// The same with fragment f's line, where it has one.
-pub fn count_fragment(
-    words: &[i32],
-    s: Sizes,
-    rows: &[u64],
-    ends: &[usize],
-    single: bool,
-    f: usize,
-    c: Counted,
-) -> Counted
-    requires lines_given { LinesGiven words.now s rows.now ends.now }
-    requires f_lt_f { (f < s.f) × ((c.lines ≤ f) × (c.bytes ≤ 33554432 * f)) }
-    ensures { CountedOn s.n single (shown_fragment words.now s rows.now ends.now f) c result }
-{
-    let a = group_start(ends, f);
-    let e = ends[f];
-    let t = tally_rows(words, s, rows, a, e);
-    if !has_line(single, t.calls) {
-        return c;
-    }
-    let more = line_bytes(t, c.lines);
-    Counted {
-        bytes: c.bytes + more,
-        lines: c.lines + 1,
+    // How many bytes the line with this tally and id has.
+    #[tactic(auto, using(crate::proofs::Decimals::decimal_top))]
+    pub fn line_bytes(self, id: usize) -> usize
+        requires { SmallTally self 16384 × (id ≤ 4096) }
+        ensures { result ≡ length (decimal self.blocks) + length (decimal id) + (self.bytes + self.calls + 5) }
+    {
+        digit_count(self.blocks) + digit_count(id) + (self.bytes + self.calls + 5)
     }
 }
 
-// How many bytes and lines there are. At the loop's head those of the fragments below f are counted.
-pub fn count_lines(words: &[i32], s: Sizes, rows: &[u64], ends: &[usize], single: bool) -> Counted
-    requires { LinesGiven words.now s rows.now ends.now }
-    ensures { LinesCounted s.n single (shown_fragments words.now s rows.now ends.now) result }
-{
-    let n = s.f;
-    let mut c = Counted { bytes: 0, lines: 0 };
-    let mut f = 0;
-    while f < n {
-        c = count_fragment(words, s, rows, ends, single, f, c);
-        f += 1;
+impl Flist<'_> {
+    // What fragment f's calls add to its line. At its start no variant goes on with a block: n is none, as the definition of a block has it.
+    pub fn tally(&self, f: usize) -> Tally
+        requires { f < self.now.case.laid.sizes.f }
+        ensures { Tallied self.now.case.laid.sizes.n (shown_fragment self.now.case.laid.words.now self.now.case.laid.sizes self.now.rows.now self.now.ends.now f).calls result × SmallTally result 16384 }
+    {
+        let mut tally = Tally {
+            calls: 0,
+            blocks: 0,
+            bytes: 0,
+            next: self.case.laid.sizes.n,
+        };
+        for row in self.shown(f) {
+            tally = tally.with_call(row.variant);
+        }
+        tally
     }
-    c
+
+    // A fragment with this many shown calls has a line.
+    #[tactic(auto, unfolding(crate::specs::Lines::has_line))]
+    pub fn has_line(&self, calls: usize) -> bool
+        ensures { result ≡ has_line self.now.single calls }
+    {
+        if self.single { 1 <= calls } else { 2 <= calls }
+    }
+
+    // What is counted, with fragment f's line, where it has one.
+    pub fn count_fragment(&self, f: usize, counted: Counted) -> Counted
+        requires { (f < self.now.case.laid.sizes.f) × ((counted.lines ≤ f) × (counted.bytes ≤ 33554432 * f)) }
+        ensures { CountedOn self.now.case.laid.sizes.n self.now.single (shown_fragment self.now.case.laid.words.now self.now.case.laid.sizes self.now.rows.now self.now.ends.now f) counted result }
+    {
+        let tally = self.tally(f);
+        if !self.has_line(tally.calls) {
+            return counted;
+        }
+        let bytes = tally.line_bytes(counted.lines);
+        Counted {
+            bytes: counted.bytes + bytes,
+            lines: counted.lines + 1,
+        }
+    }
+
+    // How many bytes and lines there are.
+    pub fn count(&self) -> Counted
+        ensures { LinesCounted self.now.case.laid.sizes.n self.now.single (shown_fragments self.now.case.laid.words.now self.now.case.laid.sizes self.now.rows.now self.now.ends.now) result }
+    {
+        let mut counted = Counted { bytes: 0, lines: 0 };
+        for f in 0..self.case.laid.sizes.f {
+            counted = self.count_fragment(f, counted);
+        }
+        counted
+    }
 }

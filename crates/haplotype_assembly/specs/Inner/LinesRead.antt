@@ -4,14 +4,15 @@
 use Rattle.std.specs.Prelude.{◌≡◌, Bool, cond, List, [], ◌∷◌, ◌++◌, map, ℕ, ◌+◌, ◌*◌, ◌≤◌, ◌<◌, eqb, ℤ, length, get_or}
 use Rattle.std.proofs.lemmas.List.Edits.{sets}
 use Rattle.variants_and_fragments.specs.declared.Sizes.{Sizes}
-use Rattle.variants_and_fragments.specs.Inner.Accepted.{CaseIn}
+use Rattle.variants_and_fragments.specs.Inner.Sums.{DownTo}
 use Rattle.variants_and_fragments.specs.Chain.{present_at, strand_at}
 use Rattle.variants_and_fragments.specs.Case.{Fragment, Call}
 use Rattle.variants_and_fragments.specs.Decode.{tabulate}
 use Rattle.variants_and_fragments.specs.Pileup.{Row}
-use Rattle.pileup.specs.Inner.Packed.{rows_at, RowsIn, group_start}
+use Rattle.pileup.specs.declared.row.Row.{Row as RowHeld}
+use Rattle.pileup.specs.Inner.Packed.{row_from, rows_at, RowsIn, group_start}
 use Rattle.haplotype_assembly.specs.declared.tally.Tally.{Tally}
-use Rattle.haplotype_assembly.specs.declared.tally.Counted.{Counted}
+use Rattle.haplotype_assembly.specs.declared.Counted.{Counted}
 use Rattle.haplotype_assembly.specs.declared.lines.Head.{Head}
 use Rattle.haplotype_assembly.specs.Inner.PhaseRead.{rule_at}
 use Rattle.haplotype_assembly.specs.Lines.{space, colon, decimal, blocks, block_start, allele_bytes, call_quality, strand_byte, has_line}
@@ -38,11 +39,21 @@ shown_fragment w s rows ends f = record { present = present_at w s f; strand = s
 abbrev pub shown_fragments : List ℤ → Sizes → List ℕ → List ℕ → List Fragment
 shown_fragments w s rows ends = tabulate s.f (shown_fragment w s rows ends)
 
--- what the functions are given: an accepted case, and where the rows of each fragment stand
-pub record LinesGiven (w : List ℤ) (s : Sizes) (rows ends : List ℕ) : Type 0 where
-  pub case_in : CaseIn w s
+-- where the rows of each fragment stand
+pub record LinesGiven (s : Sizes) (rows ends : List ℕ) : Type 0 where
   pub ends_long : s.f ≤ length ends
+  pub rises : (f : ℕ) → f < s.f → group_start ends f ≤ get_or ends f 0
   pub rows_in : (f : ℕ) → f < s.f → RowsIn s.n s.f rows (group_start ends f) (get_or ends f 0)
+
+-- a row that the code holds, as a call
+abbrev pub call_of : RowHeld → Call
+call_of row = (row_from row).call
+
+-- what is known of a shown call
+pub record ShownIn (call : Call) : Type 0 where
+  pub variant_top : call.variant < 1024
+  pub allele_in : call.allele < 3
+  pub qual_in : DownTo 262144 call.qual
 
 -- ---- the numbers of shown calls, of blocks and of allele bytes, of n variants
 -- with a call at v

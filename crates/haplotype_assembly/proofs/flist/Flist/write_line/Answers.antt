@@ -1,0 +1,41 @@
+-- The pieces of the line are put one after the other.
+use Rattle.std.proofs.Common.{arith}
+use lib.ListN.{length-set}
+use Rattle.haplotype_assembly.specs.Inner.LinesRead.{line_with}
+use Rattle.haplotype_assembly.proofs.Pieces.{header_fits, line_room}
+use Rattle.haplotype_assembly.proofs.Stores.{put_one, put_on}
+use Rattle.haplotype_assembly.proofs.flist.Flist.write_line.Goals as goal
+
+pub write_header-alleles-requires : goal.write_header-alleles-requires
+write_header-alleles-requires c = header_fits _ _ _ _ _ c.requires.in_bounds
+
+pub write_alleles-space-requires-clause-in_bounds : goal.write_alleles-space-requires-clause-in_bounds
+write_alleles-space-requires-clause-in_bounds c =
+    omega (arith, c.requires.in_bounds, line_room c.args.self.now.case.laid.sizes.n c.args.head c.shown.ensures.calls c.shown.ensures.calls)
+
+pub bounds-buffer-space : goal.bounds-buffer-space
+bounds-buffer-space c =
+    omega (arith, c.requires.in_bounds, line_room c.args.self.now.case.laid.sizes.n c.args.head c.shown.ensures.calls c.shown.ensures.calls)
+
+pub overflow_add-space : goal.overflow_add-space
+overflow_add-space c =
+    omega (arith, c.requires.in_bounds, line_room c.args.self.now.case.laid.sizes.n c.args.head c.shown.ensures.calls c.shown.ensures.calls)
+
+pub write_qualities-last-requires-clause-in_bounds : goal.write_qualities-last-requires-clause-in_bounds
+write_qualities-last-requires-clause-in_bounds c =
+    simp length-set (omega (arith, c.requires.in_bounds, line_room c.args.self.now.case.laid.sizes.n c.args.head c.shown.ensures.calls c.shown-2.ensures.calls))
+
+pub bounds-buffer-last : goal.bounds-buffer-last
+bounds-buffer-last c =
+    omega (arith, c.requires.in_bounds, line_room c.args.self.now.case.laid.sizes.n c.args.head c.shown.ensures.calls c.shown-2.ensures.calls, simp length-set at c.write_qualities-last.auto.buffer)
+
+pub overflow_add-result : goal.overflow_add-result
+overflow_add-result c =
+    omega (arith, c.requires.in_bounds, line_room c.args.self.now.case.laid.sizes.n c.args.head c.shown.ensures.calls c.shown-2.ensures.calls)
+
+pub returns : goal.returns
+unfolding line_with
+returns c =
+    let alleles = rw c.shown.ensures.calls at c.write_alleles-space.ensures in
+    let qualities = rw c.shown-2.ensures.calls at c.write_qualities-last.ensures in
+    put_on c.write_header-alleles.ensures (put_on alleles (put_on (put_one _ _ _) (put_on qualities (put_one _ _ _))))

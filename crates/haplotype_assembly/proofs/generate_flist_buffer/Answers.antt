@@ -1,0 +1,43 @@
+-- Each way out is one line of the table, or the lines written: the rows that it makes are those of the case.
+use Rattle.std.proofs.Common.{sym, ap, ◌∙◌, arith}
+use Rattle.std.proofs.lemmas.Result.{err_from_is_err_and}
+use Rattle.variants_and_fragments.specs.Refusals.{done}
+use Rattle.variants_and_fragments.proofs.Outcomes.{case_stops, case_past, enough_stops, enough_passes, enough_fits, promise_refused, promise_done}
+use Rattle.variants_and_fragments.proofs.Short.{short_fits}
+use Rattle.haplotype_assembly.specs.FlistBuffer.{generate_flist_buffer_outcome}
+use Rattle.haplotype_assembly.proofs.LinesDecoded.{given, bytes_are, amount_is, buffer_written}
+use Rattle.haplotype_assembly.proofs.generate_flist_buffer.Goals as goal
+
+pub returns-in_err-case : goal.returns-in_err-case
+unfolding generate_flist_buffer_outcome
+returns-in_err-case c =
+    let p = err_from_is_err_and c.from_residual.result c.from_residual.ensures.1 in rw (p.1, p.2)
+    (promise_refused _ (case_stops _ _ _ _ c.in_err-case.ensures.outcome))
+
+pub invariant_of-flist : goal.invariant_of-flist
+invariant_of-flist c =
+    let sized = c.in_ok-case.case.laid.sized in
+    record { lines_given = given _ sized.n_top sized.f_top (c.make_rows.ensures.0.grouped c.args.bases.now) }
+
+pub returns-in_err-long_enough : goal.returns-in_err-long_enough
+unfolding generate_flist_buffer_outcome
+returns-in_err-long_enough c =
+    let lent = c.in_ok-case.ensures.lent.0 in
+    let bytes = bytes_are _ _ _ (sym c.in_ok-case.ensures.outcome) _ _ (rw lent at (c.make_rows.ensures.0.grouped c.args.bases.now)) _ _ (rw lent at c.count-counted.ensures) in
+    let p = err_from_is_err_and c.from_residual-in_err-long_enough.result c.from_residual-in_err-long_enough.ensures.1 in rw (p.1, p.2)
+    (promise_refused _ (enough_stops _ _ _ (rw bytes at c.in_err-long_enough.ensures) ∙ case_past _ _ _ c.in_ok-case.case c.in_ok-case.ensures.outcome))
+
+pub write-requires : goal.write-requires
+write-requires c = omega (arith, c.count-counted.ensures.bytes_are, (short_fits _ _ _ (enough_fits _ c.in_ok-long_enough.ensures)).0)
+
+pub returns : goal.returns
+unfolding generate_flist_buffer_outcome
+returns c =
+    let lent = c.in_ok-case.ensures.lent.0 in
+    let accepted = sym c.in_ok-case.ensures.outcome in
+    let grouped = rw lent at (c.make_rows.ensures.0.grouped c.args.bases.now) in
+    let counted = rw lent at c.count-counted.ensures in
+    let enough = rw (bytes_are _ _ _ accepted _ _ grouped _ _ counted) at c.in_ok-long_enough.ensures in
+    promise_done _
+    (ap done (amount_is _ _ _ accepted _ _ grouped _ _ counted) ∙ enough_passes _ _ enough ∙ case_past _ _ _ c.in_ok-case.case c.in_ok-case.ensures.outcome)
+    (rw lent at c.write.ensures ∙ buffer_written _ _ _ accepted _ _ grouped _ _ (short_fits _ _ _ (enough_fits _ enough)).0)

@@ -1,0 +1,78 @@
+// What fragment lines are read from: the calls that a line shows, off the rows of its fragment.
+ghost use Rattle.std.specs.Prelude.{◌≡◌, ◌<◌, ◌≤◌, length, get_or};
+ghost use Rattle.std.specs.Iterator.{YieldsFirstBy, item_count};
+ghost use Rattle.variants_and_fragments.specs.Inner.Case.{All};
+ghost use Rattle.pileup.specs.Inner.Packed.{group_start};
+ghost use Rattle.haplotype_assembly.specs.Inner.LinesRead.{call_of, shown_at, ShownIn, LinesGiven};
+
+use crate::phase::phased_rule;
+use pileup::piles::group_start;
+use pileup::row::Row;
+use std::marker::Model;
+use variants_and_fragments::Case;
+
+// A reader of rows, seen as the calls that are left to show: those at variants that meet the phased rule.
+#[derive(Drop)]
+pub struct ShownCalls<'a> {
+    case: Case<'a>,
+    rows: &'a [u64],
+}
+
+impl<'a> Model for ShownCalls<'a> {
+    ghost use Rattle.std.specs.Prelude.{List, map};
+    ghost use Rattle.variants_and_fragments.specs.Case.{Call};
+    ghost use Rattle.variants_and_fragments.specs.Inner.Case.{All};
+    ghost use Rattle.pileup.specs.Inner.Packed.{unpacked, RowIn};
+    ghost use Rattle.haplotype_assembly.specs.Inner.LinesRead.{shown_calls};
+
+    ghost Value = { List Call };
+
+    ghost view = { λ shown. shown_calls shown.case.laid.words.now (map unpacked shown.rows.now) };
+
+    ghost invariant = { λ shown. All (RowIn shown.case.laid.sizes.n shown.case.laid.sizes.f) (map unpacked shown.rows.now) };
+}
+
+impl<'a> Iterator for ShownCalls<'a> {
+    type Item = Row;
+
+    ghost next_gives = { YieldsFirstBy call_of (λ calls. calls) };
+
+    ghost remaining = { item_count (λ calls. calls) };
+
+    fn next(&mut self) -> Option<Row> {
+        while let Some((word, rest)) = self.rows.split_first() {
+            self.rows = rest;
+            let row = Row::unpack(*word);
+            if phased_rule(&self.case, row.variant) {
+                return Some(row);
+            }
+        }
+        None
+    }
+}
+
+// What the lines of a case are made from: its rows, where those of each fragment end, and whether one shown call makes a line.
+#[derive(Clone, Copy)]
+pub struct Flist<'a> {
+    pub case: Case<'a>,
+    pub rows: &'a [u64],
+    pub ends: &'a [usize],
+    pub single: bool,
+    ghost lines_given: { LinesGiven case.laid.sizes rows.now ends.now },
+}
+
+impl<'a> Flist<'a> {
+    // The calls that fragment f's line shows.
+    pub fn shown(&self, f: usize) -> ShownCalls<'a>
+        requires { f < self.now.case.laid.sizes.f }
+        ensures calls { result ≡ shown_at self.now.case.laid.words.now self.now.rows.now (group_start self.now.ends.now f) (get_or self.now.ends.now f 0) }
+        ensures in_case { All ShownIn result }
+        ensures few { length result ≤ 16384 }
+    {
+        let start = group_start(self.ends, f);
+        ShownCalls {
+            case: self.case,
+            rows: &self.rows[start..self.ends[f]],
+        }
+    }
+}
