@@ -9,7 +9,7 @@ ghost use Rattle.call_genotypes.specs.Inner.Reads.{reads_of};
 ghost use Rattle.call_genotypes.specs.Inner.Scores.{pair_at, value_of, mix_value, is_far, row_mixes, turn, RowFits, PileFits, AlleleSums, add_four, sums_at, rise_of, pair_rise, below_first, scores_of, ScoresRoom, Some, sweep_state, VisitStart, Scored};
 
 use crate::reads::SweepReads;
-use pileup::row::{Row, unpack};
+use pileup::row::Row;
 use steps::LogProb;
 use steps::one_plus::ln_one_plus_exp;
 
@@ -147,7 +147,7 @@ fn score_calls(pile: &[u64], lik: &[i64], turns: &[i64; 4]) -> [i64; 12]
 {
     let mut acc = [0i64; 12];
     for word in pile {
-        let row = unpack(*word);
+        let row = Row::unpack(*word);
         let r = call_mixes(row, lik, turns);
         add_four(r, &mut acc, row.allele);
     }

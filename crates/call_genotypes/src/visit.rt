@@ -10,7 +10,7 @@ ghost use Rattle.call_genotypes.specs.Inner.Visits.{BestPair, Moved, Movable, Pu
 use crate::reads::SweepReads;
 use crate::score::{Pair, first_max, pair_at, scores};
 use likelihoods::likelihoods::call_term;
-use pileup::row::{Row, unpack};
+use pileup::row::Row;
 
 // What a row's call adds to a likelihood when its variant's allele goes from old to new.
 fn change(row: Row, old: usize, new: usize) -> i64
@@ -35,7 +35,7 @@ fn move_liks(pile: &[u64], lik: &mut [i64], side: usize, old: usize, new: usize)
     ensures { Moved side old new (rows_at pile.now 0 (length pile.now)) lik.old lik.new }
 {
     for word in pile {
-        let row = unpack(*word);
+        let row = Row::unpack(*word);
         let at = 2 * row.fragment + side;
         shift(lik, at, change(row, old, new));
     }

@@ -1,70 +1,66 @@
 -- The checks of a round past its case: what each way through them answers.
 -- Assumes nothing.
-use mathlib.Core.Path.{◌≡◌, ap, ◌∙◌}
-use mathlib.Core.Bool.{true, ◌&&◌, and-false}
+use mathlib.Core.Path.{◌≡◌, sym, ap, ◌∙◌}
+use mathlib.Core.Bool.{◌&&◌, and-false}
+use mathlib.Core.Logic.{◌⊎◌, inl, inr}
 use mathlib.Core.List.{List}
 use Prim.Native.Nat.{ℕ, ◌≤◌, ◌<◌}
-use native.Mathlib.Omega.{arith}
-use borrow.Author.Tests.{eq-eqb, ne_eqb, le-leb, lt-leb}
+use borrow.Author.Tests.{le-leb, lt-leb}
 use lib.Dec.{leb}
 use lib.IntN.{ℤ}
-use Rattle.variants_and_fragments.specs.Refusals.{Outcome, refused, done, unless, each, and_then, smallest_short, long_enough}
-use Rattle.variants_and_fragments.proofs.Outcomes.{unless_on, unless_at, then_unless, then_each, then_then, then_same}
+use Rattle.variants_and_fragments.specs.declared.Refusal.{Refusal}
+use Rattle.variants_and_fragments.specs.Refusals.{Outcome, refused, done, refusal, unless, each, and_then, smallest_short, long_enough}
+use Rattle.variants_and_fragments.proofs.Outcomes.{unless_on, unless_at, each_stops, each_passes, enough_stops, enough_passes, then_on, then_refused, then_unless, then_each, then_then, then_same}
 use Rattle.genotype_probs.specs.declared.Rates.{Rates}
 use Rattle.genotype_probs.specs.Rates.{rate_test}
-use Rattle.genotype_probs.specs.Inner.Rates.{rates_fault}
-use Rattle.genotype_probs.proofs.RateLaws.{rates_on, rates_at}
+use Rattle.genotype_probs.specs.Inner.Rates.{rates_outcome}
 use Rattle.haplotype_assembly.specs.GivenPhase.{phase_tests}
-use Rattle.haplotype_assembly.specs.Inner.GivenPhase.{phase_fault}
-use Rattle.haplotype_assembly.proofs.PhaseLaws.{phase_on, phase_at}
+use Rattle.haplotype_assembly.proofs.PhaseLaws.{phase_stops, phase_passes}
 use Rattle.shuffle.specs.Answers.{orders_outcome}
 use Rattle.with_haplotypes.specs.Promise.{max_limit}
 use Rattle.with_haplotypes.specs.Inner.Checks.{limit_checks, round_checks}
 
--- ---- 9 and 10
-module _ (m limit short : ℕ) where
-  pub limit_low : limit < 1 → refused 9 limit ≡ limit_checks m limit short
-  unfolding limit_checks
-  limit_low h = unless_at _ 9 limit _ (rw (lt-leb 1 limit h))
+-- ---- where a check stops, and where all pass
+module _ (n : ℕ) (rates : Rates) (phase : List ℕ) (sets : List ℤ) (orders : List ℕ) (limit : ℕ) (slices : List (ℕ × ℕ)) where
+  abbrev checks : Outcome ℕ
+  checks = round_checks n rates phase sets orders limit (smallest_short slices)
 
-  pub limit_high : max_limit < limit → refused 9 limit ≡ limit_checks m limit short
-  unfolding limit_checks
-  limit_high h = unless_at _ 9 limit _ (rw (lt-leb limit max_limit h, and-false (leb 1 limit)))
-
-  module _ (l : 1 ≤ limit) (h : limit ≤ max_limit) where
-    in_range : (leb 1 limit && leb limit max_limit) ≡ true
-    in_range = rw (le-leb 1 limit l, le-leb limit max_limit h)
-
-    pub slice_short : (short ≡ 0 → ⊥) → refused 10 short ≡ limit_checks m limit short
-    unfolding limit_checks
-    slice_short d = unless_at _ 10 short _ (ne_eqb short 0 d) ∙ unless_on _ 9 limit _ in_range
-
-    pub limits_good : short ≡ 0 → done m ≡ limit_checks m limit short
-    unfolding limit_checks
-    limits_good e = unless_on _ 10 short _ (eq-eqb short 0 e) ∙ unless_on _ 9 limit _ in_range
-
--- ---- 6, 7 and 8
-module _ (n : ℕ) (rates : Rates) (phase : List ℕ) (sets : List ℤ) (orders : List ℕ) (limit short : ℕ) where
-  pub rates_refused : (p : ℕ) → p ≡ rates_fault rates → p < 7 → refused 6 p ≡ round_checks n rates phase sets orders limit short
+  pub rates_stop : (x : Refusal) → refusal x ≡ rates_outcome rates → refusal x ≡ checks
   unfolding round_checks
-  rates_refused p e h = ap (refused 6) e ∙ rates_at rates _ (omega arith)
+  rates_stop x e = each_stops 6 (rate_test rates) 0 7 _ x e
 
-  module _ (good : rates_fault rates ≡ 7) where
-    pub phase_refused : (v : ℕ) → v ≡ phase_fault n phase sets → v ≤ n → refused 7 v ≡ round_checks n rates phase sets orders limit short
+  module _ (r : ◌≡◌ {A = Outcome Unit} (done tt) (rates_outcome rates)) where
+    pub phase_stop : (x : Refusal) → refusal x ≡ phase_tests {X = Unit {0}} n phase sets (done tt) → refusal x ≡ checks
     unfolding round_checks
-    phase_refused v e h = ap (refused 7) e ∙ phase_at n phase sets _ (omega arith) ∙ rates_on rates _ good
+    phase_stop x e = phase_stops n phase sets _ x e ∙ each_passes 6 (rate_test rates) 0 7 _ r
 
-    past_phase : n < phase_fault n phase sets → and_then (orders_outcome n orders) (λ m. limit_checks m limit short) ≡ round_checks n rates phase sets orders limit short
-    unfolding round_checks
-    past_phase h = phase_on n phase sets _ h ∙ rates_on rates _ good
+    module _ (p : ◌≡◌ {A = Outcome Unit} (done tt) (phase_tests n phase sets (done tt))) where
+      past_phase : and_then (orders_outcome n orders) (λ m. limit_checks m limit (smallest_short slices)) ≡ checks
+      unfolding round_checks
+      past_phase = phase_passes n phase sets _ p ∙ each_passes 6 (rate_test rates) 0 7 _ r
 
-    pub orders_refused : (number o : ℕ) → n < phase_fault n phase sets → refused number o ≡ orders_outcome n orders → refused number o ≡ round_checks n rates phase sets orders limit short
-    unfolding and_then
-    orders_refused number o h e = ap (λ (x : Outcome ℕ). and_then x (λ m. limit_checks m limit short)) e ∙ past_phase h
+      pub orders_stop : (x : Refusal) → refusal x ≡ orders_outcome n orders → refusal x ≡ checks
+      orders_stop x e = then_refused (orders_outcome n orders) _ x e ∙ past_phase
 
-    pub orders_passed : (m : ℕ) (x : Outcome ℕ) → n < phase_fault n phase sets → done m ≡ orders_outcome n orders → x ≡ limit_checks m limit short → x ≡ round_checks n rates phase sets orders limit short
-    unfolding and_then
-    orders_passed m x h e q = q ∙ ap (λ (y : Outcome ℕ). and_then y (λ k. limit_checks k limit short)) e ∙ past_phase h
+      module _ (m : ℕ) (o : done m ≡ orders_outcome n orders) where
+        past_orders : limit_checks m limit (smallest_short slices) ≡ checks
+        past_orders = then_on (orders_outcome n orders) (λ m. limit_checks m limit (smallest_short slices)) m (sym o) ∙ past_phase
+
+        pub limit_stop : (limit < 1) ⊎ ((1 ≤ limit) × (max_limit < limit)) → refused 9 limit ≡ checks
+        unfolding limit_checks
+        limit_stop (inl l) = unless_at _ 9 limit _ (rw (lt-leb 1 limit l)) ∙ past_orders
+        limit_stop (inr h) = unless_at _ 9 limit _ (rw (lt-leb limit max_limit h.1, and-false (leb 1 limit))) ∙ past_orders
+
+        module _ (l : 1 ≤ limit) (h : limit ≤ max_limit) where
+          past_limit : long_enough slices (done m) ≡ checks
+          unfolding limit_checks long_enough
+          past_limit = unless_on (leb 1 limit && leb limit max_limit) 9 limit _ (rw (le-leb 1 limit l, le-leb limit max_limit h)) ∙ past_orders
+
+          pub short_stop : (x : Refusal) → refusal x ≡ long_enough {X = Unit {0}} slices (done tt) → refusal x ≡ checks
+          short_stop x e = enough_stops slices (done m) x e ∙ past_limit
+
+          pub all_pass : ◌≡◌ {A = Outcome Unit} (done tt) (long_enough slices (done tt)) → done m ≡ checks
+          all_pass e = enough_passes slices (done m) e ∙ past_limit
 
 -- ---- the checks, and what follows them, are the outcome's lines
 limits_then : {X : Type 0} (m limit : ℕ) (slices : List (ℕ × ℕ)) (rest : Outcome X) → and_then (limit_checks m limit (smallest_short slices)) (λ m. rest) ≡ unless (leb 1 limit && leb limit max_limit) 9 limit (long_enough slices rest)

@@ -13,7 +13,7 @@ use lib.ListN.{length, take}
 use Rattle.variants_and_fragments.specs.declared.Sizes.{Sizes}
 use Rattle.variants_and_fragments.specs.declared.Refusal.{Refusal}
 use Rattle.variants_and_fragments.specs.Case.{allele_count, variant_of}
-use Rattle.variants_and_fragments.specs.declared.Checked.TheVariants.{Refused as NotAccepted}
+use Rattle.std.proofs.Common.{Err}
 use Rattle.variants_and_fragments.specs.Refusals.{Outcome, done, refusal, unless, each, and_then, smallest_short}
 use Rattle.variants_and_fragments.specs.Check.{check_case_outcome}
 use Rattle.variants_and_fragments.specs.Check as check
@@ -26,7 +26,7 @@ use Rattle.genotype_probs.proofs.RateLaws.{rates_past}
 use Rattle.genotype_probs.specs.Posteriors.{normalized}
 use Rattle.genotype_probs.proofs.AlleleLaws.{nine}
 use Rattle.variants_and_fragments.proofs.Short.{short_fits}
-use Rattle.haplotype_assembly.proofs.PhaseLaws.{faultless, phase_past}
+use Rattle.haplotype_assembly.proofs.PhaseLaws.{phase_past}
 use Rattle.shuffle.specs.Answers.{orders_outcome}
 use Rattle.shuffle.specs.Orders.{order_count}
 use Rattle.shuffle.proofs.GoodOrders.{orders_good}
@@ -37,10 +37,9 @@ use Rattle.likelihoods.proofs.SweepCases.{good_sweep_case}
 use Rattle.genotype_probs.specs.Normalized.{is_normal}
 use Rattle.genotype_probs.proofs.NormalizedLaws.{all_normal}
 use Rattle.with_haplotypes.specs.declared.RoundAnswer.{RoundAnswer}
-use Rattle.with_haplotypes.specs.declared.RoundSizes.{RoundSizes}
-use Rattle.with_haplotypes.specs.declared.Round.TheVariants.{Done, Refused}
+use Rattle.call_genotypes.specs.declared.run.Plan.{Plan}
 use Rattle.with_haplotypes.specs.Round.{RoundInput, case_of_round, run_of, sweep_case, order_of_sweep, result, returned, posteriors, latest_score, final}
-use Rattle.with_haplotypes.specs.Promise.{RoundSlices, round_slices, round_needs, max_limit, call_genotypes_with_haplotypes_outcome, call_genotypes_with_haplotypes_written, outcome_of, ToldTotals, pair_on, CalledWithHaplotypes}
+use Rattle.with_haplotypes.specs.Promise.{RoundSlices, round_slices, round_needs, max_limit, call_genotypes_with_haplotypes_outcome, call_genotypes_with_haplotypes_written, ToldTotals, pair_on, CalledWithHaplotypes}
 use Rattle.with_haplotypes.specs.Inner.Checks.{limit_checks, round_checks}
 use Rattle.with_haplotypes.proofs.CheckLaws.{checks_then}
 use Rattle.with_haplotypes.specs.Inner.Steps.{Admitted, RoundRoom, RoundMade}
@@ -97,11 +96,11 @@ module _ (input : RoundInput) (sets : List ℤ) (before : RoundSlices) where
   abbrev checks_of : Sizes → Outcome ℕ
   checks_of s = round_checks s.n input.rates input.phase sets input.orders input.limit (smallest_short (round_needs s.n s.f before))
 
-  -- the sizes of a round
-  abbrev sizes_of : Sizes → ℕ → RoundSizes
-  sizes_of s m = record { s = s; m = m; limit = input.limit }
+  -- a round's sweeps
+  abbrev plan_of : Sizes → ℕ → Plan
+  plan_of s m = record { n = s.n; m = m; limit = input.limit }
 
-  pub admits : (s : Sizes) (m : ℕ) → check_case_outcome input.words input.bases ≡ done s → checks_of s ≡ done m → Admitted input (sizes_of s m) × RoundRoom s before
+  pub admits : (s : Sizes) (m : ℕ) → check_case_outcome input.words input.bases ≡ done s → checks_of s ≡ done m → Admitted input s (plan_of s m) × RoundRoom s before
   unfolding round_checks
   admits s m accepted e =
       let a = rates_past input.rates _ m e in
@@ -109,14 +108,14 @@ module _ (input : RoundInput) (sets : List ℤ) (before : RoundSlices) where
       let c = orders_passed (orders_outcome s.n input.orders) input.limit (smallest_short (round_needs s.n s.f before)) m b.1 in (
         record {
           given = record { accepted = accepted; good_rates = a.0 };
-          phase_long = (faultless s.n input.phase sets b.0).bytes_long;
+          phase_long = b.0.bytes_long;
           good_orders = record {
+            n_is = refl;
             good = orders_good s.n m input.orders c.0;
             count_is = count_is s.n m input.orders c.0;
             limit_low = c.1.limit_low;
             limit_top = c.1.limit_top;
           };
-          limit_is = refl;
         },
         slices_room s before c.1.none_short,
       )
@@ -131,8 +130,7 @@ module _ (input : RoundInput) (sets : List ℤ) (before : RoundSlices) where
   unfolding call_genotypes_with_haplotypes_outcome
   past_case s e = checks_then s.n input.rates input.phase sets input.orders input.limit (round_needs s.n s.f before) (last_line s) ∙ then_on _ _ s e
 
-  turned_down : (x : Refusal) → refusal x ≡ call_genotypes_with_haplotypes_outcome input sets before → CalledWithHaplotypes input sets before (outcome_of (Refused x)) before
-  unfolding outcome_of
+  turned_down : (x : Refusal) → refusal x ≡ call_genotypes_with_haplotypes_outcome input sets before → CalledWithHaplotypes input sets before (refusal x) before
   turned_down x e = record {
     promise = promise_refused x e;
     demand3 = λ y q. absurd (not_done q);
@@ -141,12 +139,12 @@ module _ (input : RoundInput) (sets : List ℤ) (before : RoundSlices) where
   }
 
   -- 1 to 5
-  pub answer_case : (x : Refusal) → check.outcome_of (NotAccepted x) ≡ check_case_outcome input.words input.bases → CalledWithHaplotypes input sets before (outcome_of (Refused x)) before
+  pub answer_case : (x : Refusal) → check.outcome_of (Err x) ≡ check_case_outcome input.words input.bases → CalledWithHaplotypes input sets before (refusal x) before
   unfolding call_genotypes_with_haplotypes_outcome
   answer_case x e = turned_down x (case_stops _ _ _ x e)
 
   -- 6 to 10
-  pub answer_checks : (s : Sizes) (x : Refusal) → check_case_outcome input.words input.bases ≡ done s → refusal x ≡ checks_of s → CalledWithHaplotypes input sets before (outcome_of (Refused x)) before
+  pub answer_checks : (s : Sizes) (x : Refusal) → check_case_outcome input.words input.bases ≡ done s → refusal x ≡ checks_of s → CalledWithHaplotypes input sets before (refusal x) before
   unfolding and_then
   answer_checks s x e q = turned_down x (ap (λ (o : Outcome ℕ). and_then o (λ m. last_line s)) q ∙ past_case s e)
 
@@ -210,15 +208,15 @@ module _ (input : RoundInput) (sets : List ℤ) (before : RoundSlices) where
           let A = (admits s m e q).0 in
           let g = good_case input.words input.bases s e in
           let n = variants_are (known A.given) input.bases in
-          let c = variants_counted (sizes_of s m) A.given (run_of input).phased (run_of input).start input.orders input.limit in
-          let ok = runs.orders_good (sizes_of s m) A.given (run_of input).phased (run_of input).start input.orders input.limit A.good_orders in
+          let c = variants_counted s A.given (run_of input).phased (run_of input).start input.orders input.limit in
+          let ok = runs.orders_good s A.given (run_of input).phased (run_of input).start input.orders input.limit A.good_orders in
           let last = M.demand3.ends.last in
           final_pair (run_of input) v haps last (sweeps_are ∙ M.demand3.ends.counted) M.demand3.ends.reached
           (after_good C good (order_of_sweep (run_of input)) ok (run_of input).start last (start_good A))
           (ok last) (omega arith) (g.variants_in v (omega arith)).some_allele (g.variants_in v (omega arith)).three_alleles
 
-    pub answer_done : (r : RoundAnswer) (after : RoundSlices) → RoundMade (run_of input) s before r after → CalledWithHaplotypes input sets before (outcome_of (Done r)) after
-    unfolding outcome_of call_genotypes_with_haplotypes_written
+    pub answer_done : (r : RoundAnswer) (after : RoundSlices) → RoundMade (run_of input) s before r after → CalledWithHaplotypes input sets before (done r) after
+    unfolding call_genotypes_with_haplotypes_written
     answer_done r after M =
         let A = (admits s m e q).0 in
         let n = variants_are (known A.given) input.bases in

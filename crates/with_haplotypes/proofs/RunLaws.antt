@@ -3,7 +3,7 @@
 use mathlib.Core.Path.{◌≡◌, sym, ap, ◌∙◌}
 use mathlib.Core.Bool.{Bool, true}
 use mathlib.Core.List.{List, [], ◌∷◌}
-use Prim.Native.Nat.{ℕ, zero, suc, ◌*◌, ◌^◌, ◌<◌, ◌≤◌}
+use Prim.Native.Nat.{ℕ, zero, suc, ◌*◌, ◌/◌, ◌^◌, ◌<◌, ◌≤◌}
 use native.Mathlib.Omega.{arith}
 use borrow.Author.Tests.{eqb-true}
 use lib.Dec.{eqb}
@@ -16,6 +16,8 @@ use Rattle.variants_and_fragments.proofs.Accepted.{case_in}
 use Rattle.variants_and_fragments.proofs.Bools.{both}
 use Rattle.variants_and_fragments.proofs.Decoded.{variants_are}
 use Rattle.pileup.specs.Inner.Packed.{group_start}
+use Rattle.pileup.specs.Inner.Collected.{collected}
+use Rattle.pileup.specs.Inner.Rows.{RowsMade}
 use Rattle.genotype_probs.specs.declared.Rates.{Rates}
 use Rattle.shuffle.specs.Permutation.{Permutation}
 use Rattle.shuffle.specs.Orders.{order_count}
@@ -35,9 +37,8 @@ use Rattle.call_genotypes.specs.Inner.Scores.{SweepState, sweep_state}
 use Rattle.call_genotypes.specs.Inner.Runs.{order_of, RunStart, Ran}
 use Rattle.call_genotypes.proofs.Linked.{lik_within}
 use Rattle.with_haplotypes.specs.declared.RoundAnswer.{RoundAnswer}
-use Rattle.with_haplotypes.specs.declared.RoundSizes.{RoundSizes}
 use Rattle.with_haplotypes.specs.Round.{RunInput, run_input, sweep_case, order_of_sweep, result}
-use Rattle.with_haplotypes.specs.Inner.Steps.{CaseGiven, OrdersGiven, Scratch, ScratchRoom, Prepared, RunGiven, SomePhased, RunMade, RunPromise, PreparedRun, PreparedPromise}
+use Rattle.with_haplotypes.specs.Inner.Steps.{CaseGiven, OrdersGiven, Scratch, Prepared, RunGiven, StateGiven, RunMade}
 use Rattle.with_haplotypes.proofs.OrdersHeld.{order_good}
 
 -- each of a list of ones is 1
@@ -50,122 +51,115 @@ all_ones (x ∷ xs) e (suc v) h = all_ones xs (both (eqb x 1) (allb (λ x. eqb x
 pub known : {w : List ℤ} {b : List ℕ} {rates : Rates} {s : Sizes} → CaseGiven w b rates s → CaseIn w s
 known {w} {b} {rates} {s} g = case_in w b s g.accepted
 
--- ---- a run with scratch of its own, of whatever size
--- scratch that is long enough for these sizes
-pub scratch_room : (s : Sizes) (x : Scratch) (calls fragments variants : ℕ) → s.c ≤ calls → s.f ≤ fragments → s.n ≤ variants
-    → length x.rows ≡ calls → length x.row_ends ≡ fragments → length x.piles ≡ calls → length x.pile_ends ≡ variants → length x.pri ≡ 9 * variants → ScratchRoom s x
-scratch_room s x calls fragments variants c f n rows row_ends piles pile_ends pri =
-    record { rows_long = omega arith; row_ends_long = omega arith; piles_long = omega arith; pile_ends_long = omega arith; pri_long = omega arith }
-
-module _ {w : List ℤ} {b : List ℕ} {rates : Rates} {z : RoundSizes} {ks ph orders : List ℕ} {state : SweepState} {x : Scratch} (P : Prepared w b rates z.s x) where
-  -- what the run over prepared scratch asks
-  pub run_asks : SomePhased (RunGiven w b rates z ks ph orders state) → PreparedRun z ks ph x orders state
-  run_asks G = record { words = w; bases = b; rates = rates; phased = G.phased; given = G.holds; prepared = P }
-
-  -- and what it promises
-  pub run_promised : {after : SweepState} {r : RoundAnswer} → PreparedPromise z ks ph x orders state after r → RunPromise w b rates z ks ph orders state after r
-  run_promised p phased g = p (record { words = w; bases = b; rates = rates; phased = phased; given = g; prepared = P })
+-- the rows of an accepted case, with no place to count the ambiguous calls
+pub rows_of : {w : List ℤ} {s : Sizes} {rows ends ambiguous : List ℕ} {count : ℕ} → RowsMade w s rows ends ambiguous count → RowsMade w s rows ends [] (length (collected w s).rows)
+rows_of m = rw (← m.rows_held.count_is) (record {
+  rows_held = m.rows_held;
+  ambiguous_counted = record { at = λ v h. absurd (omega arith) };
+  all_calls = m.all_calls;
+  count_in = m.count_in;
+  rows_in = m.rows_in;
+  grouped = m.grouped;
+})
 
 -- ---- a case, phased variants and orders
-module _ {w : List ℤ} {b : List ℕ} {rates : Rates} (z : RoundSizes) (g : CaseGiven w b rates z.s) (phased : ℕ → Bool) (start orders : List ℕ) (limit : ℕ) where
+module _ {w : List ℤ} {b : List ℕ} {rates : Rates} (s : Sizes) (g : CaseGiven w b rates s) (phased : ℕ → Bool) (start orders : List ℕ) (limit : ℕ) where
   abbrev input : RunInput
   input = run_input w b rates phased start orders limit
 
-  pub variants_counted : (sweep_case input).n ≡ z.s.n
+  pub variants_counted : (sweep_case input).n ≡ s.n
   unfolding sweep_case
-  variants_counted = counted rates phased w b z.s g.accepted
+  variants_counted = counted rates phased w b s g.accepted
 
-  module _ (o : OrdersGiven orders z) where
-    pub orders_same : order_of_sweep input ≡ order_of orders z.s.n z.m
+  module _ {plan : Plan} (o : OrdersGiven orders s.n plan) where
+    pub orders_same : order_of_sweep input ≡ order_of orders plan.n plan.m
     unfolding order_of_sweep order_of
     orders_same =
         ap (λ (n : ℕ). order_of orders n (order_count n (length orders))) (variants_are (known g) b)
-        ∙ ap (order_of orders z.s.n) (sym o.count_is)
+        ∙ ap (order_of orders s.n) (sym o.count_is)
+        ∙ ap (λ (n : ℕ). order_of orders n plan.m) (sym o.n_is)
 
     pub orders_good : (q : ℕ) → Permutation (sweep_case input).n (order_of_sweep input q)
-    orders_good q = rw (variants_counted, orders_same) (order_good z.s.n z.m orders o.good q)
+    orders_good q = rw (variants_counted, orders_same, o.n_is) (order_good s.n plan.m orders o.good q)
 
--- how many variants an order has, how many orders there are, and the most sweeps
-abbrev pub plan_of : RoundSizes → Plan
-plan_of z = record { n = z.s.n; m = z.m; limit = z.limit }
-
--- ---- what `prepare` leaves and the run is given
-module _ {w : List ℤ} {b : List ℕ} {rates : Rates} {z : RoundSizes} {ks ph orders : List ℕ} {state : SweepState} {phased : ℕ → Bool} {x : Scratch}
-    (G : RunGiven w b rates z ks ph orders state phased) (P : Prepared w b rates z.s x) where
+-- ---- what is prepared and the run is given
+module _ {w : List ℤ} {b : List ℕ} {rates : Rates} {s : Sizes} {plan : Plan} {ks ph orders : List ℕ} {state : SweepState} {phased : ℕ → Bool} {x : Scratch}
+    (G : RunGiven w b rates s plan ks ph orders phased) (P : Prepared w b rates s x)
+    (S : StateGiven (sweep_case (run_input w b rates phased state.hap orders plan.limit)) s state) where
   abbrev run : RunInput
-  run = run_input w b rates phased state.hap orders z.limit
+  run = run_input w b rates phased state.hap orders plan.limit
 
   abbrev C : SweepCase
   C = sweep_case run
 
-  n_is : C.n ≡ z.s.n
-  n_is = variants_counted z G.given phased state.hap orders z.limit
+  n_is : C.n ≡ s.n
+  n_is = variants_counted s G.given phased state.hap orders plan.limit
 
   pub case_held : Held C (sweep_reads ks ph x.pri x.pile_ends x.piles)
   unfolding sweep_case
   case_held =
-      held rates phased w b z.s G.given.accepted G.counts.was ks ph P.pri_was x.pri G.given.good_rates G.counts.room
-      G.counts.written_is G.ph_long G.ph_are P.pri_room P.pri_are P.piles_made
+      held rates phased w b s G.given.accepted ks ks ph x.pri x.pri G.given.good_rates (omega (arith, G.counts.long))
+      G.counts.are G.ph_long G.ph_are P.pri_long P.pri_are P.piles_made
 
-  -- what is asked of rows and flags
-  pub calls_asked : (h mask : List ℕ) → GoodHaps C h → z.s.n ≤ length mask → CallsIn x.rows (group_start x.row_ends z.s.f) h mask × EndsIn x.row_ends z.s.f
-  calls_asked h mask g l =
-      let k = known G.given in
-      (calls_in k P.rows_made h mask (omega (arith, g.len, n_is)) l, ends_in_order k P.rows_made)
-
-  fragments_counted : length C.frags ≡ z.s.f
+  fragments_counted : length C.frags ≡ s.f
   unfolding sweep_case
-  fragments_counted = frags_counted rates phased w b z.s G.given.accepted
+  fragments_counted = frags_counted rates phased w b s G.given.accepted
+
+  -- rows and priors, with flags
+  module _ {h : List ℕ} (mask : List ℕ) (g : GoodHaps C h) (long : s.n ≤ length mask) where
+    pub rows_asked : CallsIn x.rows (group_start x.row_ends (length x.row_ends)) h mask × EndsIn x.row_ends (length x.row_ends)
+    rows_asked =
+        let k = known G.given in
+        rw P.ends_long (calls_in k P.rows_made h mask (omega (arith, g.len, n_is)) long, ends_in_order k P.rows_made)
+
+    pub priors_asked : PriorsIn (length ks) ks x.pri h mask
+    priors_asked = rw G.counts.long (priors_in s.n mask case_held g n_is long)
 
   -- the likelihoods of the start's haplotypes, as they are written
-  module _ {lik : List ℤ} (lik-written : lik ≡ written (likelihood_at x.rows x.row_ends state.hap ph) (2 * z.s.f) state.lik) where
+  module _ {lik : List ℤ} (lik-written : lik ≡ written (likelihood_at x.rows x.row_ends state.hap ph) (2 * length x.row_ends) state.lik) where
     pub liks_here : Liks C state.hap lik
     unfolding sweep_case
-    liks_here = liks_held rates phased w b z.s G.given.accepted P.rows_made state.hap ph state.lik lik G.ph_are G.liks_long lik-written
+    liks_here = liks_held rates phased w b s G.given.accepted P.rows_made state.hap ph state.lik lik G.ph_are S.liks_long (rw P.ends_long at lik-written)
 
-    pub begins : RunStart C (sweep_reads ks ph x.pri x.pile_ends x.piles) (sweep_state state.hap lik state.post) orders (plan_of z)
+    pub begins : RunStart C (sweep_reads ks ph x.pri x.pile_ends x.piles) (sweep_state state.hap lik state.post) orders plan
     begins = record {
-      standing = record { held = case_held; haps = G.good_start; liks = liks_here; room = omega (arith, n_is, G.post_long) };
-      n_is = sym n_is;
+      standing = record { held = case_held; haps = S.good_start; liks = liks_here; room = omega (arith, n_is, S.post_long) };
+      n_is = omega (arith, n_is, G.good_orders.n_is);
       some_order = omega (arith, G.good_orders.good.some);
       some_sweep = G.good_orders.limit_low;
       limit_top = G.good_orders.limit_top;
-      orders_long = sym G.good_orders.good.fills;
-      orders_good = order_good z.s.n z.m orders G.good_orders.good;
+      orders_long = rw G.good_orders.n_is (sym G.good_orders.good.fills);
+      orders_good = rw G.good_orders.n_is (order_good s.n plan.m orders G.good_orders.good);
     }
 
   -- what `standing_total` wants, of haplotypes and their likelihoods, and what it answers
   module _ {h : List ℕ} {l : List ℤ} (g : GoodHaps C h) (liks : Liks C h l) where
-    pub standing_asks : PriorsIn z.s.n ks x.pri h ph × ((z.s.f ≤ 4096) × (2 * z.s.f ≤ length l) × Within (2 ^ 32) l)
-    standing_asks = (
-      priors_in z.s.n ph case_held g n_is G.ph_long,
-      ((known G.given).sized.f_top, omega (arith, liks.long, fragments_counted), lik_within case_held h l liks),
-    )
+    pub standing_asks : (length l ≤ 8192) × Within (2 ^ 32) l
+    standing_asks = (omega (arith, liks.long, fragments_counted, (known G.given).sized.f_top), lik_within case_held h l liks)
 
-    pub phased_total_lem : standing_total z.s.n z.s.f ks x.pri l h ph ≡ phased_total C h
+    pub phased_total_lem : standing_total (length ks) (length l / 2) ks x.pri l h ph ≡ phased_total C h
     unfolding sweep_case
-    phased_total_lem = standing_total_held rates phased w b z.s G.given.accepted P.rows_made case_held g liks
+    phased_total_lem =
+        let f : length l / 2 ≡ s.f = omega (arith, liks.long, fragments_counted) in
+        rw (G.counts.long, f) (standing_total_held rates phased w b s G.given.accepted P.rows_made case_held g liks)
 
-  -- what `total` wants and answers, of all variants
-  module _ {h : List ℕ} (ones : List ℕ) (g : GoodHaps C h) (long : z.s.n ≤ length ones) where
-    pub total_asks : PriorsIn z.s.n ks x.pri h ones × (CallsIn x.rows (group_start x.row_ends z.s.f) h ones × EndsIn x.row_ends z.s.f)
-    total_asks = (priors_in z.s.n ones case_held g n_is long, calls_asked h ones g long)
-
-    pub source_total_lem : ((v : ℕ) → v < z.s.n → get_or ones v 0 ≡ 1) → total_of (held_case z.s.n z.s.f ks x.pri x.rows x.row_ends ones) (flagged ones) h ≡ source_total C h
+  -- what `total` answers, of all variants
+  module _ {h : List ℕ} (ones : List ℕ) (g : GoodHaps C h) where
+    pub source_total_lem : ((v : ℕ) → v < s.n → get_or ones v 0 ≡ 1) → total_of (held_case (length ks) (length x.row_ends) ks x.pri x.rows x.row_ends ones) (flagged ones) h ≡ source_total C h
     unfolding sweep_case
-    source_total_lem all = source_total_held rates phased w b z.s G.given.accepted P.rows_made case_held g ones all
+    source_total_lem all = rw (G.counts.long, P.ends_long) (source_total_held rates phased w b s G.given.accepted P.rows_made case_held g ones all)
 
   -- ---- after the sweeps
-  module _ {lik : List ℤ} {after : SweepState} {r : RunAnswer} (R : Ran C orders (plan_of z) (sweep_state state.hap lik state.post) after r) where
-    orders_here : order_of orders z.s.n z.m ≡ order_of_sweep run
-    orders_here = sym (orders_same z G.given phased state.hap orders z.limit G.good_orders)
+  module _ {lik : List ℤ} {after : SweepState} {r : RunAnswer} (R : Ran C orders plan (sweep_state state.hap lik state.post) after r) where
+    orders_here : order_of orders plan.n plan.m ≡ order_of_sweep run
+    orders_here = sym (orders_same s G.given phased state.hap orders plan.limit G.good_orders)
 
     -- the haplotypes that are left
     pub left_good : GoodHaps C after.hap
     left_good =
         let e = R.demand3.ends in
         rw (e.reached, orders_here)
-        (after_good C case_held.good (order_of_sweep run) (orders_good z G.given phased state.hap orders z.limit G.good_orders) state.hap (suc e.last) G.good_start)
+        (after_good C case_held.good (order_of_sweep run) (orders_good s G.given phased state.hap orders plan.limit G.good_orders) state.hap (suc e.last) S.good_start)
 
     pub run_made : (a : RoundAnswer) → a.sweeps ≡ r.sweeps → a.settled ≡ r.settled → a.start.0 ≡ phased_total C state.hap → a.end.0 ≡ phased_total C after.hap → a.source.0 ≡ source_total C after.hap → RunMade run state after a
     unfolding result

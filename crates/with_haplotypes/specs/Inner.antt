@@ -1,4 +1,5 @@
 pub mod Checks
 pub mod Steps
+pub mod Reads
 pub mod Finals
 pub mod NormalizedPosteriors

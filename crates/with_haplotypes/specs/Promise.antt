@@ -1,9 +1,9 @@
 -- 01, sections 6 and 7, and the table of refusals: what `call_genotypes_with_haplotypes` answers and writes, and demand 3 of every accepted
 -- input.
 -- Assumes nothing.
-use Rattle.std.specs.Prelude.{◌≡◌, ◌&&◌, List, [], ◌∷◌, ℕ, ◌+◌, ◌*◌, ◌<◌, leb, Float, ℤ, pos, ◌+ℤ◌, ◌-ℤ◌, ◌*ℤ◌, length, take, ◌≤ℤ◌}
+use Rattle.std.specs.Prelude.{◌≡◌, Result, ◌&&◌, List, [], ◌∷◌, ℕ, ◌+◌, ◌*◌, ◌<◌, leb, Float, ℤ, pos, ◌+ℤ◌, ◌-ℤ◌, ◌*ℤ◌, length, take, ◌≤ℤ◌}
 use Rattle.variants_and_fragments.specs.Case.{allele_count, variant_of}
-use Rattle.variants_and_fragments.specs.Refusals.{Outcome, done, refusal, unless, each, and_then, long_enough, Promise}
+use Rattle.variants_and_fragments.specs.Refusals.{Outcome, done, answered, unless, each, and_then, long_enough, Promise}
 use Rattle.variants_and_fragments.specs.Check.{check_case_outcome}
 use Rattle.variants_and_fragments.specs.Written.{written}
 use Rattle.genotype_probs.specs.Rates.{rate_test}
@@ -14,8 +14,7 @@ use Rattle.sweeps.specs.Demand3.{Demand3}
 use Rattle.genotype_probs.specs.declared.posteriors.Genotype.{Genotype}
 use Rattle.genotype_probs.specs.Normalized.{is_normal}
 use Rattle.with_haplotypes.specs.declared.RoundAnswer.{RoundAnswer}
-use Rattle.with_haplotypes.specs.declared.Round.{Round}
-use Rattle.with_haplotypes.specs.declared.Round.TheVariants.{Done, Refused}
+use Rattle.variants_and_fragments.specs.declared.Refusal.{Refusal}
 use Rattle.with_haplotypes.specs.Round.{RoundInput, case_of_round, run_of, sweep_case, order_of_sweep, returned, haplotype_at, likelihood_at, posteriors, posterior_at, final}
 
 -- the lent slices
@@ -69,9 +68,8 @@ call_genotypes_with_haplotypes_written input before =
     (written (λ v. (final (run_of input) v).gq.0) n before.gqs)
 
 -- the answer as an outcome
-unfoldable pub outcome_of : Round → Outcome RoundAnswer
-outcome_of (Done x) = done x
-outcome_of (Refused x) = refusal x
+abbrev pub outcome_of : Result RoundAnswer Refusal → Outcome RoundAnswer
+outcome_of answer = answered (λ x. x) answer
 
 -- demand 3 in the numbers returned: the totals are those of the haplotypes at the start and of those written, the phased total does not fall,
 -- and sweeps ≤ 9 × gain + 8 × phased variants + 2

@@ -4,17 +4,18 @@
 ghost use Rattle.with_haplotypes.specs.Round.{round_input};
 ghost use Rattle.with_haplotypes.specs.Promise.{round_slices, outcome_of, CalledWithHaplotypes};
 
-use crate::accepted::round_accepted;
-use crate::checks::{RoundChecked, round_checks, round_short};
+use crate::reads::AcceptedRound;
+use call_genotypes::run::Plan;
 use genotype_probs::Rates;
+use haplotype_assembly::phase::check_phase;
+use shuffle::check_orders;
 use steps::LogProb;
-use variants_and_fragments::{Checked, Refusal, Sizes, check_case};
+use variants_and_fragments::{Refusal, check_case, long_enough};
 
 mod accepted;
-mod checks;
 mod finals;
 mod normalized;
-mod prepare;
+mod reads;
 mod run;
 mod scratch;
 
@@ -27,21 +28,6 @@ pub struct RoundAnswer {
     pub start: LogProb,
     pub end: LogProb,
     pub source: LogProb,
-}
-
-// What a round goes by: the sizes of its case, how many orders are lent, and the most sweeps.
-#[derive(Clone, Copy)]
-pub struct RoundSizes {
-    pub s: Sizes,
-    pub m: usize,
-    pub limit: usize,
-}
-
-// What `call_genotypes_with_haplotypes` answers.
-#[derive(Clone, Copy)]
-pub enum Round {
-    Done(RoundAnswer),
-    Refused(Refusal),
 }
 
 // Calls genotypes with haplotypes, in one round: sweeps from the given phase, by the lent orders in turn, until one changes nothing or
@@ -60,41 +46,33 @@ pub fn call_genotypes_with_haplotypes(
     posteriors: &mut [i64],
     quals: &mut [f64],
     gqs: &mut [f64],
-) -> Round
+) -> Result<RoundAnswer, Refusal>
     ensures { CalledWithHaplotypes (round_input words.now bases.now rates phase.now orders.now limit) sets.now (round_slices haplotypes.old likelihoods.old posteriors.old quals.old gqs.old) (outcome_of result) (round_slices haplotypes.new likelihoods.new posteriors.new quals.new gqs.new) }
 {
-    match check_case(words, bases) {
-        Checked::Refused(x) => Round::Refused(x),
-        Checked::Accepted(s) => {
-            let short = round_short(
-                s.n,
-                s.f,
-                haplotypes.len(),
-                likelihoods.len(),
-                posteriors.len(),
-                quals.len(),
-                gqs.len(),
-            );
-            match round_checks(s.n, rates, phase, sets, orders, limit, short) {
-                RoundChecked::Refused(x) => Round::Refused(x),
-                RoundChecked::Good(m) => Round::Done(round_accepted(
-                    words,
-                    RoundSizes {
-                        s,
-                        m,
-                        limit: limit as usize,
-                    },
-                    bases,
-                    rates,
-                    phase,
-                    orders,
-                    haplotypes,
-                    likelihoods,
-                    posteriors,
-                    quals,
-                    gqs,
-                )),
-            }
-        }
+    let case = check_case(words, bases)?;
+    let rates = rates.accepted()?;
+    let n = case.laid.sizes.n;
+    let f = case.laid.sizes.f;
+    check_phase(n, phase, sets)?;
+    let m = check_orders(orders, n)?;
+    let limit = limit as usize;
+    if limit < 1 || 1000000 < limit {
+        return Err(Refusal::Limit(limit));
     }
+    long_enough(&[
+        (2 * n, haplotypes.len()),
+        (2 * f, likelihoods.len()),
+        (9 * n, posteriors.len()),
+        (n, quals.len()),
+        (n, gqs.len()),
+    ])?;
+    let plan = Plan { n, m, limit };
+    let round = AcceptedRound {
+        case,
+        rates,
+        phase,
+        orders,
+        plan,
+    };
+    Ok(round.call(haplotypes, likelihoods, posteriors, quals, gqs))
 }

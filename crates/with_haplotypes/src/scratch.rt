@@ -1,111 +1,79 @@
-// A run with scratch of its own: as long as the largest case needs, or a small one, which costs a small case less to clear.
-ghost use Rattle.std.specs.Prelude.{◌≤◌};
+// A run with scratch of its own.
+ghost use Rattle.std.specs.Prelude.{◌*◌, ◌≤◌};
 ghost use Rattle.call_genotypes.specs.Inner.Scores.{sweep_state};
-ghost use Rattle.with_haplotypes.specs.Inner.Steps.{RunGiven, RunPromise, SomePhased};
+ghost use Rattle.with_haplotypes.specs.Round.{sweep_case};
+ghost use Rattle.with_haplotypes.specs.Inner.Steps.{StateGiven, RunMade};
+ghost use Rattle.with_haplotypes.specs.Inner.Reads.{run_from};
 
-use crate::prepare::prepare;
-use crate::run::run_prepared;
-use crate::{RoundAnswer, RoundSizes};
-use genotype_probs::Rates;
-use pileup::scratch::{
-    call_words, few_call_words, few_fragment_ends, few_nine_each, few_variant_ends, fragment_ends,
-    nine_each, variant_ends,
-};
+use crate::RoundAnswer;
+use crate::reads::{PreparedRun, RunReads};
+use genotype_probs::case_priors::make_priors;
+use pileup::piles::pile_calls;
+use variants_and_fragments::layout::{MAX_CALLS, MAX_FRAGMENTS, MAX_VARIANTS};
 
-// The run of any accepted case.
-fn run_large(
-    words: &[i32],
-    z: RoundSizes,
-    bases: &[u8],
-    rates: Rates,
-    ks: &[u8],
-    ph: &[u8],
-    orders: &[u32],
-    hap: &mut [u8],
-    lik: &mut [i64],
-    post: &mut [i64],
-) -> RoundAnswer
-    requires { SomePhased (RunGiven words.now bases.now rates z ks.now ph.now orders.now (sweep_state hap.old lik.old post.old)) }
-    ensures { RunPromise words.now bases.now rates z ks.now ph.now orders.now (sweep_state hap.old lik.old post.old) (sweep_state hap.new lik.new post.new) result }
-{
-    let mut rows = call_words();
-    let mut row_ends = fragment_ends();
-    let mut piles = call_words();
-    let mut pile_ends = variant_ends();
-    let mut pri = nine_each();
-    prepare(
-        words,
-        z.s,
-        bases,
-        rates,
-        &mut rows,
-        &mut row_ends,
-        &mut piles,
-        &mut pile_ends,
-        &mut pri,
-    );
-    run_prepared(
-        z, ks, ph, &rows, &row_ends, &piles, &pile_ends, &pri, orders, hap, lik, post,
-    )
-}
+// A case of at most so many records, fragments and variants is small.
+const FEW_CALLS: usize = 1024;
 
-// The same for at most 1,024 call records, 128 variants and 512 fragments.
-fn run_small(
-    words: &[i32],
-    z: RoundSizes,
-    bases: &[u8],
-    rates: Rates,
-    ks: &[u8],
-    ph: &[u8],
-    orders: &[u32],
-    hap: &mut [u8],
-    lik: &mut [i64],
-    post: &mut [i64],
-) -> RoundAnswer
-    requires some_phased { SomePhased (RunGiven words.now bases.now rates z ks.now ph.now orders.now (sweep_state hap.old lik.old post.old)) }
-    requires c_bound { (z.s.c ≤ 1024) × (z.s.n ≤ 128) × (z.s.f ≤ 512) }
-    ensures { RunPromise words.now bases.now rates z ks.now ph.now orders.now (sweep_state hap.old lik.old post.old) (sweep_state hap.new lik.new post.new) result }
-{
-    let mut rows = few_call_words();
-    let mut row_ends = few_fragment_ends();
-    let mut piles = few_call_words();
-    let mut pile_ends = few_variant_ends();
-    let mut pri = few_nine_each();
-    prepare(
-        words,
-        z.s,
-        bases,
-        rates,
-        &mut rows,
-        &mut row_ends,
-        &mut piles,
-        &mut pile_ends,
-        &mut pri,
-    );
-    run_prepared(
-        z, ks, ph, &rows, &row_ends, &piles, &pile_ends, &pri, orders, hap, lik, post,
-    )
-}
+const FEW_FRAGMENTS: usize = 512;
 
-// The run of an accepted case, with scratch of its size.
-pub fn run_in_scratch(
-    words: &[i32],
-    z: RoundSizes,
-    bases: &[u8],
-    rates: Rates,
-    ks: &[u8],
-    ph: &[u8],
-    orders: &[u32],
-    hap: &mut [u8],
-    lik: &mut [i64],
-    post: &mut [i64],
-) -> RoundAnswer
-    requires { SomePhased (RunGiven words.now bases.now rates z ks.now ph.now orders.now (sweep_state hap.old lik.old post.old)) }
-    ensures { RunPromise words.now bases.now rates z ks.now ph.now orders.now (sweep_state hap.old lik.old post.old) (sweep_state hap.new lik.new post.new) result }
-{
-    let s = z.s;
-    if s.c <= 1024 && s.n <= 128 && s.f <= 512 {
-        return run_small(words, z, bases, rates, ks, ph, orders, hap, lik, post);
+const FEW_VARIANTS: usize = 128;
+
+// Nine priors for each variant.
+const PRIORS: usize = 9 * MAX_VARIANTS;
+
+const FEW_PRIORS: usize = 9 * FEW_VARIANTS;
+
+impl RunReads<'_> {
+    // The run with scratch of these lengths. Ambiguous calls are counted nowhere: a run does not read them.
+    fn run_in<
+        const RECORDS: usize,
+        const FRAGMENTS: usize,
+        const VARIANTS: usize,
+        const NINE: usize,
+    >(&self, hap: &mut [u8], lik: &mut [i64], post: &mut [i64]) -> RoundAnswer
+        requires given { StateGiven (sweep_case (run_from self.now hap.old)) self.now.round.case.laid.sizes (sweep_state hap.old lik.old post.old) }
+        requires lengths { (RECORDS ≤ 16384) × (FRAGMENTS ≤ 4096) × (VARIANTS ≤ 1024) × (NINE ≤ 9216) }
+        requires room { (self.now.round.case.laid.sizes.c ≤ RECORDS) × (self.now.round.case.laid.sizes.f ≤ FRAGMENTS) × (self.now.round.case.laid.sizes.n ≤ VARIANTS) × (9 * self.now.round.case.laid.sizes.n ≤ NINE) }
+        ensures { RunMade (run_from self.now hap.old) (sweep_state hap.old lik.old post.old) (sweep_state hap.new lik.new post.new) result }
+    {
+        let case = &self.round.case;
+        let mut rows = [0u64; RECORDS];
+        let mut fragment_ends = [0usize; FRAGMENTS];
+        let row_ends = &mut fragment_ends[..case.laid.sizes.f];
+        let mut piles = [0u64; RECORDS];
+        let mut pile_ends = [0usize; VARIANTS];
+        pile_calls(
+            case,
+            &mut rows,
+            row_ends,
+            &mut [],
+            &mut piles,
+            &mut pile_ends,
+        );
+        let mut pri = [0i64; NINE];
+        make_priors(case, self.round.rates, &mut pri);
+        let prepared = PreparedRun {
+            reads: *self,
+            rows: &rows,
+            row_ends,
+            piles: &piles,
+            pile_ends: &pile_ends,
+            pri: &pri,
+        };
+        prepared.sweep(hap, lik, post)
     }
-    run_large(words, z, bases, rates, ks, ph, orders, hap, lik, post)
+
+    // The run with scratch as long as the largest case needs, or less of it, which costs a small case less to clear.
+    pub fn run(&self, hap: &mut [u8], lik: &mut [i64], post: &mut [i64]) -> RoundAnswer
+        requires { StateGiven (sweep_case (run_from self.now hap.old)) self.now.round.case.laid.sizes (sweep_state hap.old lik.old post.old) }
+        ensures { RunMade (run_from self.now hap.old) (sweep_state hap.old lik.old post.old) (sweep_state hap.new lik.new post.new) result }
+    {
+        let s = self.round.case.laid.sizes;
+        if s.c <= FEW_CALLS && s.n <= FEW_VARIANTS && s.f <= FEW_FRAGMENTS {
+            return self.run_in::<FEW_CALLS, FEW_FRAGMENTS, FEW_VARIANTS, FEW_PRIORS>(
+                hap, lik, post,
+            );
+        }
+        self.run_in::<MAX_CALLS, MAX_FRAGMENTS, MAX_VARIANTS, PRIORS>(hap, lik, post)
+    }
 }

@@ -1,11 +1,12 @@
 -- What the parts of a round hand on to each other: prepare, run, finish. Assumes nothing.
-use Rattle.std.specs.Prelude.{◌≡◌, Bool, cond, List, ℕ, ◌*◌, ◌<◌, ◌≤◌, ℤ, length, get_or, take}
+use Rattle.std.specs.Prelude.{◌≡◌, Bool, cond, List, [], ℕ, ◌*◌, ◌<◌, ◌≤◌, ℤ, length, get_or, take}
 use Rattle.variants_and_fragments.specs.declared.Sizes.{Sizes}
 use Rattle.variants_and_fragments.specs.Refusals.{done}
 use Rattle.variants_and_fragments.specs.Check.{check_case_outcome}
 use Rattle.variants_and_fragments.specs.Decode.{decode}
 use Rattle.variants_and_fragments.specs.Layout.{allele_count_at}
 use Rattle.variants_and_fragments.specs.Written.{written}
+use Rattle.pileup.specs.Inner.Collected.{collected}
 use Rattle.pileup.specs.Inner.Rows.{RowsMade}
 use Rattle.pileup.specs.Inner.Piles.{PilesMade}
 use Rattle.genotype_probs.specs.declared.Rates.{Rates}
@@ -13,7 +14,7 @@ use Rattle.genotype_probs.specs.Inner.Rates.{rates_fault}
 use Rattle.genotype_probs.specs.Priors.{prior_at}
 use Rattle.shuffle.specs.Orders.{order_count}
 use Rattle.shuffle.specs.Inner.Orders.{GoodOrders}
-use Rattle.sweeps.specs.Sweeps.{phased_total, source_total}
+use Rattle.sweeps.specs.Sweeps.{SweepCase, phased_total, source_total}
 use Rattle.sweeps.specs.Inner.Sweeps.{GoodHaps}
 use Rattle.sweeps.specs.Demand3.{Demand3}
 use Rattle.sweeps.specs.Inner.Posts.{posts}
@@ -21,8 +22,8 @@ use Rattle.likelihoods.specs.Inner.Held.{Liks}
 use Rattle.call_genotypes.specs.Inner.Scores.{over_first, SweepState}
 use Rattle.call_genotypes.specs.Inner.Runs.{result_of}
 use Rattle.with_haplotypes.specs.declared.RoundAnswer.{RoundAnswer}
-use Rattle.with_haplotypes.specs.declared.RoundSizes.{RoundSizes}
-use Rattle.with_haplotypes.specs.Round.{RunInput, run_input, RoundInput, sweep_case, order_of_sweep, result, returned, haplotype_at, likelihood_at, posterior_at, final}
+use Rattle.call_genotypes.specs.declared.run.Plan.{Plan}
+use Rattle.with_haplotypes.specs.Round.{RunInput, RoundInput, sweep_case, order_of_sweep, result, returned, haplotype_at, likelihood_at, posterior_at, final}
 use Rattle.with_haplotypes.specs.Promise.{RoundSlices, max_limit}
 
 -- a case of these words and bases that is accepted, at accepted rates
@@ -30,19 +31,19 @@ pub record CaseGiven (w : List ℤ) (b : List ℕ) (rates : Rates) (s : Sizes) :
   pub accepted : check_case_outcome w b ≡ done s
   pub good_rates : rates_fault rates ≡ 7
 
--- orders and a limit past their checks: m orders, each with every variant once; at most 1,000,000 sweeps
-pub record OrdersGiven (orders : List ℕ) (z : RoundSizes) : Type 0 where
-  pub good : GoodOrders z.s.n orders z.m
-  pub count_is : z.m ≡ order_count z.s.n (length orders)
-  pub limit_low : 1 ≤ z.limit
-  pub limit_top : z.limit ≤ max_limit
+-- orders of n variants and a limit past their checks: as many orders as planned, each with every variant once; at most 1,000,000 sweeps
+pub record OrdersGiven (orders : List ℕ) (n : ℕ) (plan : Plan) : Type 0 where
+  pub n_is : plan.n ≡ n
+  pub good : GoodOrders n orders plan.m
+  pub count_is : plan.m ≡ order_count n (length orders)
+  pub limit_low : 1 ≤ plan.limit
+  pub limit_top : plan.limit ≤ max_limit
 
 -- a round's input past all checks
-pub record Admitted (input : RoundInput) (z : RoundSizes) : Type 0 where
-  pub given : CaseGiven input.words input.bases input.rates z.s
-  pub phase_long : length input.phase ≡ z.s.n
-  pub good_orders : OrdersGiven input.orders z
-  pub limit_is : z.limit ≡ input.limit
+pub record Admitted (input : RoundInput) (s : Sizes) (plan : Plan) : Type 0 where
+  pub given : CaseGiven input.words input.bases input.rates s
+  pub phase_long : length input.phase ≡ s.n
+  pub good_orders : OrdersGiven input.orders s.n plan
 
 -- ---- prepare
 -- the scratch of a run: the rows and where each fragment's end, the piles and where each variant's end, the priors
@@ -56,47 +57,33 @@ pub record Scratch : Type 0 where
 abbrev pub scratch : List ℕ → List ℕ → List ℕ → List ℕ → List ℤ → Scratch
 scratch rows row_ends piles pile_ends pri = record { rows = rows; row_ends = row_ends; piles = piles; pile_ends = pile_ends; pri = pri }
 
--- room in it
-pub record ScratchRoom (s : Sizes) (x : Scratch) : Type 0 where
-  pub rows_long : s.c ≤ length x.rows
-  pub row_ends_long : s.f ≤ length x.row_ends
-  pub piles_long : s.c ≤ length x.piles
-  pub pile_ends_long : s.n ≤ length x.pile_ends
-  pub pri_long : 9 * s.n ≤ length x.pri
-
--- the usable calls as rows and as piles, and the priors
+-- the usable calls as rows and as piles, and the priors: what stands is what is written
 pub record Prepared (w : List ℤ) (b : List ℕ) (rates : Rates) (s : Sizes) (x : Scratch) : Type 0 where
-  pub ambiguous : List ℕ
-  pub count : ℕ
-  pub rows_made : RowsMade w s x.rows x.row_ends ambiguous count
+  pub rows_made : RowsMade w s x.rows x.row_ends [] (length (collected w s).rows)
+  pub ends_long : length x.row_ends ≡ s.f
   pub piles_made : PilesMade w s x.pile_ends x.piles
-  pub pri_was : List ℤ
-  pub pri_room : 9 * s.n ≤ length pri_was
-  pub pri_are : x.pri ≡ written (prior_at rates (decode w b)) (9 * s.n) pri_was
+  pub pri_long : 9 * s.n ≤ length x.pri
+  pub pri_are : x.pri ≡ written (prior_at rates (decode w b)) (9 * s.n) x.pri
 
 -- ---- run
--- each variant's number of alleles stands in ks
+-- the numbers of alleles of n variants
 pub record AlleleCounts (w : List ℤ) (n : ℕ) (ks : List ℕ) : Type 0 where
-  pub was : List ℕ
-  pub room : n ≤ length was
-  pub written_is : ks ≡ written (allele_count_at w) n was
+  pub long : length ks ≡ n
+  pub are : ks ≡ written (allele_count_at w) n ks
 
--- what a run is given: an accepted case's words and bases, flags of the phased variants, haplotypes whose alleles the variants have, where the
--- run changes them, and likelihoods of exactly the need
-pub record RunGiven (w : List ℤ) (b : List ℕ) (rates : Rates) (z : RoundSizes) (ks ph orders : List ℕ) (state : SweepState) (phased : ℕ → Bool) : Type 0 where
-  pub given : CaseGiven w b rates z.s
-  pub good_start : GoodHaps (sweep_case (run_input w b rates phased state.hap orders z.limit)) state.hap
-  pub good_orders : OrdersGiven orders z
-  pub counts : AlleleCounts w z.s.n ks
-  pub ph_long : z.s.n ≤ length ph
-  pub ph_are : (v : ℕ) → v < z.s.n → get_or ph v 0 ≡ cond (phased v) 1 0
-  pub liks_long : length state.lik ≡ 2 * z.s.f
-  pub post_long : 9 * z.s.n ≤ length state.post
+-- what a run reads: an accepted case's words and bases, its numbers of alleles, flags of the phased variants, and orders
+pub record RunGiven (w : List ℤ) (b : List ℕ) (rates : Rates) (s : Sizes) (plan : Plan) (ks ph orders : List ℕ) (phased : ℕ → Bool) : Type 0 where
+  pub given : CaseGiven w b rates s
+  pub good_orders : OrdersGiven orders s.n plan
+  pub counts : AlleleCounts w s.n ks
+  pub ph_long : s.n ≤ length ph
+  pub ph_are : (v : ℕ) → v < s.n → get_or ph v 0 ≡ cond (phased v) 1 0
 
--- there are phased variants of which P holds
-pub record SomePhased (P : (ℕ → Bool) → Type 0) : Type 0 where
-  pub phased : ℕ → Bool
-  pub holds : P phased
+-- what a run of C changes: haplotypes whose alleles the variants have, likelihoods of exactly the need, and room for the scores
+pub record StateGiven (C : SweepCase) (s : Sizes) (state : SweepState) : Type 0 where
+  pub good_start : GoodHaps C state.hap
+  pub liks_long : length state.lik ≡ 2 * s.f
+  pub post_long : 9 * s.n ≤ length state.post
 
 -- what the sweeps leave, with the scores of each variant's latest visit not normalised yet
 pub record RunMade (input : RunInput) (before after : SweepState) (r : RoundAnswer) : Type 0 where
@@ -107,25 +94,6 @@ pub record RunMade (input : RunInput) (before after : SweepState) (r : RoundAnsw
   pub source_is : r.source.0 ≡ source_total (sweep_case input) after.hap
   pub liks : Liks (sweep_case input) after.hap after.lik
   pub scores : after.post ≡ posts over_first (sweep_case input) (order_of_sweep input) input.start before.post r.sweeps
-
--- what a run promises of the phased variants, whichever the flags say
-abbrev pub RunPromise : List ℤ → List ℕ → Rates → RoundSizes → List ℕ → List ℕ → List ℕ → SweepState → SweepState → RoundAnswer → Type 0
-RunPromise w b rates z ks ph orders before after r =
-    (phased : ℕ → Bool) → RunGiven w b rates z ks ph orders before phased → RunMade (run_input w b rates phased before.hap orders z.limit) before after r
-
--- the same where the scratch is prepared: there is a case that it was prepared for
-pub record PreparedRun (z : RoundSizes) (ks ph : List ℕ) (x : Scratch) (orders : List ℕ) (state : SweepState) : Type 0 where
-  pub words : List ℤ
-  pub bases : List ℕ
-  pub rates : Rates
-  pub phased : ℕ → Bool
-  pub given : RunGiven words bases rates z ks ph orders state phased
-  pub prepared : Prepared words bases rates z.s x
-
--- and the promise is about every such case
-abbrev pub PreparedPromise : RoundSizes → List ℕ → List ℕ → Scratch → List ℕ → SweepState → SweepState → RoundAnswer → Type 0
-PreparedPromise z ks ph x orders before after r =
-    (p : PreparedRun z ks ph x orders before) → RunMade (run_input p.words p.bases p.rates p.phased before.hap orders z.limit) before after r
 
 -- ---- the whole round
 -- room for the round in the lent slices
