@@ -54,9 +54,9 @@ module _ {w : List ℤ} {s : Sizes} {v : ℕ} {words : List ℕ} {ambiguous : �
     counted : (strand x : ℕ) → strand < 2 → x < 3 → get_or t.counts (3 * strand + x) 0 ≡ strand_calls (decode w b) v strand x
     counted strand x l h = made.counts_are strand x l h ∙ shown_same strand x
 
-    word_is : (g : Genotype) (depth : ℕ) → depth ≡ depth_after (decode w b) v → (post : List ℤ) (k : ℕ) → g ≡ genotype_of k (called_from post k) → (p : ℕ) → pos (get_or (answer_values g t.counts ambiguous depth) p 0) ≡ answer_from post k (decode w b) v p
+    word_is : (g : Genotype) (post : List ℤ) (k : ℕ) → g ≡ genotype_of k (called_from post k) → (p : ℕ) → pos (get_or (answer_values g t.counts ambiguous (depth_after (decode w b) v)) p 0) ≡ answer_from post k (decode w b) v p
     unfolding answer_values answer_from
-    word_is g depth f post k q p =
+    word_is g post k q p =
         let sum = forward_reverse (decode w b) v in
         let f0 : get_or t.counts 0 0 ≡ strand_calls (decode w b) v 0 0 = counted 0 0 (omega arith) (omega arith) in
         let f1 : get_or t.counts 1 0 ≡ strand_calls (decode w b) v 0 1 = counted 0 1 (omega arith) (omega arith) in
@@ -66,8 +66,11 @@ module _ {w : List ℤ} {s : Sizes} {v : ℕ} {words : List ℕ} {ambiguous : �
         let r2 : get_or t.counts 5 0 ≡ strand_calls (decode w b) v 1 2 = counted 1 2 (omega arith) (omega arith) in
         cc (held.ambiguous_is b, sum 0, sum 1, sum 2, ap (λ (x : Genotype). x.0) q, ap (λ (x : Genotype). x.1) q)
 
-    pub words_are : (g : Genotype) (depth : ℕ) → depth ≡ depth_after (decode w b) v → (post : List ℤ) (k : ℕ) → g ≡ genotype_of k (called_from post k) → map pos (answer_values g t.counts ambiguous depth) ≡ tabulate 13 (answer_from post k (decode w b) v)
-    words_are g depth f post k q = listed g t.counts ambiguous depth ∙ tabulate_cong 13 (λ p. pos (get_or (answer_values g t.counts ambiguous depth) p 0)) (answer_from post k (decode w b) v) (λ p _. word_is g depth f post k q p)
+    pub words_are : (g : Genotype) (post : List ℤ) (k : ℕ) → g ≡ genotype_of k (called_from post k) → map pos (answer_values g t.counts ambiguous (depth_after (decode w b) v)) ≡ tabulate 13 (answer_from post k (decode w b) v)
+    words_are g post k q =
+        let depth = depth_after (decode w b) v in
+        listed g t.counts ambiguous depth
+        ∙ tabulate_cong 13 (λ p. pos (get_or (answer_values g t.counts ambiguous depth) p 0)) (answer_from post k (decode w b) v) (λ p _. word_is g post k q p)
 
 -- ---- the posteriors that are made go by the nine priors
 module _ (w : List ℤ) (priors other : List ℤ) (b : List ℕ) (v : ℕ) (same : (p : ℕ) → p < 9 → get_or priors p (pos 0) ≡ get_or other p (pos 0)) where

@@ -1,10 +1,12 @@
 // What is called of one variant: its 13 words and its two qualities.
-ghost use Rattle.std.specs.Prelude.{◌≡◌, ◌<◌, ◌≤◌, pos, map};
-ghost use Rattle.no_haplotypes.specs.Inner.Tally.{SumsIn, NinePriors};
+ghost use Rattle.std.specs.Prelude.{◌≡◌, List, ℕ, ◌<◌, pos, map};
+ghost use Rattle.variants_and_fragments.specs.Decode.{decode};
+ghost use Rattle.no_haplotypes.specs.NoHaplotypes.{depth_after};
+ghost use Rattle.no_haplotypes.specs.Inner.Tally.{NinePriors};
 ghost use Rattle.no_haplotypes.specs.Inner.Calling.{answer_values, VariantCalled};
 
 use crate::calls::Calls;
-use crate::tally::Tally;
+use crate::tally::{Summed, Tally};
 use genotype_probs::posteriors::{Genotype, Table, normalize};
 use steps::PHREDProb;
 
@@ -24,28 +26,30 @@ fn word_of(x: usize) -> i32
     x as i32
 }
 
-// The 13 words; `tally` counts by strand and allele.
-fn words_of(g: Genotype, tally: &Tally, ambiguous: usize, depth: usize) -> [i32; 13]
-    requires { SumsIn tally.now × (ambiguous ≤ 16384) × (depth < 2147483648) }
-    ensures { result ≡ map pos (answer_values g tally.now.counts ambiguous depth) }
-{
-    let forward = [tally.counts[0], tally.counts[1], tally.counts[2]];
-    let reverse = [tally.counts[3], tally.counts[4], tally.counts[5]];
-    [
-        i32::from(g.0),
-        i32::from(g.1),
-        word_of(forward[0] + reverse[0]),
-        word_of(forward[1] + reverse[1]),
-        word_of(forward[2] + reverse[2]),
-        word_of(forward[0]),
-        word_of(forward[1]),
-        word_of(forward[2]),
-        word_of(reverse[0]),
-        word_of(reverse[1]),
-        word_of(reverse[2]),
-        word_of(ambiguous),
-        word_of(depth),
-    ]
+impl Summed<'_> {
+    // The 13 words, where g is the genotype.
+    fn words(&self, g: Genotype) -> [i32; 13]
+        ensures { (b : List ℕ) → result ≡ map pos (answer_values g self.now.tally.counts self.now.calls.ambiguous (depth_after (decode self.now.calls.case.laid.words.now b) self.now.calls.v)) }
+    {
+        let counts = &self.tally.counts;
+        let forward = [counts[0], counts[1], counts[2]];
+        let reverse = [counts[3], counts[4], counts[5]];
+        [
+            i32::from(g.0),
+            i32::from(g.1),
+            word_of(forward[0] + reverse[0]),
+            word_of(forward[1] + reverse[1]),
+            word_of(forward[2] + reverse[2]),
+            word_of(forward[0]),
+            word_of(forward[1]),
+            word_of(forward[2]),
+            word_of(reverse[0]),
+            word_of(reverse[1]),
+            word_of(reverse[2]),
+            word_of(self.calls.ambiguous),
+            word_of(self.calls.depth_after()),
+        ]
+    }
 }
 
 impl Calls<'_> {
@@ -54,15 +58,17 @@ impl Calls<'_> {
         requires { NinePriors post.old }
         ensures { VariantCalled self.now.case.laid.words.now self.now.v post.old result }
     {
-        let tally = Tally::of(self);
+        let summed = Summed {
+            calls: *self,
+            tally: Tally::of(self),
+        };
         let k = self.case.laid.allele_count(self.v);
-        tally.score(post, k);
+        summed.score(post, k);
         normalize(post, k);
         let table = Table { post, k };
         let p = table.max_genotype(false);
-        let depth = self.depth_after();
         Answer {
-            words: words_of(table.genotype(p), &tally, self.ambiguous, depth),
+            words: summed.words(table.genotype(p)),
             qual: table.qual(),
             gq: table.gq(p),
         }

@@ -50,22 +50,35 @@ impl Tally {
         }
         tally
     }
+}
 
+// A variant's calls, and what they add up to.
+#[derive(Clone, Copy)]
+pub struct Summed<'a> {
+    pub calls: Calls<'a>,
+    pub tally: Tally,
+    pub ghost tallied: { Tallied calls.case.laid.words.now calls.case.laid.sizes (map unpacked calls.usable.now) tally },
+    pub ghost sums_in: { SumsIn tally },
+}
+
+impl Summed<'_> {
     // What the calls add to the prior of the pair (i, j).
     fn pair_gain(&self, i: usize, j: usize) -> LogProb
-        requires { SumsIn self.now × (i < 3) × (j < 3) }
-        ensures { (result.0 ≡ pair_gain self.now i j) × (nat_abs result.0 ≤ 2 ^ 36) }
+        requires { (i < 3) × (j < 3) }
+        ensures { (result.0 ≡ pair_gain self.now.tally i j) × (nat_abs result.0 ≤ 2 ^ 36) }
     {
+        let total = self.tally.total.0;
+        let gains = &self.tally.gains;
         if i == j {
-            return LogProb(self.total.0 + self.gains[i]);
+            return LogProb(total + gains[i]);
         }
-        LogProb(self.total.0 + self.gains[3 + i] + self.gains[3 + j])
+        LogProb(total + gains[3 + i] + gains[3 + j])
     }
 
-    // Adds what the calls add to each of the k × k priors of a variant.
+    // Adds what the calls add to each of the k × k priors of the variant.
     pub fn score(&self, post: &mut [i64], k: usize)
-        requires { SumsIn self.now × (1 ≤ k) × (k ≤ 3) × NinePriors post.old }
-        ensures { (p : ℕ) → p < k * k → get_or post.new p (pos 0) ≡ get_or post.old p (pos 0) +ℤ pair_gain self.now (p / k) (p % k) }
+        requires { (1 ≤ k) × (k ≤ 3) × NinePriors post.old }
+        ensures { (p : ℕ) → p < k * k → get_or post.new p (pos 0) ≡ get_or post.old p (pos 0) +ℤ pair_gain self.now.tally (p / k) (p % k) }
     {
         for p in 0..k * k {
             post[p] += self.pair_gain(p / k, p % k).0;

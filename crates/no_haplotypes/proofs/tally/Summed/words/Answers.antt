@@ -4,15 +4,16 @@ use lib.Signed.{mag}
 use mir.Val.{hbits}
 use Rattle.steps.proofs.Signed.{read_back}
 use Rattle.no_haplotypes.specs.Inner.Calling.{answer_values}
-use Rattle.no_haplotypes.proofs.answer.words_of.Goals as goal
+use Rattle.no_haplotypes.proofs.tally.Summed.words.Goals as goal
 
 word : {z : ℤ} {x : ℕ} → mag z < 2 ^ hbits w32 → z ≡ pos x → to_z w32 (of_z w32 z) ≡ pos x
 word {z} fits e = read_back w32 z fits ∙ e
 
 pub returns : goal.returns
 unfolding answer_values
-returns c =
+returns c b =
     cc (
+      c.depth_after.ensures.0 b,
       word c.from.type_inv c.from.ensures,
       word c.from-2.type_inv c.from-2.ensures,
       word c.word_of.type_inv c.word_of.ensures,
