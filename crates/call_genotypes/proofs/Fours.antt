@@ -22,6 +22,10 @@ use Rattle.likelihoods.specs.Inner.Held.{Within}
 use Rattle.call_genotypes.specs.Inner.Scores.{add_four, AlleleSums}
 use Rattle.call_genotypes.proofs.Tables.{sets_before, sets_after, sets_at, replicate_at}
 
+-- an element that is not stored to yet
+pub kept : (acc acc' : List ℤ) (i j : ℕ) (y : ℤ) → acc' ≡ set acc i (get_or acc i (pos 0) +ℤ y) → i < j → get_or acc' j (pos 0) ≡ get_or acc j (pos 0)
+kept acc acc' i j y e l = rw e (get_or-set_other acc i j (get_or acc i (pos 0) +ℤ y) (pos 0) (λ (q : j ≡ i). omega arith))
+
 -- the four stores, one after the other
 pub four_added : (acc a1 a2 a3 a4 : List ℤ) (x : ℕ) (value : ℕ → ℤ)
     → a1 ≡ set acc (4 * x) (get_or acc (4 * x) (pos 0) +ℤ value 0) → a2 ≡ set a1 (4 * x + 1) (get_or a1 (4 * x + 1) (pos 0) +ℤ value 1)

@@ -1,9 +1,10 @@
 pub mod Tables
 pub mod Turns
-pub mod Far
 pub mod RiseLaws
 pub mod RiseSums
 pub mod Sizes
+pub mod Far
+pub mod Piles
 pub mod Fours
 pub mod Written
 pub mod Linked

@@ -21,7 +21,8 @@ use Rattle.sweeps.proofs.Link.{lik_own}
 use Rattle.sweeps.proofs.Scored.{lik_stays}
 use Rattle.variants_and_fragments.proofs.Bools.{is_true, is_false, which}
 use Rattle.variants_and_fragments.proofs.Sums.{sum_append}
-use Rattle.pileup.specs.Inner.Packed.{rows_at, group_start}
+use Rattle.pileup.specs.Inner.Packed.{rows_at}
+use Rattle.call_genotypes.specs.Inner.Piles.{PileIs}
 use Rattle.likelihoods.specs.Inner.Held.{Liks}
 use Rattle.call_genotypes.specs.declared.score.Pair.{Pair}
 use Rattle.call_genotypes.specs.Inner.Scores.{pair_at}
@@ -133,7 +134,7 @@ module _ (C : SweepCase) (h : List ℕ) (v i j : ℕ) (lik : List ℤ) (l : 2 * 
             ∙ rw (own_sum 1 (allele1 h v) j f (omega arith) k, M0.moved (2 * f + 1) (omega (arith, L.long)), other_sum (allele0 h v) i (2 * f + 1) 0 (λ g e. omega arith), +ℤ_idr, L.seconds f k)
             (rw (at1_same h v i j l) at (sym (lik_terms C.phased v (allele1 h) (allele1 (put_pair h v i j)) (λ w n. at1_other h v i j w n) cs p)))
 
--- ---- the same from what the code has: the start of the pile
+-- ---- the same from what the code has: the pile
 module _ {C : SweepCase} {ph ends piles h : List ℕ} {lik : List ℤ} {v : ℕ} (M : Movable C ph ends piles h lik v) where
   pub put_in : 2 * v + 1 < length h
   put_in = omega (arith, M.haps.len, M.v_in)
@@ -146,9 +147,9 @@ module _ {C : SweepCase} {ph ends piles h : List ℕ} {lik : List ℤ} {v : ℕ}
     pub pair_stays : get_or ph v 0 ≡ 0 → PairPut C v new h h' lik
     pair_stays n = put lik (liks_stay C h v new.first new.second lik put_in M.liks (phased_no M.held v M.v_in n))
 
-    pub pair_moves : (a : ℕ) (old : Pair) (lik1 lik2 : List ℤ) → (get_or ph v 0 ≡ 0 → ⊥) → a ≡ group_start ends v → old ≡ pair_at h v
-        → Moved 0 old.first new.first (rows_at piles a (get_or ends v 0)) lik lik1 → Moved 1 old.second new.second (rows_at piles a (get_or ends v 0)) lik1 lik2
+    pub pair_moves : (pile : List ℕ) (old : Pair) (lik1 lik2 : List ℤ) → (get_or ph v 0 ≡ 0 → ⊥) → PileIs ends piles v pile → old ≡ pair_at h v
+        → Moved 0 old.first new.first (rows_at pile 0 (length pile)) lik lik1 → Moved 1 old.second new.second (rows_at pile 0 (length pile)) lik1 lik2
         → PairPut C v new h h' lik2
-    pair_moves a old lik1 lik2 n ea eo M0 M1 =
+    pair_moves pile old lik1 lik2 n P eo M0 M1 =
         let R = pile_rows M.held v M.v_in in
-        put lik2 (liks_move C h v new.first new.second lik put_in M.liks (phased_yes M.held v M.v_in n) lik1 lik2 (rw (ea, R, eo) at M0) (rw (ea, R, eo) at M1))
+        put lik2 (liks_move C h v new.first new.second lik put_in M.liks (phased_yes M.held v M.v_in n) lik1 lik2 (rw (P.rows, R, eo) at M0) (rw (P.rows, R, eo) at M1))

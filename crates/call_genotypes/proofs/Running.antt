@@ -4,7 +4,6 @@ use mathlib.Core.Bool.{Bool, true, false, not, cond}
 use mathlib.Core.List.{List}
 use Prim.Native.Nat.{ℕ, suc, ◌+◌, ◌-◌, ◌*◌, ◌%◌, ◌<◌, ◌≤◌}
 use native.Mathlib.Omega.{arith}
-use native.Mathlib.Nat.{mod-lt, mul-le-mul_right}
 use native.Mathlib.Numerals.{add-one}
 use lib.ListN.{length, take, drop}
 use Rattle.shuffle.specs.Permutation.{Permutation}
@@ -20,6 +19,7 @@ use Rattle.sweeps.proofs.Run.{demand3}
 use Rattle.sweeps.proofs.Sweep.{sweep_swept}
 use Rattle.likelihoods.specs.Inner.Held.{SweepReads, Liks}
 use Rattle.call_genotypes.specs.declared.run.Plan.{Plan}
+use Rattle.call_genotypes.specs.declared.run.RunAnswer.{RunAnswer}
 use Rattle.call_genotypes.specs.Inner.Scores.{over_first, SweepState}
 use Rattle.call_genotypes.specs.Inner.Visits.{SweepStart, Swept}
 use Rattle.call_genotypes.specs.Inner.Runs.{order_of, RunStart, result_of, Ran}
@@ -47,9 +47,6 @@ module _ {C : SweepCase} {reads : SweepReads} {before : SweepState} {orders : Li
   o = order_of orders n m
 
   -- ---- the orders
-  pub end_fits : (s : ℕ) → s % m * n + n ≤ length orders
-  end_fits s = omega (arith, R.orders_long, mul-le-mul_right n (mod-lt s R.some_order))
-
   -- the part that the code hands over
   pub part_is : (s : ℕ) → take (s % m * n + n - s % m * n) (drop (s % m * n) orders) ≡ o s
   unfolding order_of order_at
@@ -76,9 +73,9 @@ module _ {C : SweepCase} {reads : SweepReads} {before : SweepState} {orders : Li
   ran q L p = record { result = q; demand3 = rw q at (demand3 C R.standing.held.good o order_good limit before.hap R.some_sweep R.standing.haps); liks = L; scores = p }
 
   module _ {state : SweepState} {s : ℕ} (r : Running C o limit before state s) where
-    pub run_out : limit ≤ s → Ran C orders plan before state (record { sweeps = s; settled = false })
+    pub run_out : (answer : RunAnswer) → limit ≤ s → answer.sweeps ≡ s → answer.settled ≡ false → Ran C orders plan before state answer
     unfolding run
-    run_out l = let e : limit - s ≡ 0 = omega arith in ran (rw e at r.left) r.liks r.scores
+    run_out answer l es e = let z : limit - s ≡ 0 = omega arith in ran (rw (es, e) (rw z at r.left)) r.liks (rw es r.scores)
 
     -- a sweep can start by any order
     pub running_sweep : (x : ℕ) → SweepStart C reads state (take (x % m * n + n - x % m * n) (drop (x % m * n) orders))
@@ -87,9 +84,10 @@ module _ {C : SweepCase} {reads : SweepReads} {before : SweepState} {orders : Li
       order_in = permutation_below (order_good x);
     })
 
-    module _ (l : s < limit) {state' : SweepState} {flag : Bool} (w' : Swept C (take (s % m * n + n - s % m * n) (drop (s % m * n) orders)) state state' flag) where
+    -- by the part that starts at a
+    module _ (l : s < limit) {state' : SweepState} {flag : Bool} (a : ℕ) (at : a ≡ s % m * n) (w' : Swept C (take (a + n - a) (drop a orders)) state state' flag) where
       w : Swept C (o s) state state' flag
-      w = rw (part_is s) at w'
+      w = rw (at, part_is s) at w'
 
       -- the flag says which way the run goes
       run_step : run C o limit 0 before.hap ≡ cond (not flag) (result_of (s + 1) true state'.hap) (run C o (limit - (s + 1)) (s + 1) state'.hap)

@@ -1,5 +1,7 @@
 -- How far from 0 likelihoods, a call's four numbers and their sums lie: nothing that a visit adds up leaves an i64. Assumes nothing.
-use mathlib.Core.Path.{◌≡◌}
+use mathlib.Core.Path.{◌≡◌, ap, ◌∙◌}
+use mir.Syntax.{w64}
+use mir.Val.{to_z, of_z}
 use mathlib.Core.Bool.{Bool, true, false, cond}
 use mathlib.Core.List.{List}
 use Prim.Native.Nat.{ℕ, zero, suc, ◌+◌, ◌*◌, ◌^◌, ◌≤◌}
@@ -7,7 +9,7 @@ use native.Mathlib.Omega.{arith}
 use lib.Dec.{eqb}
 use lib.ListN.{get_or}
 use lib.IntN.{ℤ, pos, nat_abs, ◌+ℤ◌, ◌-ℤ◌, ◌*ℤ◌}
-use Rattle.steps.proofs.Signed.{add_abs, minus_abs, nat_abs_parts, parts_minus, by_sign}
+use Rattle.steps.proofs.Signed.{add_abs, minus_abs, nat_abs_parts, parts_minus, by_sign, minus_read}
 use Rattle.steps.proofs.AddExp.{add_size}
 use Rattle.variants_and_fragments.specs.Pileup.{Row}
 use Rattle.variants_and_fragments.specs.Inner.Sums.{DownTo}
@@ -90,6 +92,16 @@ module _ (acc : List ℤ) (W : Within (2 ^ 50) acc) where
   pub first_rise_size : (x : ℕ) → nat_abs (rise_of (sums_at acc x) 0) ≤ 2 ^ 51
   unfolding rise_of
   first_rise_size x = omega (arith, minus_abs (sums_at acc x 0) (sums_at acc x 3), W (4 * x + 0), W (4 * x + 3))
+
+  first_rise_is : (x : ℕ) → get_or acc (4 * x) (pos 0) -ℤ get_or acc (4 * x + 3) (pos 0) ≡ rise_of (sums_at acc x) 0
+  unfolding rise_of
+  first_rise_is x = let z : 4 * x ≡ 4 * x + 0 = omega arith in ap (λ (i : ℕ). get_or acc i (pos 0) -ℤ get_or acc (4 * x + 3) (pos 0)) z
+
+  -- as the code reads it
+  pub first_rise_read : (x : ℕ) → let r = to_z w64 (of_z w64 (to_z w64 (of_z w64 (get_or acc (4 * x) (pos 0))) -ℤ to_z w64 (of_z w64 (get_or acc (4 * x + 3) (pos 0))))) in (r ≡ rise_of (sums_at acc x) 0) × (nat_abs r ≤ 2 ^ 51)
+  first_rise_read x =
+      let e = minus_read w64 (get_or acc (4 * x) (pos 0)) (get_or acc (4 * x + 3) (pos 0)) (omega (arith, W (4 * x), W (4 * x + 3))) ∙ first_rise_is x in
+      (e, rw e (first_rise_size x))
 
   pub second_rise_size : (x : ℕ) → nat_abs (rise_of (sums_at acc x) 1) ≤ 2 ^ 52
   unfolding rise_of

@@ -1,5 +1,5 @@
 -- Each allele's turn is −1, 0 or 1: a product with it is small, and two stores make them. Assumes nothing.
-use mathlib.Core.Path.{◌≡◌, refl, ◌∙◌}
+use mathlib.Core.Path.{◌≡◌, refl, ap, ◌∙◌}
 use mathlib.Core.Bool.{Bool, true, false, cond}
 use mathlib.Core.List.{List}
 use Prim.Native.Nat.{ℕ, zero, suc, ◌*◌, ◌<◌, ◌≤◌}
@@ -10,7 +10,9 @@ use lib.Dec.{eqb}
 use lib.ListN.{length, get_or, set, replicate, length-set}
 use lib.Seq.{get_or-set_same, get_or-set_other}
 use lib.IntN.{ℤ, pos, negsuc, nat_abs, neg_ℤ, ◌+ℤ◌, ◌-ℤ◌, ◌*ℤ◌, +ℤ_idr, zero-*ℤ, negsuc-*ℤ-pos, negsuc-*ℤ-negsuc}
-use Rattle.steps.proofs.Signed.{zlin, parts_times, neg_abs}
+use mir.Syntax.{w64}
+use mir.Val.{to_z, of_z}
+use Rattle.steps.proofs.Signed.{zlin, parts_times, neg_abs, read_small, add_abs, minus_abs}
 use Rattle.call_genotypes.specs.Inner.Scores.{turn}
 use Rattle.call_genotypes.proofs.Tables.{replicate_at}
 
@@ -77,3 +79,26 @@ turns_made a0 a1 a2 g0 g1 e h l e1 e2 x =
 pub no_turns : (a0 : List ℤ) (g0 g1 : ℕ) → a0 ≡ replicate 4 (pos 0) → (x : ℕ) → get_or a0 x (pos 0) ≡ turn false g0 g1 x
 unfolding turn
 no_turns a0 g0 g1 e x = rw e (replicate_at (pos 0) 4 x)
+
+-- ---- the stores of the code, as they are read back
+module _ (z : ℤ) (h : nat_abs z ≤ 1) where
+  less_read : to_z w64 (of_z w64 (to_z w64 (of_z w64 z) -ℤ pos 1)) ≡ z -ℤ pos 1
+  less_read = rw (read_small w64 z (omega arith)) (read_small w64 (z -ℤ pos 1) (omega (arith, minus_abs z (pos 1))))
+
+  more_read : to_z w64 (of_z w64 (to_z w64 (of_z w64 z) +ℤ pos 1)) ≡ z +ℤ pos 1
+  more_read = rw (read_small w64 z (omega arith)) (read_small w64 (z +ℤ pos 1) (omega (arith, add_abs z (pos 1))))
+
+module _ (g0 g1 : ℕ) (h : g0 < 3) (k : g1 < 3) where
+  abbrev zeros : List ℤ
+  zeros = replicate 4 (pos 0)
+
+  abbrev once : List ℤ
+  once = set zeros g0 (to_z w64 (of_z w64 (to_z w64 (of_z w64 (get_or zeros g0 (pos 0))) -ℤ pos 1)))
+
+  once_is : once ≡ set zeros g0 (get_or zeros g0 (pos 0) -ℤ pos 1)
+  once_is = ap (set zeros g0) (less_read (get_or zeros g0 (pos 0)) (rw (replicate_at (pos 0) 4 g0) (omega arith)))
+
+  pub turns_read : (x : ℕ) → get_or (set once g1 (to_z w64 (of_z w64 (to_z w64 (of_z w64 (get_or once g1 (pos 0))) +ℤ pos 1)))) x (pos 0) ≡ turn true g0 g1 x
+  turns_read x =
+      let s : nat_abs (get_or once g1 (pos 0)) ≤ 1 = rw once_is (once_stored zeros g0 refl h g1) in
+      turns_made zeros once _ g0 g1 refl h k once_is (ap (set once g1) (more_read (get_or once g1 (pos 0)) s)) x

@@ -1,3 +1,5 @@
+pub mod Reads
+pub mod Piles
 pub mod Scores
 pub mod Visits
 pub mod Runs

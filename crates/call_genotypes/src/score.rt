@@ -1,19 +1,20 @@
 // The scores of one variant's pairs.
-ghost use Rattle.std.specs.Prelude.{◌≡◌, true, ℕ, ◌+◌, ◌-◌, ◌*◌, ◌^◌, ◌<◌, ◌≤◌, length, get_or, set, replicate, pos, nat_abs, ◌+ℤ◌, ◌-ℤ◌, ◌*ℤ◌};
+ghost use Rattle.std.specs.Prelude.{◌≡◌, true, ℕ, ◌+◌, ◌-◌, ◌*◌, ◌^◌, ◌<◌, ◌≤◌, length, get_or, set, pos, nat_abs, ◌+ℤ◌, ◌-ℤ◌, ◌*ℤ◌};
 ghost use Rattle.std.proofs.lemmas.List.Edits.{sets};
 ghost use Rattle.variants_and_fragments.specs.Inner.Sums.{DownTo};
 ghost use Rattle.pileup.specs.Inner.Packed.{row_from, rows_at};
 ghost use Rattle.genotype_probs.specs.Posteriors.{first_maximum};
-ghost use Rattle.likelihoods.specs.Inner.Held.{Within, sweep_reads};
+ghost use Rattle.likelihoods.specs.Inner.Held.{Within};
+ghost use Rattle.call_genotypes.specs.Inner.Reads.{reads_of};
 ghost use Rattle.call_genotypes.specs.Inner.Scores.{pair_at, value_of, mix_value, is_far, row_mixes, turn, RowFits, PileFits, AlleleSums, add_four, sums_at, rise_of, pair_rise, below_first, scores_of, ScoresRoom, Some, sweep_state, VisitStart, Scored};
 
-use pileup::piles::group_start;
+use crate::reads::SweepReads;
 use pileup::row::{Row, unpack};
 use steps::LogProb;
 use steps::one_plus::ln_one_plus_exp;
 
 // A variant's alleles on the two haplotypes.
-#[derive(Clone, Copy)]
+#[derive(Clone, Copy, PartialEq)]
 pub struct Pair {
     pub first: usize,
     pub second: usize,
@@ -122,7 +123,7 @@ fn raise(acc: &mut [i64; 12], i: usize, y: i64)
     requires { (i < 12) × (nat_abs (get_or acc.old i (pos 0)) ≤ 2 ^ 50) × (nat_abs y ≤ 2 ^ 50) }
     ensures { acc.new ≡ set acc.old i (get_or acc.old i (pos 0) +ℤ y) }
 {
-    acc[i] = acc[i] + y;
+    acc[i] += y;
 }
 
 // Adds the four numbers of a call of allele x to the sums of x.
@@ -138,38 +139,32 @@ fn add_four(r: Mixes, acc: &mut [i64; 12], x: usize)
     raise(acc, at + 3, r.neither);
 }
 
-// Sums the four numbers of the calls a..e per allele. At the loop's head the calls before p are in the sums.
-fn score_calls(
-    piles: &[u64],
-    lik: &[i64],
-    turns: &[i64; 4],
-    acc: &mut [i64; 12],
-    a: usize,
-    e: usize,
-)
-    requires pile_fits { PileFits lik.now piles.now a e }
+// The sums of the four numbers of a pile's calls, four per allele. At the loop's head the calls so far are in the sums.
+fn score_calls(pile: &[u64], lik: &[i64], turns: &[i64; 4]) -> [i64; 12]
+    requires pile_fits { PileFits lik.now pile.now 0 (length pile.now) }
     requires within { Within (2 ^ 32) lik.now × Within 1 turns.now }
-    requires acc_value { acc.old ≡ replicate 12 (pos 0) }
-    ensures { AlleleSums (row_mixes turns.now lik.now) (rows_at piles.now a e) acc.new }
+    ensures { AlleleSums (row_mixes turns.now lik.now) (rows_at pile.now 0 (length pile.now)) result }
 {
-    let mut p = a;
-    while p < e {
-        let row = unpack(piles[p]);
+    let mut acc = [0i64; 12];
+    for word in pile {
+        let row = unpack(*word);
         let r = call_mixes(row, lik, turns);
-        add_four(r, acc, row.allele);
-        p += 1;
+        add_four(r, &mut acc, row.allele);
     }
+    acc
 }
 
-// Each allele's turn, v being at (g0, g1): nothing at an unphased variant, whose calls are not in the likelihoods.
-fn make_turns(turns: &mut [i64; 4], phased: bool, g0: usize, g1: usize)
-    requires { (turns.old ≡ replicate 4 (pos 0)) × (g0 < 3) × (g1 < 3) }
-    ensures { (x : ℕ) → get_or turns.new x (pos 0) ≡ turn phased g0 g1 x }
+// Each allele's turn at a variant that is at this pair: nothing at an unphased one, whose calls are not in the likelihoods.
+fn turns_of(phased: bool, pair: Pair) -> [i64; 4]
+    requires { (pair.first < 3) × (pair.second < 3) }
+    ensures { (x : ℕ) → get_or result x (pos 0) ≡ turn phased pair.first pair.second x }
 {
+    let mut turns = [0i64; 4];
     if phased {
-        turns[g0] = turns[g0] - 1;
-        turns[g1] = turns[g1] + 1;
+        turns[pair.first] -= 1;
+        turns[pair.second] += 1;
     }
+    turns
 }
 
 // How far a score rises, by the sums of allele x, if the first haplotype has x and the second has not.
@@ -217,45 +212,33 @@ fn pair_score(pri: &[i64], acc: &[i64; 12], base: i64, at: usize, i: usize, j: u
     LogProb(pri[at] + base + pair_rise(acc, i, j))
 }
 
-// Writes the k by k scores at 9 * v, row after row. At the loop's head p of them are written, and (i, j) is the next pair.
+// Writes the k by k scores at 9 * v, row after row. At the outer loop's head i rows of them are written, at the inner's j more.
 fn write_scores(pri: &[i64], post: &mut [i64], acc: &[i64; 12], base: i64, v: usize, k: usize)
     requires scores_room { ScoresRoom pri.now post.old v k × (nat_abs base ≤ 2 ^ 53) }
     requires within { Within (2 ^ 50) acc.now }
     ensures { post.new ≡ sets post.old (9 * v) (scores_of pri.now acc.now base v k) }
 {
-    let kk = k * k;
-    let mut p = 0;
-    let mut i = 0;
-    let mut j = 0;
-    while p < kk {
-        let score = pair_score(pri, acc, base, 9 * v + p, i, j).0;
-        post[9 * v + p] = score;
-        p += 1;
-        j += 1;
-        if j == k {
-            j = 0;
-            i += 1;
+    for i in 0..k {
+        for j in 0..k {
+            let at = 9 * v + (i * k + j);
+            let score = pair_score(pri, acc, base, at, i, j).0;
+            post[at] = score;
         }
     }
 }
 
-// The first of the greatest among the m numbers at `at`. At the loop's head b is the first of the greatest among the first g, and
-// `best` is number b.
-pub fn first_max(s: &[i64], at: usize, m: usize) -> usize
-    requires { at + m ≤ length s.now }
-    ensures { result ≡ first_maximum (λ g. get_or s.now (at + g) (pos 0)) m }
+// The first of the greatest numbers. At the loop's head b is the first of the greatest among the first g, and `best` is number b. Both are chosen
+// without a jump, which no machine could guess; so this is no `max_by_key`.
+pub fn first_max(s: &[i64]) -> usize
+    requires { 0 < length s.now }
+    ensures { result ≡ first_maximum (λ g. get_or s.now g (pos 0)) (length s.now) }
 {
-    if m == 0 {
-        return 0;
-    }
     let mut b: usize = 0;
-    let mut best: i64 = s[at];
-    let mut g: usize = 1;
-    while g < m {
-        let x = s[at + g];
+    let mut best: i64 = s[0];
+    for g in 1..s.len() {
+        let x = s[g];
         b = if best < x { g } else { b };
         best = if best < x { x } else { best };
-        g += 1;
     }
     b
 }
@@ -272,29 +255,15 @@ pub fn pair_at(hap: &[u8], v: usize) -> Pair
 }
 
 // Writes at 9 * v how far the scores of v's pairs are above that of the first: normalising takes a common part away.
-pub fn scores(
-    ks: &[u8],
-    ph: &[u8],
-    pri: &[i64],
-    ends: &[usize],
-    piles: &[u64],
-    hap: &[u8],
-    lik: &[i64],
-    post: &mut [i64],
-    v: usize,
-)
-    requires some { Some (λ C. VisitStart C (sweep_reads ks.now ph.now pri.now ends.now piles.now) (sweep_state hap.now lik.now post.old) v) }
-    ensures { Scored (sweep_reads ks.now ph.now pri.now ends.now piles.now) (sweep_state hap.now lik.now post.old) v post.new }
+pub fn scores(reads: &SweepReads<'_>, hap: &[u8], lik: &[i64], post: &mut [i64], v: usize)
+    requires some { Some (λ C. VisitStart C (reads_of reads.now) (sweep_state hap.now lik.now post.old) v) }
+    ensures { Scored (reads_of reads.now) (sweep_state hap.now lik.now post.old) v post.new }
 {
-    let k = ks[v] as usize;
-    let phased = ph[v] != 0;
-    let a = group_start(ends, v);
-    let e = ends[v];
+    let k = reads.ks[v] as usize;
+    let phased = reads.ph[v] != 0;
     let old = pair_at(hap, v);
-    let mut turns = [0i64; 4];
-    make_turns(&mut turns, phased, old.first, old.second);
-    let mut acc = [0i64; 12];
-    score_calls(piles, lik, &turns, &mut acc, a, e);
-    let base = below_first(pri, &acc, v);
-    write_scores(pri, post, &acc, base, v, k);
+    let turns = turns_of(phased, old);
+    let acc = score_calls(reads.pile(v), lik, &turns);
+    let base = below_first(reads.pri, &acc, v);
+    write_scores(reads.pri, post, &acc, base, v, k);
 }

@@ -6,7 +6,7 @@ ghost use Rattle.variants_and_fragments.specs.Decode.{allele_start, allele_at, t
 ghost use Rattle.variants_and_fragments.specs.Written.{written};
 ghost use Rattle.genotype_probs.specs.Priors.{get_prior, all_priors, prior_at};
 
-use crate::letters::{compare, letter_of};
+use crate::letters::{Base, compare};
 use crate::table::PriorTable;
 use steps::LogProb;
 use variants_and_fragments::Case;
@@ -58,7 +58,7 @@ pub fn get_prior(table: &PriorTable, variant: &VariantAlleles<'_>, i: usize, j: 
     ensures { result.0 ≡ get_prior table.now.rates.rates (variant_from variant.now.case.now.laid.words.now variant.now.case.now.bases.now variant.now.v) i j }
 {
     let reference = variant.allele(0);
-    let base = letter_of(reference[0]);
+    let base = Base::of(reference[0]);
     let one = compare(reference, variant.allele(i), base);
     let two = compare(reference, variant.allele(j), one.base);
     table.value(two.base, one.letter, two.letter)

@@ -1,5 +1,5 @@
 -- One more genotype is written; past them zeros are.
-use Rattle.std.proofs.Common.{◌≡◌, ◌≢◌, ℕ, ◌+◌, ◌-◌, ◌*◌, ◌<◌, ◌≤◌, length, get_or, take, drop, ℤ, pos, refl, sym, ◌∙◌, arith, rules, length-take, length-drop, w64, to_z, of_z}
+use Rattle.std.proofs.Common.{◌≡◌, ◌+◌, ◌-◌, ◌*◌, ◌<◌, length, take, drop, pos, refl, ◌∙◌, arith, rules, length-take, length-drop, w64, to_z, of_z}
 use lib.Seq.{get_or-set_same, get_or-set_other}
 use native.Mathlib.Decide.{ℕ_discrete}
 use Rattle.variants_and_fragments.specs.Decode.{variant_from}
