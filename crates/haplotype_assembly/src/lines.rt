@@ -59,6 +59,7 @@ pub fn write_alleles(shown: ShownCalls<'_>, mut next: usize, buffer: &mut [u8], 
 // ---- the qualities
 
 // The quality byte of a call.
+#[tactic(auto, using(crate::proofs::Qualities::quality_log, crate::proofs::Qualities::quality_small), unfolding(crate::specs::Lines::call_quality))]
 pub fn quality_of(row: Row) -> u8
     requires { DownTo 262144 row.qual.0 }
     ensures { result ≡ call_quality (call_of row) }

@@ -162,7 +162,8 @@ impl PhasedCase<'_> {
         least
     }
 
-    // Variant v's name, where `least` holds those of all sets; 0 for none.
+    // Variant v's name, where `least` holds those of all sets; 0 for none, as the slice of names has it.
+    #[tactic(auto, using(crate::proofs::Names::unnamed, crate::proofs::Names::no_set, crate::proofs::Names::its_name))]
     fn name(&self, least: &[Option<u32>], v: usize) -> u32
         requires in_case { v < self.now.case.laid.sizes.n }
         requires named_to { NamedTo self.now.case.laid.words.now self.now.sets.now self.now.case.laid.sizes.n self.now.case.laid.sizes.n least.now }
