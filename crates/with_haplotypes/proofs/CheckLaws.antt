@@ -2,7 +2,6 @@
 -- Assumes nothing.
 use mathlib.Core.Path.{◌≡◌, sym, ap, ◌∙◌}
 use mathlib.Core.Bool.{◌&&◌, and-false}
-use mathlib.Core.Logic.{◌⊎◌, inl, inr}
 use mathlib.Core.List.{List}
 use Prim.Native.Nat.{ℕ, ◌≤◌, ◌<◌}
 use borrow.Author.Tests.{le-leb, lt-leb}
@@ -10,7 +9,7 @@ use lib.Dec.{leb}
 use lib.IntN.{ℤ}
 use Rattle.variants_and_fragments.specs.declared.Refusal.{Refusal}
 use Rattle.variants_and_fragments.specs.Refusals.{Outcome, refused, done, refusal, unless, each, and_then, smallest_short, long_enough}
-use Rattle.variants_and_fragments.proofs.Outcomes.{unless_on, unless_at, each_stops, each_passes, enough_stops, enough_passes, then_on, then_refused, then_unless, then_each, then_then, then_same}
+use Rattle.variants_and_fragments.proofs.Outcomes.{unless_stops, unless_passes, each_stops, each_passes, enough_stops, enough_passes, then_on, then_refused, then_unless, then_each, then_then, then_same}
 use Rattle.genotype_probs.specs.declared.Rates.{Rates}
 use Rattle.genotype_probs.specs.Rates.{rate_test}
 use Rattle.genotype_probs.specs.Inner.Rates.{rates_outcome}
@@ -46,15 +45,14 @@ module _ (n : ℕ) (rates : Rates) (phase : List ℕ) (sets : List ℤ) (orders 
         past_orders : limit_checks m limit (smallest_short slices) ≡ checks
         past_orders = then_on (orders_outcome n orders) (λ m. limit_checks m limit (smallest_short slices)) m (sym o) ∙ past_phase
 
-        pub limit_stop : (limit < 1) ⊎ ((1 ≤ limit) × (max_limit < limit)) → refused 9 limit ≡ checks
+        pub limit_stop : (x : Refusal) → refusal x ≡ unless {X = Unit {0}} (leb 1 limit && leb limit max_limit) 9 limit (done tt) → refusal x ≡ checks
         unfolding limit_checks
-        limit_stop (inl l) = unless_at _ 9 limit _ (rw (lt-leb 1 limit l)) ∙ past_orders
-        limit_stop (inr h) = unless_at _ 9 limit _ (rw (lt-leb limit max_limit h.1, and-false (leb 1 limit))) ∙ past_orders
+        limit_stop x e = unless_stops _ 9 limit _ e ∙ past_orders
 
-        module _ (l : 1 ≤ limit) (h : limit ≤ max_limit) where
+        module _ (l : ◌≡◌ {A = Outcome Unit} (done tt) (unless (leb 1 limit && leb limit max_limit) 9 limit (done tt))) where
           past_limit : long_enough slices (done m) ≡ checks
           unfolding limit_checks long_enough
-          past_limit = unless_on (leb 1 limit && leb limit max_limit) 9 limit _ (rw (le-leb 1 limit l, le-leb limit max_limit h)) ∙ past_orders
+          past_limit = unless_passes _ 9 limit _ l ∙ past_orders
 
           pub short_stop : (x : Refusal) → refusal x ≡ long_enough {X = Unit {0}} slices (done tt) → refusal x ≡ checks
           short_stop x e = enough_stops slices (done m) x e ∙ past_limit

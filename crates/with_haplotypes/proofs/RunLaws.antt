@@ -41,13 +41,6 @@ use Rattle.with_haplotypes.specs.Round.{RunInput, run_input, sweep_case, order_o
 use Rattle.with_haplotypes.specs.Inner.Steps.{CaseGiven, OrdersGiven, Scratch, Prepared, RunGiven, StateGiven, RunMade}
 use Rattle.with_haplotypes.proofs.OrdersHeld.{order_good}
 
--- each of a list of ones is 1
-pub all_ones : (l : List ℕ) → allb (λ x. eqb x 1) l ≡ true → (v : ℕ) → v < length l → get_or l v 0 ≡ 1
-unfolding allb
-all_ones [] e v h = absurd (omega arith)
-all_ones (x ∷ xs) e zero h = eqb-true x 1 (both (eqb x 1) (allb (λ x. eqb x 1) xs) e).0
-all_ones (x ∷ xs) e (suc v) h = all_ones xs (both (eqb x 1) (allb (λ x. eqb x 1) xs) e).1 v (omega arith)
-
 pub known : {w : List ℤ} {b : List ℕ} {rates : Rates} {s : Sizes} → CaseGiven w b rates s → CaseIn w s
 known {w} {b} {rates} {s} g = case_in w b s g.accepted
 

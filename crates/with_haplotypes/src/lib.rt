@@ -1,8 +1,10 @@
 // One round of calling genotypes with haplotypes, after HapCUT2: document 01, sections 6 and 7.
 #![tactic(auto)]
 
+ghost use Rattle.std.specs.Prelude.{◌≡◌, ◌&&◌, leb};
+ghost use Rattle.variants_and_fragments.specs.Refusals.{answered, unless, done};
 ghost use Rattle.with_haplotypes.specs.Round.{round_input};
-ghost use Rattle.with_haplotypes.specs.Promise.{round_slices, outcome_of, CalledWithHaplotypes};
+ghost use Rattle.with_haplotypes.specs.Promise.{max_limit, round_slices, outcome_of, CalledWithHaplotypes};
 
 use crate::reads::AcceptedRound;
 use call_genotypes::run::Plan;
@@ -30,6 +32,20 @@ pub struct RoundAnswer {
     pub source: LogProb,
 }
 
+// The most sweeps that may be asked for.
+const MAX_LIMIT: u32 = 1000000;
+
+// Number 9: the limit is in 1..1000000.
+#[tactic(auto, unfolding(variants_and_fragments::specs::Refusals::unless))]
+fn check_limit(limit: u32) -> Result<(), Refusal>
+    ensures { answered (λ x. x) result ≡ unless (leb 1 limit && leb limit max_limit) 9 limit (done tt) }
+{
+    if limit < 1 || MAX_LIMIT < limit {
+        return Err(Refusal::Limit(limit as usize));
+    }
+    Ok(())
+}
+
 // Calls genotypes with haplotypes, in one round: sweeps from the given phase, by the lent orders in turn, until one changes nothing or
 // the limit is reached. Writes the haplotypes (2 per variant), the likelihoods (2 per fragment), each variant's latest posteriors (9 per
 // variant), its quality and its genotype's quality.
@@ -55,10 +71,7 @@ pub fn call_genotypes_with_haplotypes(
     let f = case.laid.sizes.f;
     check_phase(n, phase, sets)?;
     let m = check_orders(orders, n)?;
-    let limit = limit as usize;
-    if limit < 1 || 1000000 < limit {
-        return Err(Refusal::Limit(limit));
-    }
+    check_limit(limit)?;
     long_enough(&[
         (2 * n, haplotypes.len()),
         (2 * f, likelihoods.len()),
@@ -66,13 +79,13 @@ pub fn call_genotypes_with_haplotypes(
         (n, quals.len()),
         (n, gqs.len()),
     ])?;
-    let plan = Plan { n, m, limit };
+    let limit = limit as usize;
     let round = AcceptedRound {
         case,
         rates,
         phase,
         orders,
-        plan,
+        plan: Plan { n, m, limit },
     };
     Ok(round.call(haplotypes, likelihoods, posteriors, quals, gqs))
 }

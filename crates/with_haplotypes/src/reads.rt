@@ -28,7 +28,8 @@ pub struct RunReads<'a> {
     pub ghost given: { RunGiven round.case.laid.words.now round.case.bases.now round.rates.rates round.case.laid.sizes round.plan ks.now ph.now round.orders.now (phased_flags (decode round.case.laid.words.now round.case.bases.now) round.phase.now) },
 }
 
-// A run with its usable calls as rows and as piles, where those of each fragment and variant end, and the priors.
+// A run with its usable calls as rows and as piles, where those of each fragment and variant end, and the priors. That they are those of the
+// run's case is asked by `sweep` alone, and is no ghost field: antt finds no proof that `All`, a type of the logic, is a proposition.
 #[derive(Clone, Copy)]
 pub struct PreparedRun<'a> {
     pub reads: RunReads<'a>,

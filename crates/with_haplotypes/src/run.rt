@@ -1,4 +1,10 @@
 // The sweeps from given haplotypes, and the totals before and after them.
+ghost use Rattle.std.specs.Prelude.{◌≡◌, ◌/◌, ◌^◌, ◌≤◌, length, replicate};
+ghost use Rattle.pileup.specs.Inner.Packed.{group_start};
+ghost use Rattle.sweeps.specs.Sweeps.{total_of};
+ghost use Rattle.likelihoods.specs.Inner.Held.{Within};
+ghost use Rattle.likelihoods.specs.Inner.Likelihoods.{CallsIn, EndsIn, flagged};
+ghost use Rattle.likelihoods.specs.Inner.Totals.{PriorsIn, held_case, standing_total};
 ghost use Rattle.call_genotypes.specs.Inner.Scores.{sweep_state};
 ghost use Rattle.with_haplotypes.specs.Round.{sweep_case};
 ghost use Rattle.with_haplotypes.specs.Inner.Steps.{scratch, Prepared, StateGiven, RunMade};
@@ -10,51 +16,35 @@ use call_genotypes::reads::SweepReads;
 use call_genotypes::run::run_sweeps;
 use likelihoods::likelihoods::ReadRows;
 use likelihoods::totals::{PairPriors, standing_total, total};
+use steps::LogProb;
 use variants_and_fragments::layout::MAX_VARIANTS;
 
 impl PreparedRun<'_> {
-    // The run from the haplotypes that stand in hap: the phased totals are those of the likelihoods that stand, the source's is recomputed from
-    // the rows.
-    pub fn sweep(&self, hap: &mut [u8], lik: &mut [i64], post: &mut [i64]) -> RoundAnswer
-        requires prepared { Prepared self.now.reads.round.case.laid.words.now self.now.reads.round.case.bases.now self.now.reads.round.rates.rates self.now.reads.round.case.laid.sizes (scratch self.now.rows.now self.now.row_ends.now self.now.piles.now self.now.pile_ends.now self.now.pri.now) }
-        requires state { StateGiven (sweep_case (run_from self.now.reads hap.old)) self.now.reads.round.case.laid.sizes (sweep_state hap.old lik.old post.old) }
-        ensures { RunMade (run_from self.now.reads hap.old) (sweep_state hap.old lik.old post.old) (sweep_state hap.new lik.new post.new) result }
+    // The total of these haplotypes over the phased variants, of the likelihoods that stand.
+    fn phased_total(&self, hap: &[u8], lik: &[i64]) -> LogProb
+        requires priors_in { PriorsIn (length self.now.reads.ks.now) self.now.reads.ks.now self.now.pri.now hap.now self.now.reads.ph.now }
+        requires liks_in { (length lik.now ≤ 8192) × Within (2 ^ 32) lik.now }
+        ensures { result.0 ≡ standing_total (length self.now.reads.ks.now) (length lik.now / 2) self.now.reads.ks.now self.now.pri.now lik.now hap.now self.now.reads.ph.now }
     {
-        let RunReads { round, ks, ph } = self.reads;
-        let pri = self.pri;
-        let phased_rows = ReadRows {
-            rows: self.rows,
-            ends: self.row_ends,
+        let priors = PairPriors {
+            ks: self.reads.ks,
+            pri: self.pri,
             hap,
-            mask: ph,
+            mask: self.reads.ph,
         };
-        phased_rows.write_likelihoods(lik);
-        let before = PairPriors {
-            ks,
-            pri,
-            hap,
-            mask: ph,
-        };
-        let start = standing_total(&before, lik);
-        let reads = SweepReads {
-            ks,
-            ph,
-            pri,
-            ends: self.pile_ends,
-            piles: self.piles,
-        };
-        let r = run_sweeps(&reads, round.orders, round.plan, hap, lik, post);
-        let after = PairPriors {
-            ks,
-            pri,
-            hap,
-            mask: ph,
-        };
-        let end = standing_total(&after, lik);
+        standing_total(&priors, lik)
+    }
+
+    // The total of these haplotypes over all variants, recomputed from the rows.
+    fn source_total(&self, hap: &[u8]) -> LogProb
+        requires rows_in { CallsIn self.now.rows.now (group_start self.now.row_ends.now (length self.now.row_ends.now)) hap.now (replicate 1024 1) × EndsIn self.now.row_ends.now (length self.now.row_ends.now) × (length self.now.row_ends.now ≤ 4096) }
+        requires priors_in { PriorsIn (length self.now.reads.ks.now) self.now.reads.ks.now self.now.pri.now hap.now (replicate 1024 1) }
+        ensures { result.0 ≡ total_of (held_case (length self.now.reads.ks.now) (length self.now.row_ends.now) self.now.reads.ks.now self.now.pri.now self.now.rows.now self.now.row_ends.now (replicate 1024 1)) (flagged (replicate 1024 1)) hap.now }
+    {
         let all = [1u8; MAX_VARIANTS];
         let priors = PairPriors {
-            ks,
-            pri,
+            ks: self.reads.ks,
+            pri: self.pri,
             hap,
             mask: &all,
         };
@@ -64,7 +54,35 @@ impl PreparedRun<'_> {
             hap,
             mask: &all,
         };
-        let source = total(&priors, &rows);
+        total(&priors, &rows)
+    }
+
+    // The run from the haplotypes that stand in hap: the phased totals are those of the likelihoods that stand, the source's is recomputed from
+    // the rows.
+    pub fn sweep(&self, hap: &mut [u8], lik: &mut [i64], post: &mut [i64]) -> RoundAnswer
+        requires prepared { Prepared self.now.reads.round.case.laid.words.now self.now.reads.round.case.bases.now self.now.reads.round.rates.rates self.now.reads.round.case.laid.sizes (scratch self.now.rows.now self.now.row_ends.now self.now.piles.now self.now.pile_ends.now self.now.pri.now) }
+        requires state { StateGiven (sweep_case (run_from self.now.reads hap.old)) self.now.reads.round.case.laid.sizes (sweep_state hap.old lik.old post.old) }
+        ensures { RunMade (run_from self.now.reads hap.old) (sweep_state hap.old lik.old post.old) (sweep_state hap.new lik.new post.new) result }
+    {
+        let RunReads { round, ks, ph } = self.reads;
+        let rows = ReadRows {
+            rows: self.rows,
+            ends: self.row_ends,
+            hap,
+            mask: ph,
+        };
+        rows.write_likelihoods(lik);
+        let start = self.phased_total(hap, lik);
+        let reads = SweepReads {
+            ks,
+            ph,
+            pri: self.pri,
+            ends: self.pile_ends,
+            piles: self.piles,
+        };
+        let r = run_sweeps(&reads, round.orders, round.plan, hap, lik, post);
+        let end = self.phased_total(hap, lik);
+        let source = self.source_total(hap);
         RoundAnswer {
             sweeps: r.sweeps,
             settled: r.settled,

@@ -33,20 +33,21 @@ returns-in_err-m c =
     (answer_checks _ _ _ _ _ (sym c.in_ok-case.ensures.outcome)
     (orders_stop _ _ _ _ _ _ _ c.in_ok-rates.ensures.outcome c.in_ok-check_phase.ensures _ c.in_err-m.ensures))
 
-pub returns-then-limit-lt1 : goal.returns-then-limit-lt1
-returns-then-limit-lt1 c =
-    answer_checks _ _ _ _ (Limit c.args.limit) (sym c.in_ok-case.ensures.outcome)
-    (limit_stop _ _ _ _ _ _ _ c.in_ok-rates.ensures.outcome c.in_ok-check_phase.ensures _ c.in_ok-m.ensures c.then-limit-lt1.either)
+pub returns-in_err-check_limit : goal.returns-in_err-check_limit
+returns-in_err-check_limit c =
+    let p = err_from_is_err_and c.from_residual-in_err-check_limit.result c.from_residual-in_err-check_limit.ensures.1 in rw (p.1, p.2)
+    (answer_checks _ _ _ _ _ (sym c.in_ok-case.ensures.outcome)
+    (limit_stop _ _ _ _ _ _ _ c.in_ok-rates.ensures.outcome c.in_ok-check_phase.ensures _ c.in_ok-m.ensures _ c.in_err-check_limit.ensures))
 
 pub returns-in_err-long_enough : goal.returns-in_err-long_enough
 returns-in_err-long_enough c =
     let p = err_from_is_err_and c.from_residual-in_err-long_enough.result c.from_residual-in_err-long_enough.ensures.1 in rw (p.1, p.2)
     (answer_checks _ _ _ _ _ (sym c.in_ok-case.ensures.outcome)
-    (short_stop _ _ _ _ _ _ _ c.in_ok-rates.ensures.outcome c.in_ok-check_phase.ensures _ c.in_ok-m.ensures c.if-limit-lt1.false c.if-limit-gt1000000.false _ c.in_err-long_enough.ensures))
+    (short_stop _ _ _ _ _ _ _ c.in_ok-rates.ensures.outcome c.in_ok-check_phase.ensures _ c.in_ok-m.ensures c.in_ok-check_limit.ensures _ c.in_err-long_enough.ensures))
 
 -- past all checks
 passed : (c : In_ok-long_enough) → done c.in_ok-m.m ≡ round_checks c.in_ok-case.case.laid.sizes.n c.args.rates c.args.phase.now c.args.sets.now c.args.orders.now c.args.limit (smallest_short (round_needs c.in_ok-case.case.laid.sizes.n c.in_ok-case.case.laid.sizes.f (round_slices c.args.haplotypes.now c.args.likelihoods.now c.args.posteriors.now c.args.quals.now c.args.gqs.now)))
-passed c = all_pass _ _ _ _ _ _ _ c.in_ok-rates.ensures.outcome c.in_ok-check_phase.ensures _ c.in_ok-m.ensures c.if-limit-lt1.false c.if-limit-gt1000000.false c.in_ok-long_enough.ensures
+passed c = all_pass _ _ _ _ _ _ _ c.in_ok-rates.ensures.outcome c.in_ok-check_phase.ensures _ c.in_ok-m.ensures c.in_ok-check_limit.ensures c.in_ok-long_enough.ensures
 
 pub invariant_of-round : goal.invariant_of-round
 invariant_of-round c =
