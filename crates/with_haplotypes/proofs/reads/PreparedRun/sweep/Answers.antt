@@ -1,6 +1,6 @@
 -- The likelihoods of the start, the run, the totals of the likelihoods that stand before and after it, and the source's total of the rows.
 -- Assumes nothing.
-use Rattle.std.proofs.Common.{◌≤◌, length, replicate, refl, ◌∙◌, arith}
+use Rattle.std.proofs.Common.{ℕ, ◌≤◌, length, replicate, refl, ◌∙◌, arith}
 use Rattle.std.proofs.lemmas.List.{length-replicate, get_or-replicate}
 use Rattle.with_haplotypes.proofs.RunLaws.{known, rows_asked, priors_asked, liks_here, begins, standing_asks, phased_total_lem, source_total_lem, left_good, run_made}
 use Rattle.with_haplotypes.proofs.reads.PreparedRun.sweep.Goals as goal
@@ -39,7 +39,7 @@ source_total-source-requires c =
     let R = c.run_sweeps-r.ensures _ (begins G P S c.write_likelihoods.ensures) in
     let g = left_good G P S R in
     let k = known G.given in
-    let long : c.args.self.now.reads.round.case.laid.sizes.n ≤ length (replicate 1024 1) = omega (arith, length-replicate 1024 1, k.sized.n_top) in
+    let long : c.args.self.now.reads.round.case.laid.sizes.n ≤ length (replicate {A = ℕ} 1024 1) = omega (arith, length-replicate {A = ℕ} 1024 1, k.sized.n_top) in
     let a = rows_asked G P S (replicate 1024 1) g long in
     record { rows_in = (a.0, a.1, omega (arith, P.ends_long, k.sized.f_top)); priors_in = priors_asked G P S _ g long }
 
