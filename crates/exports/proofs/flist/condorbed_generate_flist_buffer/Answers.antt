@@ -9,4 +9,4 @@ returns-in-Ok c = exported _ c.in-Ok.ensures (flist_done _)
 
 pub returns-in-Err : goal.returns-in-Err
 unfolding flist_numbers
-returns-in-Err c = ?
+returns-in-Err c = let z = c.default.ensures.1.1 in rw (c.number.ensures, c.place.ensures, z.0, z.1) (exported _ c.in-Err.ensures (flist_refused c.in-Err.x))

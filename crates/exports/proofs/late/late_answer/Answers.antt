@@ -13,4 +13,4 @@ returns-in-Ok c =
 
 pub returns-in-Err : goal.returns-in-Err
 unfolding late_numbers
-returns-in-Err c = ?
+returns-in-Err c = let z = c.default.ensures.1.1 in rw (c.in-Err.is, c.number.ensures, c.place.ensures, z.0, z.1)
