@@ -27,7 +27,7 @@ use Rattle.sweeps.proofs.Fours.{share_value}
 use Rattle.likelihoods.specs.Inner.Held.{SweepReads, Held, Liks, Within}
 use Rattle.call_genotypes.specs.declared.score.Pair.{Pair}
 use Rattle.call_genotypes.specs.Inner.Scores.{pair_at, row_mixes, turn, PileFits, AlleleSums, rise_of, pair_rise, below_first, scores_of, ScoresRoom, SweepState, VisitStart, over_first, scored_at}
-use Rattle.call_genotypes.specs.Inner.Piles.{PileThere, PileIs}
+use Rattle.call_genotypes.specs.Inner.Piles.{PileIs}
 use Rattle.call_genotypes.proofs.RiseLaws.{row_four}
 use Rattle.call_genotypes.proofs.RiseSums.{pairs_are}
 
@@ -71,14 +71,8 @@ module _ {C : SweepCase} {reads : SweepReads} (H : Held C reads) where
     rows_in : RowsIn C.n (length C.frags) reads.piles (group_start reads.ends v) (get_or reads.ends v 0)
     rows_in = group_in H.piles_are H.variants_top H.fragments_top v in_n
 
-    pub pile_in : RowsIn 1024 4096 reads.piles (group_start reads.ends v) (get_or reads.ends v 0)
-    pile_in = rows_wider 1024 4096 H.variants_top H.fragments_top rows_in
-
     pub pile_fits : {h : List ℕ} {lik : List ℤ} → Liks C h lik → PileFits lik reads.piles (group_start reads.ends v) (get_or reads.ends v 0)
     pile_fits {lik = lik} L = rows_wider 1024 (length lik / 2) H.variants_top (omega (arith, L.long)) rows_in
-
-    pub pile_there : PileThere reads.ends reads.piles v
-    pile_there = record { v_in = omega (arith, H.piles_are.ends_long); rises = H.piles_are.rises v in_n; few = rows_in.few; long = rows_in.long }
 
     -- the byte is 1 for a phased variant
     pub phased_is : not (eqb (get_or reads.ph v 0) 0) ≡ C.phased v
@@ -173,19 +167,13 @@ module _ {C : SweepCase} {reads : SweepReads} {state : SweepState} {v : ℕ} (S 
   pub in_haps : 2 * v + 1 < length h
   in_haps = omega (arith, S.standing.haps.len, S.v_in)
 
-  -- the alleles that stand are two of three
-  pub pair_three : (old : Pair) → old ≡ pair_at h v → (old.first < 3) × (old.second < 3)
-  pair_three old e =
-      let t = H.good.three_alleles v S.v_in in
-      rw e (omega (arith, S.standing.haps.low v S.v_in), omega (arith, S.standing.haps.high v S.v_in))
-
   -- the same from what the code has: the pile, the flag of a phased variant, each allele's turn and the sums
-  pub scored : (pile : List ℕ) (old : Pair) (turns acc post' : List ℤ) (base : ℤ) → PileIs reads.ends reads.piles v pile → old ≡ pair_at h v
-      → ((x : ℕ) → get_or turns x (pos 0) ≡ turn (not (eqb (get_or reads.ph v 0) 0)) old.first old.second x)
+  pub scored : (pile : List ℕ) (old : Pair) (phased : Bool) (turns acc post' : List ℤ) (base : ℤ) → PileIs reads.ends reads.piles v pile → old ≡ pair_at h v
+      → phased ≡ not (eqb (get_or reads.ph v 0) 0) → ((x : ℕ) → get_or turns x (pos 0) ≡ turn phased old.first old.second x)
       → AlleleSums (row_mixes turns state.lik) (rows_at pile 0 (length pile)) acc
       → base ≡ below_first reads.pri acc v
       → post' ≡ sets state.post (9 * v) (scores_of reads.pri acc base v (get_or reads.ks v 0)) → post' ≡ scored_at C v state
-  scored pile old turns acc post' base P eo turns-are A b q =
-      let w = rw (phased_is H v S.v_in, eo) at turns-are in
+  scored pile old phased turns acc post' base P eo ep turns-are A b q =
+      let w = rw (ep, phased_is H v S.v_in, eo) at turns-are in
       let B = rw (P.rows, pile_rows H v S.v_in) at A in
       q ∙ rw (H.ks_are v S.v_in, scores_are turns acc base w B b)

@@ -37,13 +37,14 @@ module _ {ends piles : List ℕ} {v : ℕ} (t : PileThere ends piles v) where
   pile_row : (j : ℕ) → j < n → row_at pile j ≡ row_at piles (a + j)
   pile_row j l = ap unpacked (get_or-take n (drop a piles) j 0 l ∙ get_or-drop a piles j 0)
 
-  pub pile_is : PileIs ends piles v pile
-  pile_is =
-      record {
+  -- the part from the pile's start to its end
+  pub pile_is : (s e : ℕ) → s ≡ a → e ≡ get_or ends v 0 → PileIs ends piles v (take (e - s) (drop s piles))
+  pile_is s e es ee =
+      rw (es, ee) (record {
         rows = rw (pile_length, sub-zero) (same_table (row_at pile) (row_at piles) 0 a n (λ j l. let z : 0 + j ≡ j = omega arith in rw z (pile_row j l)));
         rows_in = λ m f R. record {
           few = omega (arith, pile_length, R.few);
           long = omega arith;
           rows_in = λ p l u. let k : p < n = omega (arith, pile_length) in rw (pile_row p k) (R.rows_in (a + p) (omega arith) (omega arith));
         };
-      }
+      })

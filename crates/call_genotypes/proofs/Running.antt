@@ -4,7 +4,6 @@ use mathlib.Core.Bool.{Bool, true, false, not, cond}
 use mathlib.Core.List.{List}
 use Prim.Native.Nat.{ℕ, suc, ◌+◌, ◌-◌, ◌*◌, ◌%◌, ◌<◌, ◌≤◌}
 use native.Mathlib.Omega.{arith}
-use native.Mathlib.Nat.{mod-lt, mul-le-mul_right}
 use native.Mathlib.Numerals.{add-one}
 use lib.ListN.{length, take, drop}
 use Rattle.shuffle.specs.Permutation.{Permutation}
@@ -48,9 +47,6 @@ module _ {C : SweepCase} {reads : SweepReads} {before : SweepState} {orders : Li
   o = order_of orders n m
 
   -- ---- the orders
-  pub end_fits : (s : ℕ) → s % m * n + n ≤ length orders
-  end_fits s = omega (arith, R.orders_long, mul-le-mul_right n (mod-lt s R.some_order))
-
   -- the part that the code hands over
   pub part_is : (s : ℕ) → take (s % m * n + n - s % m * n) (drop (s % m * n) orders) ≡ o s
   unfolding order_of order_at

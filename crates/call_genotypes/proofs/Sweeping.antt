@@ -50,9 +50,6 @@ or_true true = refl
 or_true false = refl
 
 module _ {C : SweepCase} {reads : SweepReads} {before : SweepState} {order : List ℕ} (S : SweepStart C reads before order) where
-  pub sweeping_start : Sweeping C order before before false 0
-  sweeping_start = record { good = S.standing.haps; liks = S.standing.liks; long = refl; left = refl; scores = refl; told = refl }
-
   module _ {state : SweepState} {flag : Bool} {p : ℕ} (s : Sweeping C order before state flag p) where
     pub sweeping_end : length order ≤ p → Swept C order before state flag
     unfolding sweep changed recorded

@@ -46,9 +46,6 @@ module _ {C : SweepCase} {reads : SweepReads} {before : SweepState} {v : ℕ} (S
   pub k_least : 1 ≤ get_or reads.ks v 0
   k_least = rw k_is (S.standing.held.good.some_allele v S.v_in)
 
-  pub k_three : get_or reads.ks v 0 ≤ 3
-  k_three = rw k_is (S.standing.held.good.three_alleles v S.v_in)
-
   pub movable : Movable C reads.ph reads.ends reads.piles h before.lik v
   movable = record { ks = reads.ks; pri = reads.pri; held = S.standing.held; haps = S.standing.haps; liks = S.standing.liks; v_in = S.v_in }
 

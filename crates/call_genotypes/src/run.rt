@@ -1,5 +1,5 @@
 // The run of sweeps. The three slices that are written stay parameters here and below: with them in a struct, each contract would say besides
-// that the loans stay the same.
+// that the loans stay the same. That there is a case (`Some`) stays a clause, and is no ghost field of what is read: it speaks of them too.
 ghost use Rattle.std.specs.Prelude.{◌≡◌};
 ghost use Rattle.call_genotypes.specs.Inner.Reads.{reads_of};
 ghost use Rattle.call_genotypes.specs.Inner.Scores.{Some, sweep_state};

@@ -139,7 +139,8 @@ fn add_four(r: Mixes, acc: &mut [i64; 12], x: usize)
     raise(acc, at + 3, r.neither);
 }
 
-// The sums of the four numbers of a pile's calls, four per allele. At the loop's head the calls so far are in the sums.
+// The sums of the four numbers of a pile's calls, four per allele: with them a pair's score takes a few additions, and no second walk over the
+// calls. At the loop's head the calls so far are in the sums.
 fn score_calls(pile: &[u64], lik: &[i64], turns: &[i64; 4]) -> [i64; 12]
     requires pile_fits { PileFits lik.now pile.now 0 (length pile.now) }
     requires within { Within (2 ^ 32) lik.now × Within 1 turns.now }

@@ -9,19 +9,8 @@ ghost use Rattle.call_genotypes.specs.Inner.Visits.{BestPair, Moved, Movable, Pu
 
 use crate::reads::SweepReads;
 use crate::score::{Pair, first_max, pair_at, scores};
+use likelihoods::likelihoods::call_term;
 use pileup::row::Row;
-use steps::LogProb;
-
-// The row's one_minus_qual where it has this allele, and its qual otherwise.
-fn call_term(row: Row, own: usize) -> LogProb
-    ensures { result.0 ≡ call_term (row_from row).call own }
-{
-    if row.allele == own {
-        row.one_minus_qual
-    } else {
-        row.qual
-    }
-}
 
 // What a row's call adds to a likelihood when its variant's allele goes from old to new.
 fn change(row: Row, old: usize, new: usize) -> i64

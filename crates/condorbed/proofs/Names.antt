@@ -1,18 +1,59 @@
--- The number of a token's word finds the request that the token's bytes find: equal numbers of short words have equal bytes.
+-- The word of a token, its first seven bytes, asks for what the token asks for: every request's word is shorter.
 -- By induction on the rows of the table. Assumes nothing.
-use mathlib.Core.Path.{◌≡◌, refl, sym, ap, ◌∙◌}
-use mathlib.Core.Bool.{Bool, true, false, ◌&&◌, false≢true}
-use mathlib.Core.List.{List, [], ◌∷◌}
-use Prim.Native.Nat.{ℕ, ◌<◌, ◌^◌}
-use lib.Dec.{eqb, ltb}
-use borrow.Author.Tests.{eqb-true, eq-eqb, ne_eqb, ltb-true}
-use Rattle.protocol.specs.Word.{word_of, pushed_bytes}
-use Rattle.protocol.proofs.Words.{Bytes, none, more, word_same}
-use Rattle.protocol.proofs.Readings.{both}
-use Rattle.condorbed.specs.Requests.{Row, requests, found, same_bytes, asked_by, asked_by_word}
+use Rattle.std.proofs.Common.{◌≡◌, ℕ, zero, suc, ◌+◌, ◌<◌, Bool, true, false, ◌&&◌, eqb, ltb, List, [], ◌∷◌, ◌++◌, length, take, sym, refl, ap, ◌∙◌, arith, append_assoc, append-nil, length-append, ltb-true, lt-ltb, le-ltb, eqb-true}
+use mathlib.Core.Bool.{false≢true}
+use Rattle.std.specs.Str.{IsUtf8, IsAscii}
+use Rattle.std.proofs.lemmas.Str.{IsUtf8-from_ascii}
+use Rattle.std.proofs.lemmas.Str.Ascii.{IsAscii-nil, IsAscii-cons}
+use Rattle.protocol.specs.Inner.Word.{pushed_bytes, word_of}
+use Rattle.condorbed.specs.Requests.{Row, requests, found, same_bytes, asked_by}
 use Rattle.condorbed.specs.declared.requests.Asked.TheVariants.{Unknown}
 
--- The test of bytes finds equal tokens.
+-- A word of k bytes fewer than seven takes the next k bytes.
+pushed_take : (k : ℕ) (t w : List ℕ) → length w + k ≡ 7 → pushed_bytes w t ≡ w ++ take k t
+unfolding pushed_bytes
+pushed_take zero [] w e = sym (append-nil w)
+pushed_take (suc k) [] w e = sym (append-nil w)
+pushed_take zero (b ∷ t) w e = simp (le-ltb (length w) 7 (omega arith), pushed_take zero t w e)
+pushed_take (suc k) (b ∷ t) w e =
+    let long : length (w ++ (b ∷ [])) + k ≡ 7 = omega (arith, length-append w (b ∷ [])) in
+    simp (lt-ltb (length w) 7 (omega arith), pushed_take k t (w ++ (b ∷ [])) long, append_assoc)
+
+-- At a name that is shorter than seven bytes both tests say the same.
+same_take : (n : ℕ) (t u : List ℕ) → length u < n → same_bytes (take n t) u ≡ same_bytes t u
+unfolding same_bytes
+same_take zero t u h = absurd (omega (arith, h))
+same_take (suc n) [] u h = refl
+same_take (suc n) (x ∷ t) [] h = refl
+same_take (suc n) (x ∷ t) (y ∷ u) h = ap (λ (b : Bool). eqb x y && b) (same_take n t u (omega (arith, h)))
+
+all_short : List Row → Bool
+all_short [] = true
+all_short (r ∷ rs) = ltb (length r.name) 7 && all_short rs
+
+requests_short : all_short requests ≡ true
+unfolding all_short requests
+requests_short = refl
+
+both : (a b : Bool) → (a && b) ≡ true → (a ≡ true) × (b ≡ true)
+both true true h = (refl, refl)
+both true false h = absurd (false≢true h)
+both false b h = absurd (false≢true h)
+
+rows_same : (t : List ℕ) (rs : List Row) → all_short rs ≡ true → found (same_bytes (take 7 t)) rs ≡ found (same_bytes t) rs
+unfolding found all_short
+rows_same t [] h = refl
+rows_same t (r ∷ rs) h =
+    let parts = both (ltb (length r.name) 7) (all_short rs) h in
+    simp (same_take 7 t r.name (ltb-true (length r.name) 7 parts.0), rows_same t rs parts.1)
+
+-- The law.
+pub word_finds : (t : List ℕ) → asked_by (word_of t) ≡ asked_by t
+unfolding asked_by word_of
+word_finds t =
+    ap (λ (w : List ℕ). found (same_bytes w) requests) (pushed_take 7 t [] refl) ∙ rows_same t requests requests_short
+
+-- A word that is no row's name finds none.
 same_true : (t u : List ℕ) → same_bytes t u ≡ true → t ≡ u
 unfolding same_bytes
 same_true [] [] h = refl
@@ -23,68 +64,55 @@ same_true (x ∷ t) (y ∷ u) h =
     let first : x ≡ y = eqb-true x y parts.0 in
     let rest : t ≡ u = same_true t u parts.1 in cc
 
-same_self : (t : List ℕ) → same_bytes t t ≡ true
-unfolding same_bytes
-same_self [] = refl
-same_self (x ∷ t) = simp (eq-eqb x x refl, same_self t)
+differs : (t u : List ℕ) → (t ≡ u → ⊥) → (b : Bool) → same_bytes t u ≡ b → b ≡ false
+differs t u h true e = absurd (h (same_true t u e))
+differs t u h false e = refl
 
--- A name that is short enough for its number to tell its bytes.
-all_bytes : List ℕ → Bool
-all_bytes [] = true
-all_bytes (b ∷ bs) = ltb b 256 && all_bytes bs
+missed : (t : List ℕ) (r : Row) (rs : List Row) → (t ≡ r.name → ⊥) → Unknown ≡ found (same_bytes t) rs → Unknown ≡ found (same_bytes t) (r ∷ rs)
+unfolding found
+missed t r rs h later = simp (differs t r.name h (same_bytes t r.name) refl) later
 
-bytes_of : (t : List ℕ) → all_bytes t ≡ true → Bytes t
-unfolding all_bytes
-bytes_of [] h = none
-bytes_of (b ∷ bs) h =
-    let parts = both (ltb b 256) (all_bytes bs) h in more (ltb-true b 256 parts.0) (bytes_of bs parts.1)
-
-all_short : List Row → Bool
-all_short [] = true
-all_short (r ∷ rs) = (all_bytes r.name && ltb (word_of r.name) (2 ^ 56)) && all_short rs
-
-requests_short : all_short requests ≡ true
-unfolding all_short all_bytes requests word_of pushed_bytes
-requests_short = refl
-
--- At a short name both tests say the same of a token.
-module _ (t u : List ℕ) (bt : Bytes t) (bu : Bytes u) (short : word_of u < 2 ^ 56) where
-  tests_same : (a b : Bool) → eqb (word_of t) (word_of u) ≡ a → same_bytes t u ≡ b → a ≡ b
-  tests_same true true ha hb = refl
-  tests_same false false ha hb = refl
-  tests_same true false ha hb =
-      let same : t ≡ u = word_same t u bt bu short (eqb-true (word_of t) (word_of u) ha) in
-      sym (same_self t) ∙ ap (same_bytes t) same ∙ hb
-  tests_same false true ha hb =
-      let same : t ≡ u = same_true t u hb in
-      sym ha ∙ eq-eqb (word_of t) (word_of u) (ap word_of same)
-
-rows_same : (t : List ℕ) → Bytes t → (rs : List Row) → all_short rs ≡ true → found (λ name. eqb (word_of t) (word_of name)) rs ≡ found (same_bytes t) rs
-unfolding found all_short
-rows_same t bt [] h = refl
-rows_same t bt (r ∷ rs) h =
-    let parts = both (all_bytes r.name && ltb (word_of r.name) (2 ^ 56)) (all_short rs) h in
-    let row = both (all_bytes r.name) (ltb (word_of r.name) (2 ^ 56)) parts.0 in
-    let tests = tests_same t r.name bt (bytes_of r.name row.0) (ltb-true (word_of r.name) (2 ^ 56) row.1) _ _ refl refl in
-    simp (tests, rows_same t bt rs parts.1)
-
--- The law.
-pub word_finds : (t : List ℕ) → Bytes t → asked_by_word (word_of t) ≡ asked_by t
-unfolding asked_by_word asked_by
-word_finds t bt = rows_same t bt requests requests_short
-
--- That a word is the number of no row's name, told row by row as a `match` tells it of its arms; before them stands `told`.
-unfoldable pub NoneOf : ℕ → List Row → Type 0 → Type 0
+-- That a word is no row's name, told row by row as a `match` tells it of its arms; before them stands `told`.
+unfoldable pub NoneOf : List ℕ → List Row → Type 0 → Type 0
 NoneOf word [] told = told
-NoneOf word (r ∷ rs) told = NoneOf word rs (told × (word ≡ word_of r.name → ⊥))
+NoneOf word (r ∷ rs) told = NoneOf word rs (told × (word ≡ r.name → ⊥))
 
-none_found : (word : ℕ) (rs : List Row) {told : Type 0} → NoneOf word rs told → told × (Unknown ≡ found (λ name. eqb word (word_of name)) rs)
+none_found : (word : List ℕ) (rs : List Row) {told : Type 0} → NoneOf word rs told → told × (Unknown ≡ found (same_bytes word) rs)
 unfolding NoneOf found
 none_found word [] others = (others, refl)
 none_found word (r ∷ rs) others =
-    let later = none_found word rs others in
-    (later.0.0, simp (ne_eqb word (word_of r.name) later.0.1) later.1)
+    let later = none_found word rs others in (later.0.0, missed word r rs later.0.1 later.1)
 
-pub unknown : (word : ℕ) → NoneOf word requests (Unit {0}) → Unknown ≡ asked_by_word word
-unfolding asked_by_word
+pub unknown : (word : List ℕ) → NoneOf word requests (Unit {0}) → Unknown ≡ asked_by word
+unfolding asked_by
 unknown word others = (none_found word requests others).1
+
+-- Every row's name is ASCII, so that bytes that are no text find no row.
+all_ascii : List ℕ → Bool
+all_ascii [] = true
+all_ascii (b ∷ bs) = ltb b 128 && all_ascii bs
+
+ascii_text : (t : List ℕ) → all_ascii t ≡ true → IsAscii t
+unfolding all_ascii
+ascii_text [] h = IsAscii-nil
+ascii_text (b ∷ bs) h =
+    let parts = both (ltb b 128) (all_ascii bs) h in IsAscii-cons b bs (ltb-true b 128 parts.0) (ascii_text bs parts.1)
+
+all_text : List Row → Bool
+all_text [] = true
+all_text (r ∷ rs) = all_ascii r.name && all_text rs
+
+requests_text : all_text requests ≡ true
+unfolding all_text all_ascii requests
+requests_text = refl
+
+text_missed : (t : List ℕ) → (IsUtf8 t → ⊥) → (rs : List Row) → all_text rs ≡ true → Unknown ≡ found (same_bytes t) rs
+unfolding found all_text
+text_missed t h [] a = refl
+text_missed t h (r ∷ rs) a =
+    let parts = both (all_ascii r.name) (all_text rs) a in
+    missed t r rs (λ e. h (rw e (IsUtf8-from_ascii r.name (ascii_text r.name parts.0)))) (text_missed t h rs parts.1)
+
+pub no_text : (t : List ℕ) → (IsUtf8 t → ⊥) → Unknown ≡ asked_by t
+unfolding asked_by
+no_text t h = text_missed t h requests requests_text

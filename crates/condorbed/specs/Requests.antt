@@ -1,6 +1,5 @@
--- Which request a token names, and which a word's number: the protocol's table of requests. Assumes nothing.
+-- Which request a token names: the protocol's table of requests. Assumes nothing.
 use Rattle.std.specs.Prelude.{Bool, true, false, cond, ◌&&◌, List, [], ◌∷◌, ℕ, eqb}
-use Rattle.protocol.specs.Word.{word_of}
 use Rattle.condorbed.specs.declared.requests.Operation.{Operation}
 use Rattle.condorbed.specs.declared.requests.Operation.TheVariants.{Check, Filter, Priors, Orders, Phase, Flist, Nohap, Run, Arrive, Depart}
 use Rattle.condorbed.specs.declared.requests.Asked.{Asked}
@@ -55,7 +54,3 @@ same_bytes (x ∷ xs) (y ∷ ys) = eqb x y && same_bytes xs ys
 -- what a token asks for
 unfoldable pub asked_by : List ℕ → Asked
 asked_by token = found (same_bytes token) requests
-
--- the same by the number of the token's word
-unfoldable pub asked_by_word : ℕ → Asked
-asked_by_word word = found (λ name. eqb word (word_of name)) requests

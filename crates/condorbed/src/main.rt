@@ -10,21 +10,26 @@ mod flist;
 mod late;
 mod nohap;
 mod orders;
-mod parts;
 mod phase;
 mod priors;
+mod rates;
 mod requests;
 mod run;
 
-use protocol::{Sink, Source};
+use arrays::{BASES, WORDS};
+use protocol::input::Reader;
+use protocol::output::Writer;
 use std::io;
 
 fn main(rt: HostRuntime) -> io::Result<()> {
-    let mut input = Source::new(rt.stdin());
-    let mut output = Sink::new(rt.stdout());
-    let mut words = arrays::words();
-    let mut bases = arrays::bases();
-    requests::answer_all(&mut input, &mut output, &mut words, &mut bases);
-    input.finish()?;
+    let mut reader = Reader::new(rt.stdin());
+    let mut output = Writer::new(rt.stdout());
+    let mut words = [0; WORDS];
+    let mut bases = [0; BASES];
+    if let Err(found) = requests::answer_all(&mut reader, &mut output, &mut words, &mut bases) {
+        answers::unreadable(&mut output, found);
+        output.flush();
+    }
+    reader.finish()?;
     output.finish()
 }

@@ -1,40 +1,22 @@
 // `priors`: `<words i32>` `<bases u8>` six rates `[priors i64]`.
-use crate::answers::{done, refused, unreadable};
-use crate::arrays;
-use crate::parts::read_rates;
-use genotype_probs::Rates;
-use protocol::input::Reader;
-use protocol::{Sink, Source, input, output};
-use variants_and_fragments::Answered;
+use crate::answers::done_or_refused;
+use crate::arrays::{PAIRS, filled};
+use crate::rates::read_rates;
+use protocol::input::{Reader, Unreadable};
+use protocol::output::Writer;
 
-// The answer to the request once its case is read; the reader after it, which failed where the request is unreadable.
+// The answer to the request, whose case is read.
 pub fn answer(
-    input: &mut Source,
-    reader: Reader,
-    output: &mut Sink,
+    reader: &mut Reader,
+    output: &mut Writer,
     words: &[i32],
     bases: &[u8],
-) -> Reader {
-    let mut priors = arrays::priors();
-    let given = read_rates(input, reader);
-    let rates = given.rates;
-    let r1 = given.reader;
-    let front = input::read_front_i64(input, r1, &priors);
-    let p = front.length;
-    let after = front.reader;
-    if !after.ok {
-        return unreadable(output, after);
-    }
-    call(output, words, bases, rates, &mut priors[..p]);
-    after
-}
-
-// Calls the operation and prints its answer.
-fn call(output: &mut Sink, words: &[i32], bases: &[u8], rates: Rates, priors: &mut [i64]) {
-    let first = match genotype_probs::genotype_priors(words, bases, rates, priors) {
-        Answered::Done => done(output),
-        Answered::Refused(r) => refused(output, r),
-    };
-    let used = output::line_i64(output, first, priors);
-    output::flush(output, used);
+) -> Result<(), Unreadable> {
+    let mut priors = filled::<i64, PAIRS>();
+    let rates = read_rates(reader)?;
+    let priors = reader.front(&mut priors)?;
+    let answer = genotype_probs::genotype_priors(words, bases, rates, priors);
+    done_or_refused(output, answer);
+    output.line(priors);
+    Ok(())
 }

@@ -7,8 +7,7 @@ use Rattle.variants_and_fragments.specs.declared.Refusal.TheVariants.{Head, Vari
 use Rattle.variants_and_fragments.specs.Refusals.{Outcome, done, number, place, refusal, outcome_of}
 use Rattle.haplotype_assembly.specs.FlistBuffer.{Amount}
 use Rattle.with_haplotypes.specs.declared.RoundAnswer.{RoundAnswer}
-use Rattle.late_reads.specs.declared.Updated.{Updated}
-use Rattle.late_reads.specs.declared.Updated.TheVariants.{Unsettled, Refused}
+use Rattle.steps.specs.declared.LogProb.{LogProb}
 use Rattle.late_reads.specs.LateReads as late
 use Rattle.exports.specs.declared.answers.Answer.{Answer}
 use Rattle.exports.specs.Answers.{read_as, read_answer, read_check, read_flist, read_round, read_late, numbers_of, check_numbers, flist_numbers, round_numbers, late_numbers, Exported}
@@ -74,7 +73,7 @@ unfolding read_round round_numbers
 round_refused x = record { reads = reads_refusal x _; exact = refl }
 
 -- ---- of an arrival or a departure
-pub late_numbers_lem : (u : Updated) → Numbers read_late late_numbers (late.outcome_of u) (late_numbers (late.outcome_of u))
-unfolding read_late read_as late_numbers late.outcome_of
-late_numbers_lem (Unsettled total) = record { reads = refl; exact = refl }
-late_numbers_lem (Refused x) = record { reads = reads_refusal x _; exact = refl }
+pub late_numbers_lem : (u : Result LogProb Refusal) → Numbers read_late late_numbers (late.outcome_of u) (late_numbers (late.outcome_of u))
+unfolding read_late read_as late_numbers
+late_numbers_lem (Ok total) = record { reads = refl; exact = refl }
+late_numbers_lem (Err x) = record { reads = reads_refusal x _; exact = refl }

@@ -2,7 +2,7 @@
 ghost use Rattle.exports.specs.Promises.{GenerateFlistBuffer};
 
 use crate::answers::FlistAnswer;
-use haplotype_assembly::{Buffered, generate_flist_buffer};
+use haplotype_assembly::generate_flist_buffer;
 
 // `generate_flist_buffer`.
 #[unsafe(no_mangle)]
@@ -15,17 +15,16 @@ pub extern "C" fn condorbed_generate_flist_buffer(
     ensures { GenerateFlistBuffer words.now bases.now single_reads buffer.old result buffer.new }
 {
     match generate_flist_buffer(words, bases, single_reads, buffer) {
-        Buffered::Done { bytes, lines } => FlistAnswer {
+        Ok(written) => FlistAnswer {
             number: 0,
             place: 0,
-            bytes,
-            lines,
+            bytes: written.bytes,
+            lines: written.lines,
         },
-        Buffered::Refused(x) => FlistAnswer {
+        Err(x) => FlistAnswer {
             number: x.number(),
             place: x.place(),
-            bytes: 0,
-            lines: 0,
+            ..FlistAnswer::default()
         },
     }
 }

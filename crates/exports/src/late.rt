@@ -6,25 +6,25 @@ ghost use Rattle.exports.specs.Answers.{late_numbers};
 ghost use Rattle.exports.specs.Promises.{Arrives, Departs};
 
 use crate::answers::LateAnswer;
-use late_reads::{Updated, arrive, depart};
+use late_reads::{arrive, depart};
 use steps::LogProb;
+use variants_and_fragments::Refusal;
 
 // The numbers of an answer.
-fn late_answer(answer: Updated) -> LateAnswer
+fn late_answer(answer: Result<LogProb, Refusal>) -> LateAnswer
     ensures { result ≡ late_numbers (outcome_of answer) }
 {
     match answer {
-        Updated::Unsettled(total) => LateAnswer {
+        Ok(total) => LateAnswer {
             number: 0,
             place: 0,
             settled: false,
             total: total.0,
         },
-        Updated::Refused(x) => LateAnswer {
+        Err(x) => LateAnswer {
             number: x.number(),
             place: x.place(),
-            settled: false,
-            total: 0,
+            ..LateAnswer::default()
         },
     }
 }

@@ -6,7 +6,7 @@ ghost use Rattle.exports.specs.Promises.{CallGenotypesWithHaplotypes};
 
 use crate::answers::RoundAnswer;
 use crate::inputs::Rates;
-use with_haplotypes::{Round, call_genotypes_with_haplotypes};
+use with_haplotypes::call_genotypes_with_haplotypes;
 
 // `call_genotypes_with_haplotypes`.
 #[unsafe(no_mangle)]
@@ -40,7 +40,7 @@ pub extern "C" fn condorbed_call_genotypes_with_haplotypes(
         quals,
         gqs,
     ) {
-        Round::Done(r) => RoundAnswer {
+        Ok(r) => RoundAnswer {
             number: 0,
             place: 0,
             sweeps: r.sweeps,
@@ -49,14 +49,10 @@ pub extern "C" fn condorbed_call_genotypes_with_haplotypes(
             end: r.end.0,
             source: r.source.0,
         },
-        Round::Refused(x) => RoundAnswer {
+        Err(x) => RoundAnswer {
             number: x.number(),
             place: x.place(),
-            sweeps: 0,
-            settled: false,
-            start: 0,
-            end: 0,
-            source: 0,
+            ..RoundAnswer::default()
         },
     }
 }

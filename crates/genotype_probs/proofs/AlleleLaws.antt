@@ -64,9 +64,10 @@ allele_is : (w : List ℤ) (b : List ℕ) (v j : ℕ) → j < allele_count_at w 
 unfolding variant_from
 allele_is w b v j h = tabulate_at _ _ j [] h
 
-pub prior_is : (table : List ℤ) (w : List ℤ) (b : List ℕ) (v i j : ℕ) → 0 < allele_count_at w v → i < allele_count_at w v → j < allele_count_at w v → lookup table (allele_at w b v 0) (allele_at w b v i) (allele_at w b v j) ≡ table_prior table (variant_from w b v) i j
+pub prior_is : (table : List ℤ) (w : List ℤ) (b : List ℕ) (v i j : ℕ) (reference first second : List ℕ) → 0 < allele_count_at w v → i < allele_count_at w v → j < allele_count_at w v
+    → reference ≡ allele_at w b v 0 → first ≡ allele_at w b v i → second ≡ allele_at w b v j → lookup table reference first second ≡ table_prior table (variant_from w b v) i j
 unfolding table_prior
-prior_is table w b v i j h k l = rw (allele_is w b v 0 h, allele_is w b v i k, allele_is w b v j l)
+prior_is table w b v i j reference first second h k l p q r = rw (p, q, r, allele_is w b v 0 h, allele_is w b v i k, allele_is w b v j l)
 
 -- at most nine places
 pub nine : (k : ℕ) → k ≤ 3 → k * k ≤ 9

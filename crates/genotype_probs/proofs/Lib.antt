@@ -1,3 +1,4 @@
+pub mod Pairs
 pub mod NinePlaces
 pub mod Numbers
 pub mod Comparisons

@@ -1,9 +1,9 @@
 -- The numbers of bases and letters: A C G T are 0 to 3, D and I are 4 and 5, and each number gives its letter back.
 -- Assumes nothing.
-use mathlib.Core.Path.{◌≡◌, refl}
-use Prim.Native.Nat.{ℕ, zero, suc, ◌+◌, ◌%◌, ◌<◌}
+use mathlib.Core.Path.{◌≡◌, refl, sym, ap, ◌∙◌}
+use Prim.Native.Nat.{ℕ, zero, suc, ◌<◌}
 use native.Mathlib.Omega.{arith}
-use Rattle.genotype_probs.specs.Letters.{Base, A, C, G, T, Letter, base, D, I, base_number, letter_number, transition_of}
+use Rattle.genotype_probs.specs.Letters.{Base, A, C, G, T, Letter, base, D, I, base_number, letter_number}
 use Rattle.genotype_probs.specs.Inner.PriorTable.{numbered_base, numbered_letter}
 
 pub base_low : (b : Base) → base_number b < 4
@@ -35,13 +35,12 @@ letter_there (base T) = refl
 letter_there D = refl
 letter_there I = refl
 
-pub base_back : (n : ℕ) → n < 4 → base_number (numbered_base n) ≡ n
-unfolding base_number numbered_base
-base_back zero h = refl
-base_back (suc zero) h = refl
-base_back (suc (suc zero)) h = refl
-base_back (suc (suc (suc zero))) h = refl
-base_back (suc (suc (suc (suc n)))) h = absurd (omega arith)
+-- a number has one base, and one letter
+pub base_one : (a b : Base) → base_number a ≡ base_number b → a ≡ b
+base_one a b e = sym (base_there a) ∙ ap numbered_base e ∙ base_there b
+
+pub letter_one : (x y : Letter) → letter_number x ≡ letter_number y → x ≡ y
+letter_one x y e = sym (letter_there x) ∙ ap numbered_letter e ∙ letter_there y
 
 pub letter_back : (n : ℕ) → n < 6 → letter_number (numbered_letter n) ≡ n
 unfolding letter_number base_number numbered_letter
@@ -61,12 +60,3 @@ letter_is_base (suc zero) h = refl
 letter_is_base (suc (suc zero)) h = refl
 letter_is_base (suc (suc (suc zero))) h = refl
 letter_is_base (suc (suc (suc (suc n)))) h = absurd (omega arith)
-
--- the other base of a transition
-pub transition_number : (n : ℕ) → n < 4 → base_number (transition_of (numbered_base n)) ≡ (n + 2) % 4
-unfolding base_number transition_of numbered_base
-transition_number zero h = refl
-transition_number (suc zero) h = refl
-transition_number (suc (suc zero)) h = refl
-transition_number (suc (suc (suc zero))) h = refl
-transition_number (suc (suc (suc (suc n)))) h = absurd (omega arith)

@@ -99,4 +99,4 @@ module _ (rates : Rates) (good : RatesIn rates) where
   unfolding alleles_prior
   prior_down reference first second =
       let one = compared reference first (base_at reference 0) in
-      let two = compared reference second one.ref in letters_down two.ref one.letter two.letter
+      let two = compared reference second one.base in letters_down two.base one.letter two.letter

@@ -68,8 +68,8 @@ pub record Samples : Type 0 where
   -- A/A: the letters agree where the allele numbers differ
   pub same_letters : get_prior rates (variant (bases_A ∷ bases_A ∷ [])) 0 1 ≡ pos 0
   -- AC alone looks up C with C and A
-  pub alone_first : compared bases_AC bases_AC A ≡ record { ref = C; letter = base C }
-  pub alone_second : compared bases_AC bases_AC C ≡ record { ref = C; letter = base A }
+  pub alone_first : compared bases_AC bases_AC A ≡ record { base = C; letter = base C }
+  pub alone_second : compared bases_AC bases_AC C ≡ record { base = C; letter = base A }
 
 pub samples : Samples
 unfolding knots T addend larger difference add_exp sum_exp low first ln_one_minus_exp first_fail_from first_fail within rate_ok rate_sum rate_tests rate_test holds_below base_of base_number letter_number same_letter transition_of change finite one_minus_exp haploid homozygous diploid letters_prior first_letter stop_at compared alleles_prior get_prior rates log_prob variant bases_A bases_G bases_AC bases_AG bases_CA

@@ -1,6 +1,6 @@
 -- How small the first entry of a table at a place is, and a normalised table.
 -- Assumes nothing.
-use mathlib.Core.Path.{◌≡◌, refl}
+use mathlib.Core.Path.{◌≡◌, refl, ap, ◌∙◌}
 use mathlib.Core.Bool.{Bool, true, false, cond}
 use mathlib.Core.List.{List, [], ◌∷◌}
 use Prim.Native.Nat.{ℕ, zero, suc, ◌+◌, ◌*◌, ◌^◌, ◌≤◌, ◌<◌}
@@ -9,7 +9,12 @@ use borrow.Author.Tests.{ltb-true}
 use lib.Dec.{ltb}
 use lib.IntN.{ℤ, pos, nat_abs, ◌-ℤ◌}
 use lib.ListN.{length, get_or}
-use Rattle.steps.proofs.Signed.{minus_abs}
+use mir.Syntax.{w64}
+use mir.Val.{to_z, of_z}
+use Rattle.steps.specs.Logs.{steps}
+use Rattle.steps.specs.Inner.Logs.{log_of}
+use Rattle.steps.proofs.Marks.{of_small}
+use Rattle.steps.proofs.Signed.{minus_abs, read_small}
 use Rattle.steps.proofs.Sums.{sum_size}
 use Rattle.variants_and_fragments.specs.Decode.{tabulate_from, tabulate}
 use Rattle.genotype_probs.specs.Posteriors.{sum_of, entry_at, row_sum, table_sum, normalized}
@@ -19,6 +24,10 @@ use Rattle.genotype_probs.proofs.TableSums.{place_in}
 -- the first place is one of the k × k
 pub first_in : {tab : List ℤ} {k : ℕ} → TableIn tab k → 0 < k * k
 first_in {tab} {k} t = omega (arith, place_in 0 0 k t.k_low t.k_low)
+
+-- an entry as the machine reads it is no mark
+pub read_finite : (z : ℤ) → nat_abs z ≤ 2 ^ 40 → log_of (to_z w64 (of_z w64 z)) ≡ steps z
+read_finite z h = ap log_of (read_small w64 z (omega arith)) ∙ of_small z (omega arith)
 
 -- the first entry of a table at a place
 pub first_small : {post : List ℤ} {at k : ℕ} → TableAt post at k → (at < length post) × (nat_abs (get_or post at (pos 0)) ≤ 2 ^ 40)

@@ -1,14 +1,12 @@
 -- 01, section 3: the letters, and what one is beside a reference base. Assumes nothing.
 use Rattle.std.specs.Prelude.{Bool, cond, ℕ, eqb}
+pub use Rattle.genotype_probs.specs.declared.letters.Base.{Base}
+pub use Rattle.genotype_probs.specs.declared.letters.Base.TheVariants.{A, C, G, T}
+pub use Rattle.genotype_probs.specs.declared.letters.Letter.{Letter}
+pub use Rattle.genotype_probs.specs.declared.letters.Letter.TheVariants.{Base as base, D, I}
 
--- 01, section 2: the allele bytes are A, C, G, T
-pub data Base : Type 0 where
-  A C G T : Base
-
--- 01, section 3: a letter is a base, I (a longer allele) or D (a shorter one)
-pub data Letter : Type 0 where
-  base : Base → Letter
-  D I : Letter
+-- 01, section 2: the allele bytes are A, C, G, T. 01, section 3: a letter is a base, I (a longer allele) or D (a shorter one). Both are types of
+-- src/letters.rt, `Base` and `Letter`, which is `base` of a base, D or I
 
 -- the base of an allele byte; T is the only other one of a case
 unfoldable pub base_of : ℕ → Base

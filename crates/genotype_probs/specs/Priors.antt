@@ -6,6 +6,7 @@ use Rattle.steps.specs.OneMinus.{ln_one_minus_exp}
 use Rattle.variants_and_fragments.specs.Case.{Case, Variant, allele_count, allele_of, variant_of}
 use Rattle.variants_and_fragments.specs.First.{first_fail}
 use Rattle.genotype_probs.specs.declared.Rates.{Rates}
+use Rattle.genotype_probs.specs.declared.letters.Compared.{Compared}
 use Rattle.genotype_probs.specs.Rates.{hom_snv_rate, het_snv_rate, hom_indel_rate, het_indel_rate, ts_rate, tv_rate, rate_sum}
 use Rattle.genotype_probs.specs.Letters.{Base, Letter, base, D, I, base_of, same_letter, Change, same, transition, transversion, indel, change}
 
@@ -67,26 +68,22 @@ first_letter reference allele =
 unfoldable pub stop_at : List ℕ → List ℕ → ℕ
 stop_at reference allele = first_fail (λ i. eqb (get_or reference i 0) (get_or allele i 0)) (length allele - 1)
 
--- what a comparison leaves: the reference base, and the allele's letter
-pub record Comparison : Type 0 where
-  pub ref : Base
-  pub letter : Letter
-
--- 01, section 3: Where that base equals the current reference base, both letters are taken where the comparison stops
-unfoldable pub compared : List ℕ → List ℕ → Base → Comparison
+-- 01, section 3: Where that base equals the current reference base, both letters are taken where the comparison stops. What a comparison leaves is
+-- `Compared` of src/letters.rt, the reference base and the allele's letter
+unfoldable pub compared : List ℕ → List ℕ → Base → Compared
 compared reference allele current =
     let first = first_letter reference allele in
     let stop = stop_at reference allele in
     cond (same_letter first (base current))
-    (record { ref = base_at reference stop; letter = base (base_at allele stop) })
-    (record { ref = current; letter = first })
+    (record { base = base_at reference stop; letter = base (base_at allele stop) })
+    (record { base = current; letter = first })
 
 -- 01, section 3: The second allele starts from the reference base the first one left (odd): AC/AG read as (0,1) looks up C with C and A
 unfoldable pub alleles_prior : Rates → List ℕ → List ℕ → List ℕ → ℤ
 alleles_prior rates reference first second =
     let one = compared reference first (base_at reference 0) in
-    let two = compared reference second one.ref in
-    letters_prior rates two.ref one.letter two.letter
+    let two = compared reference second one.base in
+    letters_prior rates two.base one.letter two.letter
 
 -- `get_prior` of the genotype (i, j), beside the variant's reference, its allele 0
 unfoldable pub get_prior : Rates → Variant → ℕ → ℕ → ℤ

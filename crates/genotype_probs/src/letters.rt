@@ -1,45 +1,124 @@
-// The letters of a pair of alleles: A C G T D I are the numbers 0 to 5.
+// The letters of a pair of alleles, and the comparison of an allele with the reference.
 ghost use Rattle.std.specs.Prelude.{◌≡◌, ◌<◌, length};
-ghost use Rattle.genotype_probs.specs.Letters.{base_of, base_number, letter_number};
+ghost use Rattle.genotype_probs.specs.Letters.{base_of, base_number, letter_number, transition_of};
 ghost use Rattle.genotype_probs.specs.Priors.{first_letter, stop_at, compared};
-ghost use Rattle.genotype_probs.specs.Inner.PriorTable.{numbered_base, numbered};
+ghost use Rattle.genotype_probs.specs.Inner.PriorTable.{numbered_base, numbered_letter};
 
-pub const DELETION: usize = 4;
+// A base of an allele.
+#[derive(Clone, Copy, PartialEq, Eq, Debug)]
+pub enum Base {
+    A,
+    C,
+    G,
+    T,
+}
 
-pub const INSERTION: usize = 5;
+// What an allele is beside the reference: a base, or longer (I) or shorter (D).
+#[derive(Clone, Copy, PartialEq, Eq, Debug)]
+pub enum Letter {
+    Base(Base),
+    D,
+    I,
+}
 
 // What a comparison leaves: the reference base, and the allele's letter.
 #[derive(Clone, Copy)]
 pub struct Compared {
-    pub base: usize,
-    pub letter: usize,
+    pub base: Base,
+    pub letter: Letter,
 }
 
-// The letter of a base. Bases come in any order, so no jump is to be made of the tests.
-pub fn letter_of(byte: u8) -> usize
-    ensures { result ≡ base_number (base_of byte) }
-{
-    let g = if byte == 71 { 2 } else { 3 };
-    let c = if byte == 67 { 1 } else { g };
-    if byte == 65 { 0 } else { c }
+impl Base {
+    // Its number, in the order A C G T.
+    #[tactic(auto, using(crate::proofs::Numbers::base_low), unfolding(crate::specs::Letters::base_number))]
+    pub fn number(self) -> usize
+        ensures value { result ≡ base_number self }
+        ensures bound { result < 4 }
+    {
+        self as usize
+    }
+
+    // The base of a number.
+    #[tactic(auto, unfolding(crate::specs::Inner::PriorTable::numbered_base))]
+    pub fn numbered(n: usize) -> Self
+        ensures { result ≡ numbered_base n }
+    {
+        match n {
+            0 => Base::A,
+            1 => Base::C,
+            2 => Base::G,
+            _ => Base::T,
+        }
+    }
+
+    // The base of an allele byte. Bases come in any order, so no jump is to be made of the tests.
+    #[tactic(auto, unfolding(crate::specs::Letters::base_of))]
+    pub fn of(byte: u8) -> Self
+        ensures { result ≡ base_of byte }
+    {
+        let g = if byte == b'G' { Base::G } else { Base::T };
+        let c = if byte == b'C' { Base::C } else { g };
+        if byte == b'A' { Base::A } else { c }
+    }
+
+    // The other base of its transition.
+    #[tactic(auto, unfolding(crate::specs::Letters::transition_of))]
+    pub fn transition(self) -> Self
+        ensures { result ≡ transition_of self }
+    {
+        match self {
+            Base::A => Base::G,
+            Base::G => Base::A,
+            Base::C => Base::T,
+            Base::T => Base::C,
+        }
+    }
+}
+
+impl Letter {
+    // Its number, in the order A C G T D I.
+    #[tactic(auto, unfolding(crate::specs::Letters::letter_number))]
+    pub fn number(self) -> usize
+        ensures value { result ≡ letter_number self }
+        ensures bound { result < 6 }
+    {
+        match self {
+            Letter::Base(base) => base.number(),
+            Letter::D => 4,
+            Letter::I => 5,
+        }
+    }
+
+    // The letter of a number.
+    #[tactic(auto, using(crate::proofs::Numbers::letter_is_base), unfolding(crate::specs::Inner::PriorTable::numbered_letter))]
+    pub fn numbered(n: usize) -> Self
+        ensures { result ≡ numbered_letter n }
+    {
+        match n {
+            0..=3 => Letter::Base(Base::numbered(n)),
+            4 => Letter::D,
+            _ => Letter::I,
+        }
+    }
 }
 
 // The letter that an allele has before any comparison.
-pub fn first_letter(reference: &[u8], allele: &[u8]) -> usize
+#[tactic(auto, unfolding(crate::specs::Priors::first_letter))]
+pub fn first_letter(reference: &[u8], allele: &[u8]) -> Letter
     requires { 0 < length allele.now }
-    ensures { result ≡ letter_number (first_letter reference.now allele.now) }
+    ensures { result ≡ first_letter reference.now allele.now }
 {
     if allele.len() == reference.len() {
-        return letter_of(allele[0]);
+        return Letter::Base(Base::of(allele[0]));
     }
     if reference.len() < allele.len() {
-        return INSERTION;
+        return Letter::I;
     }
-    DELETION
+    Letter::D
 }
 
-// Where the comparison of an allele with a reference of its length stops: at the first base that differs, or at the last. At the loop's head
-// all bases before i agree.
+// Where the comparison of an allele with a reference of its length stops: at the first base that differs, or at the last. Document 01 asks for a
+// loop that yields its index by break, which a `for` cannot, so it counts i itself.
 pub fn stop_at(reference: &[u8], allele: &[u8]) -> usize
     requires { (0 < length allele.now) × (length allele.now ≡ length reference.now) }
     ensures { (result < length allele.now) × (result ≡ stop_at reference.now allele.now) }
@@ -58,20 +137,17 @@ pub fn stop_at(reference: &[u8], allele: &[u8]) -> usize
 }
 
 // The reference base and the allele's letter, from the current reference base.
-pub fn compare(reference: &[u8], allele: &[u8], base: usize) -> Compared
-    requires { (0 < length allele.now) × (base < 4) }
-    ensures { result ≡ numbered (compared reference.now allele.now (numbered_base base)) }
+pub fn compare(reference: &[u8], allele: &[u8], base: Base) -> Compared
+    requires { 0 < length allele.now }
+    ensures { result ≡ compared reference.now allele.now base }
 {
     let letter = first_letter(reference, allele);
-    if letter != base {
-        return Compared {
-            base: base,
-            letter: letter,
-        };
+    if letter != Letter::Base(base) {
+        return Compared { base, letter };
     }
     let i = stop_at(reference, allele);
     Compared {
-        base: letter_of(reference[i]),
-        letter: letter_of(allele[i]),
+        base: Base::of(reference[i]),
+        letter: Letter::Base(Base::of(allele[i])),
     }
 }

@@ -15,7 +15,7 @@ pub mod case_priors;
 mod letters;
 pub mod posteriors;
 mod priors;
-mod table;
+pub mod table;
 
 // The rates from which the priors are made.
 #[derive(Clone, Copy)]

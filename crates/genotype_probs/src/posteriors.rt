@@ -1,5 +1,5 @@
 // Tables of k × k log probabilities, row-major, each in nine places, and the qualities that they give.
-ghost use Rattle.std.specs.Prelude.{◌≡◌, ◌+◌, ◌*◌, ◌<◌, ◌≤◌, ◌^◌, nat_abs};
+ghost use Rattle.std.specs.Prelude.{◌≡◌, ◌+◌, ◌*◌, ◌<◌, ◌≤◌, ◌^◌, pos, nat_abs, length, get_or};
 ghost use Rattle.steps.specs.Inner.Logs.{log_of, size};
 ghost use Rattle.variants_and_fragments.specs.Decode.{tabulate};
 ghost use Rattle.genotype_probs.specs.Inner.Posteriors.{TableIn};
@@ -11,6 +11,17 @@ use steps::{LogProb, PHREDProb};
 // A pair of allele numbers.
 #[derive(Clone, Copy)]
 pub struct Genotype(pub u8, pub u8);
+
+impl Genotype {
+    // The genotype of row-major number p, of k alleles.
+    #[tactic(auto, unfolding(crate::specs::Posteriors::genotype_of))]
+    pub fn numbered(k: usize, p: usize) -> Self
+        requires { (1 ≤ k) × (k ≤ 3) × (p < k * k) }
+        ensures { result ≡ genotype_of k p }
+    {
+        Genotype((p / k) as u8, (p % k) as u8)
+    }
+}
 
 // A table of k × k entries, row-major, in nine places.
 #[derive(Clone, Copy)]
@@ -85,14 +96,14 @@ impl Table<'_> {
         requires { p < self.now.k * self.now.k }
         ensures { result ≡ genotype_of self.now.k p }
     {
-        Genotype((p / self.k) as u8, (p % self.k) as u8)
+        Genotype::numbered(self.k, p)
     }
 
-    // The quality of a variant: Phred of the entry of pair (0, 0), capped.
+    // The quality of its variant.
     pub fn qual(&self) -> PHREDProb
         ensures { result.0 ≡ qual_of self.now.post.now }
     {
-        capped_phred(LogProb(self.post[0]))
+        qual_of(self.post)
     }
 
     // ln_sum_exp over the pairs other than p and its mirror m.
@@ -117,6 +128,14 @@ impl Table<'_> {
     {
         capped_phred(self.other_sum(p))
     }
+}
+
+// The quality of a variant: Phred of the entry of pair (0, 0), capped.
+pub fn qual_of(post: &[i64]) -> PHREDProb
+    requires { (0 < length post.now) × (nat_abs (get_or post.now 0 (pos 0)) ≤ 2 ^ 40) }
+    ensures { result.0 ≡ qual_of post.now }
+{
+    capped_phred(LogProb(post[0]))
 }
 
 // q is neither the pair p nor its mirror m.

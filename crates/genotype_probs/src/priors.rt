@@ -4,9 +4,10 @@ ghost use Rattle.variants_and_fragments.specs.Layout.{allele_count_at};
 ghost use Rattle.variants_and_fragments.specs.Alleles.{alleles_start};
 ghost use Rattle.variants_and_fragments.specs.Decode.{allele_start, allele_at, tabulate, variant_from, decode};
 ghost use Rattle.variants_and_fragments.specs.Written.{written};
-ghost use Rattle.genotype_probs.specs.Priors.{get_prior, all_priors, prior_at};
+ghost use Rattle.genotype_probs.specs.Priors.{all_priors, prior_at};
+ghost use Rattle.genotype_probs.specs.Inner.PriorTable.{prior_table, lookup};
 
-use crate::letters::{compare, letter_of};
+use crate::letters::{Base, compare};
 use crate::table::PriorTable;
 use steps::LogProb;
 use variants_and_fragments::Case;
@@ -52,15 +53,14 @@ impl<'a> VariantAlleles<'a> {
     }
 }
 
-// The prior of the genotype (i, j). The second comparison starts from the reference base that the first one left.
-pub fn get_prior(table: &PriorTable, variant: &VariantAlleles<'_>, i: usize, j: usize) -> LogProb
-    requires { (i < allele_count_at variant.now.case.now.laid.words.now variant.now.v) × (j < allele_count_at variant.now.case.now.laid.words.now variant.now.v) }
-    ensures { result.0 ≡ get_prior table.now.rates.rates (variant_from variant.now.case.now.laid.words.now variant.now.case.now.bases.now variant.now.v) i j }
+// The prior of two alleles beside the reference. The second comparison starts from the reference base that the first one left.
+pub fn get_prior(table: &PriorTable, reference: &[u8], first: &[u8], second: &[u8]) -> LogProb
+    requires { (0 < length reference.now) × (0 < length first.now) × (0 < length second.now) }
+    ensures { result.0 ≡ lookup (prior_table table.now.rates.rates) reference.now first.now second.now }
 {
-    let reference = variant.allele(0);
-    let base = letter_of(reference[0]);
-    let one = compare(reference, variant.allele(i), base);
-    let two = compare(reference, variant.allele(j), one.base);
+    let base = Base::of(reference[0]);
+    let one = compare(reference, first, base);
+    let two = compare(reference, second, one.base);
     table.value(two.base, one.letter, two.letter)
 }
 
@@ -70,9 +70,11 @@ pub fn get_all_priors(table: &PriorTable, variant: &VariantAlleles<'_>, priors: 
     ensures { priors.new ≡ tabulate 9 (all_priors table.now.rates.rates (variant_from variant.now.case.now.laid.words.now variant.now.case.now.bases.now variant.now.v)) }
 {
     let k = variant.count();
+    let reference = variant.allele(0);
     for i in 0..k {
+        let first = variant.allele(i);
         for j in 0..k {
-            priors[i * k + j] = get_prior(table, variant, i, j).0;
+            priors[i * k + j] = get_prior(table, reference, first, variant.allele(j)).0;
         }
     }
     priors[k * k..9].fill(0);

@@ -1,11 +1,12 @@
 // The 4 by 36 table of priors that is made from accepted rates.
-ghost use Rattle.std.specs.Prelude.{◌≡◌, true, cond, ◌+◌, ◌%◌, ◌<◌, ◌≤◌, ◌^◌, eqb, pos, nat_abs, ◌+ℤ◌};
+ghost use Rattle.std.specs.Prelude.{◌≡◌, true, cond, ◌<◌, ◌≤◌, ◌^◌, eqb, pos, nat_abs, ◌+ℤ◌};
 ghost use Rattle.std.specs.Int.Signed.{lt_z};
 ghost use Rattle.genotype_probs.specs.Rates.{het_snv_rate, het_indel_rate, ts_rate, tv_rate, rate_sum};
+ghost use Rattle.genotype_probs.specs.Letters.{base_number, letter_number, transition_of, change};
 ghost use Rattle.genotype_probs.specs.Priors.{ln_half, ln_quarter, one_minus_exp};
-ghost use Rattle.genotype_probs.specs.Inner.PriorTable.{change_at, letter_value, table_entry, prior_table, table_value};
+ghost use Rattle.genotype_probs.specs.Inner.PriorTable.{letter_value, table_entry, prior_table, table_value};
 
-use crate::letters::DELETION;
+use crate::letters::{Base, Letter};
 use crate::{AcceptedRates, Rates};
 use steps::{LogProb, Prob};
 
@@ -17,18 +18,18 @@ fn one_minus_exp(p: LogProb) -> LogProb
     p.ln_one_minus_exp()
 }
 
-// The rate of a transition or of a transversion.
-fn change(rates: Rates, base: usize, letter: usize) -> LogProb
-    requires { base < 4 }
-    ensures { result.0 ≡ cond (eqb letter ((base + 2) % 4)) (ts_rate rates) (tv_rate rates) }
+// The rate of a transition or of a transversion, from one base to another.
+fn change(rates: Rates, base: Base, other: Base) -> LogProb
+    ensures { result.0 ≡ cond (eqb (base_number other) (base_number (transition_of base))) (ts_rate rates) (tv_rate rates) }
 {
-    if letter == (base + 2) % 4 {
+    if other == base.transition() {
         return rates.ts;
     }
     rates.tv
 }
 
 // ln(0.5)
+#[tactic(auto, using(steps::proofs::Probs::ln_half_lem))]
 pub fn ln_half() -> LogProb
     ensures { result.0 ≡ ln_half }
 {
@@ -36,6 +37,7 @@ pub fn ln_half() -> LogProb
 }
 
 // ln(0.25)
+#[tactic(auto, using(steps::proofs::Probs::ln_quarter_lem))]
 fn ln_quarter() -> LogProb
     ensures { result.0 ≡ ln_quarter }
 {
@@ -56,19 +58,21 @@ fn letter_value(
     same: LogProb,
     snv: LogProb,
     indel: LogProb,
-    base: usize,
-    letter: usize,
+    base: Base,
+    letter: Letter,
 ) -> LogProb
-    requires { (nat_abs snv.0 ≤ 262144) × (nat_abs indel.0 ≤ 262144) × (base < 4) }
-    ensures { result.0 ≡ letter_value rates.rates same.0 snv.0 indel.0 (change_at base letter) }
+    requires { (nat_abs snv.0 ≤ 262144) × (nat_abs indel.0 ≤ 262144) }
+    ensures { result.0 ≡ letter_value rates.rates same.0 snv.0 indel.0 (change base letter) }
 {
-    if DELETION <= letter {
-        return indel_value(indel);
+    match letter {
+        Letter::Base(other) => {
+            if other == base {
+                return same;
+            }
+            LogProb(snv.0 + change(rates.rates, base, other).0)
+        }
+        Letter::D | Letter::I => indel_value(indel),
     }
-    if letter == base {
-        return same;
-    }
-    LogProb(snv.0 + change(rates.rates, base, letter).0)
 }
 
 // Entry i of the table, where the haploid and the diploid value of the reference base are given.
@@ -79,14 +83,16 @@ fn table_entry(rates: AcceptedRates, haploid: LogProb, diploid: LogProb, i: usiz
     ensures { result.0 ≡ table_entry rates.rates i }
 {
     let six = rates.rates;
-    let base = i / 36;
+    let base = Base::numbered(i / 36);
     let x = i / 6 % 6;
     let y = i % 6;
+    let first = Letter::numbered(x);
     if x == y {
-        return letter_value(rates, diploid, six.hom_snv, six.hom_indel, base, x);
+        return letter_value(rates, diploid, six.hom_snv, six.hom_indel, base, first);
     }
-    let a = letter_value(rates, haploid, six.het_snv, six.het_indel, base, x);
-    let b = letter_value(rates, haploid, six.het_snv, six.het_indel, base, y);
+    let a = letter_value(rates, haploid, six.het_snv, six.het_indel, base, first);
+    let second = Letter::numbered(y);
+    let b = letter_value(rates, haploid, six.het_snv, six.het_indel, base, second);
     LogProb(a.0 + b.0)
 }
 
@@ -126,12 +132,13 @@ impl PriorTable {
     }
 
     // The prior of two letters at a reference base: −4096 where they differ.
-    pub fn value(&self, base: usize, first: usize, second: usize) -> LogProb
-        requires { (base < 4) × (first < 6) × (second < 6) }
-        ensures { result.0 ≡ table_value (prior_table self.now.rates.rates) base first second }
+    pub(crate) fn value(&self, base: Base, first: Letter, second: Letter) -> LogProb
+        ensures { result.0 ≡ table_value (prior_table self.now.rates.rates) (base_number base) (letter_number first) (letter_number second) }
     {
-        let entry = self.entries[36 * base + 6 * first + second];
-        if first == second {
+        let x = first.number();
+        let y = second.number();
+        let entry = self.entries[36 * base.number() + 6 * x + y];
+        if x == y {
             return LogProb(entry);
         }
         LogProb(entry + ln_half().0)

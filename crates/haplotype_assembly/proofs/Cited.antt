@@ -1,7 +1,7 @@
 -- What is cited of the laws of other crates, in one place.
 -- Assumes nothing.
 pub use Rattle.variants_and_fragments.proofs.First.{first_all}
-pub use Rattle.variants_and_fragments.proofs.Written.{written_on, written_length, written_at, written_past}
+pub use Rattle.variants_and_fragments.proofs.Written.{written_on, written_length, written_at}
 pub use Rattle.variants_and_fragments.proofs.Accepted.{case_in, bases_in}
 pub use Rattle.variants_and_fragments.proofs.Bounds.{down_abs}
 pub use Rattle.variants_and_fragments.proofs.Decoded.{tabulate_length, tabulate_at, variants_are, fragment_here, pos0_is, genotype0_is, genotype1_is, allele_count_is, allele_length, sizes_are}

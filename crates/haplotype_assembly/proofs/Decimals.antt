@@ -9,7 +9,7 @@ use native.Mathlib.Decide.{dec_lt}
 use borrow.Author.Tests.{lt-ltb, le-ltb}
 use lib.Dec.{ltb}
 use lib.ListN.{length, set, length-append}
-use lib.Seq.{sets, length-sets}
+use lib.Seq.{sets}
 use Rattle.haplotype_assembly.specs.Lines.{digit, decimal_from, decimal}
 use Rattle.haplotype_assembly.proofs.Stores.{sets_before}
 
@@ -53,40 +53,58 @@ decimal_top n = omega (arith, turns_top (suc n) n)
 pub decimal_some : (n : ℕ) → 1 ≤ length (decimal n)
 decimal_some n = elim (dec_lt n 10) [ yes h ↦ omega (arith, small_length n h) | no h ↦ omega (arith, large_length n (omega arith)) ]
 
--- ---- a number written from its end: the digits of m are left, i of them, and what comes after is stored
+-- ---- a number written from its end
+-- the last k digits of m
+unfoldable pub last_digits : ℕ → ℕ → List ℕ
+last_digits zero m = []
+last_digits (suc k) m = last_digits k (m / 10) ++ (digit (m % 10) ∷ [])
+
+all_digits : (turns n : ℕ) → last_digits (length (decimal_from turns n)) n ≡ decimal_from turns n
+unfolding decimal_from last_digits
+all_digits zero n = refl
+all_digits (suc turns) n = go (ltb n 10) (all_digits turns (n / 10))
+  where
+    last : List ℕ
+    last = digit (n % 10) ∷ []
+
+    go : (t : Bool) → last_digits (length (decimal_from turns (n / 10))) (n / 10) ≡ decimal_from turns (n / 10)
+        → last_digits (length (cond t [] (decimal_from turns (n / 10)) ++ last)) n ≡ cond t [] (decimal_from turns (n / 10)) ++ last
+    go true h = refl
+    go false h =
+        let e : length (decimal_from turns (n / 10) ++ last) ≡ suc (length (decimal_from turns (n / 10))) = omega (arith, length-append (decimal_from turns (n / 10)) last) in
+        rw (e, h)
+
+-- the digits before i are left, the last i - at of m, and those from i on are stored
 pub record Left (n at : ℕ) (before after : List ℕ) (i m : ℕ) : Type 0 where
+  pub from : at ≤ i
   pub rest : List ℕ
-  pub whole : decimal n ≡ decimal m ++ rest
-  pub left : i ≡ length (decimal m)
-  pub stored : after ≡ sets before (at + i) rest
+  pub whole : decimal n ≡ last_digits (i - at) m ++ rest
+  pub stored : after ≡ sets before i rest
 
-pub left_all : (n at : ℕ) (before : List ℕ) (i : ℕ) → i ≡ length (decimal n) → Left n at before before i n
-left_all n at before i e = record { rest = []; whole = sym (append-nil (decimal n)); left = e; stored = refl }
+pub left_all : (n at : ℕ) (before : List ℕ) (count : ℕ) → count ≡ length (decimal n) → Left n at before before (at + count) n
+unfolding decimal
+left_all n at before count e = record {
+  from = omega arith;
+  rest = [];
+  whole = let k : at + count - at ≡ length (decimal n) = omega (arith, e) in sym (append-nil _ ∙ ap (λ (x : ℕ). last_digits x n) k ∙ all_digits (suc n) n);
+  stored = refl;
+}
 
-module _ {n at : ℕ} {before after : List ℕ} {i m : ℕ} (l : Left n at before after i m) where
-  pub left_on : 10 ≤ m → Left n at before (set after (at + (i - 1)) (digit (m % 10))) (i - 1) (m / 10)
-  left_on h =
-      let e = large_length m h in
-      let j : at + i ≡ suc (at + (i - 1)) = omega (arith, l.left) in
-      record {
-        rest = digit (m % 10) ∷ l.rest;
-        whole = l.whole ∙ ap (λ (x : List ℕ). x ++ l.rest) (decimal_large m h) ∙ append_assoc (decimal (m / 10)) (digit (m % 10) ∷ []) l.rest;
-        left = omega (arith, l.left);
-        stored = ap (λ (x : List ℕ). set x (at + (i - 1)) (digit (m % 10))) (l.stored ∙ ap (λ (x : ℕ). sets before x l.rest) j) ∙ sets_before before (at + (i - 1)) (digit (m % 10)) l.rest;
-      }
+pub left_on : {n at : ℕ} {before after : List ℕ} {i m : ℕ} → Left n at before after i m → at < i → Left n at before (set after (i - 1) (digit (m % 10))) (i - 1) (m / 10)
+unfolding last_digits
+left_on {n} {at} {before} {after} {i} {m} l h =
+    let k : i - at ≡ suc (i - 1 - at) = omega arith in
+    let j : i ≡ suc (i - 1) = omega arith in
+    record {
+      from = omega arith;
+      rest = digit (m % 10) ∷ l.rest;
+      whole = l.whole ∙ ap (λ (x : ℕ). last_digits x m ++ l.rest) k ∙ append_assoc (last_digits (i - 1 - at) (m / 10)) (digit (m % 10) ∷ []) l.rest;
+      stored = ap (λ (x : List ℕ). set x (i - 1) (digit (m % 10))) (l.stored ∙ ap (λ (x : ℕ). sets before x l.rest) j) ∙ sets_before before (i - 1) (digit (m % 10)) l.rest;
+    }
 
-  pub left_end : m < 10 → set after at (digit m) ≡ sets before at (decimal n)
-  left_end h =
-      let j : at + i ≡ suc at = omega (arith, l.left, small_length m h) in
-      ap (λ (x : List ℕ). set x at (digit m)) (l.stored ∙ ap (λ (x : ℕ). sets before x l.rest) j)
-      ∙ sets_before before at (digit m) l.rest
-      ∙ ap (λ (x : List ℕ). sets before at x) (sym (l.whole ∙ ap (λ (x : List ℕ). x ++ l.rest) (decimal_small m h)))
-
-  pub left_length : length after ≡ length before
-  left_length = ap length l.stored ∙ length-sets before (at + i) l.rest
-
-  pub left_top : i ≤ length (decimal n)
-  left_top = omega (arith, l.left, simp length-append at (ap length l.whole))
-
-  pub left_some : 1 ≤ i
-  left_some = omega (arith, l.left, decimal_some m)
+pub left_end : {n at : ℕ} {before after : List ℕ} {i m : ℕ} → Left n at before after i m → i ≤ at → after ≡ sets before at (decimal n)
+unfolding last_digits
+left_end {n} {at} {before} {after} {i} {m} l h =
+    let k : i - at ≡ 0 = omega arith in
+    let e : i ≡ at = omega (arith, l.from) in
+    l.stored ∙ rw e (ap (λ (x : List ℕ). sets before at x) (sym (l.whole ∙ ap (λ (x : ℕ). last_digits x m ++ l.rest) k)))

@@ -1,5 +1,4 @@
 pub mod Cited
-pub mod Ranges
 pub mod Pairs
 pub mod Names
 pub mod Decodes

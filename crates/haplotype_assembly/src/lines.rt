@@ -17,6 +17,7 @@ use variants_and_fragments::layout::direction_of;
 // ---- the alleles
 
 // Opens a block at variant v where v does not go on with the one before.
+#[tactic(auto, using(crate::proofs::Pieces::new_length))]
 pub fn open_block(next: usize, v: usize, buffer: &mut [u8], at: usize) -> usize
     requires { (v < 1024) × (at + length (block_start next v) ≤ length buffer.old) }
     ensures { Put buffer.old buffer.new at result (block_start next v) }
@@ -58,6 +59,7 @@ pub fn write_alleles(shown: ShownCalls<'_>, mut next: usize, buffer: &mut [u8], 
 // ---- the qualities
 
 // The quality byte of a call.
+#[tactic(auto, using(crate::proofs::Qualities::quality_log, crate::proofs::Qualities::quality_small), unfolding(crate::specs::Lines::call_quality))]
 pub fn quality_of(row: Row) -> u8
     requires { DownTo 262144 row.qual.0 }
     ensures { result ≡ call_quality (call_of row) }
@@ -90,6 +92,7 @@ pub struct Head {
 }
 
 // The byte of a strand: '+' where it is a reverse one.
+#[tactic(auto, unfolding(crate::specs::Lines::strand_byte))]
 pub fn strand_byte(strand: usize) -> u8
     ensures { result ≡ strand_byte strand }
 {
@@ -101,6 +104,7 @@ pub fn strand_byte(strand: usize) -> u8
 }
 
 // Writes the number of blocks, the id and the strand.
+#[tactic(auto, using(crate::proofs::Pieces::header_length))]
 pub fn write_header(head: Head, buffer: &mut [u8], at: usize) -> usize
     requires { at + length (header_of head) ≤ length buffer.old }
     ensures { Put buffer.old buffer.new at result (header_of head) }

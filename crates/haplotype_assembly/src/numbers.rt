@@ -4,6 +4,7 @@ ghost use Rattle.haplotype_assembly.specs.Lines.{decimal};
 ghost use Rattle.haplotype_assembly.specs.Inner.LinesRead.{Put};
 
 // How many digits n has. At the loop's head k - 1 are counted, and those of m are left.
+#[tactic(auto, using(crate::proofs::Decimals::large_length, crate::proofs::Decimals::small_length))]
 pub fn digit_count(n: usize) -> usize
     ensures { result ≡ length (decimal n) }
 {
@@ -16,19 +17,16 @@ pub fn digit_count(n: usize) -> usize
     k
 }
 
-// Writes n at `at`, and returns the place after it. At the loop's head the digits after the first i are written, and those of m are left.
+// Writes n at `at`, from its last digit on, and returns the place after it. At the loop's head the digits of m are left.
 pub fn write_number(buffer: &mut [u8], at: usize, n: usize) -> usize
     requires { at + length (decimal n) ≤ length buffer.old }
     ensures { Put buffer.old buffer.new at result (decimal n) }
 {
-    let count = digit_count(n);
-    let mut i = count;
+    let end = at + digit_count(n);
     let mut m = n;
-    while 10 <= m {
-        i -= 1;
-        buffer[at + i] = 48 + (m % 10) as u8;
+    for i in (at..end).rev() {
+        buffer[i] = b'0' + (m % 10) as u8;
         m /= 10;
     }
-    buffer[at] = 48 + m as u8;
-    at + count
+    end
 }

@@ -28,6 +28,7 @@ pub fn ordered(byte: u8, a: u8, b: u8) -> (u8, u8)
 }
 
 // The phased rule without the byte.
+#[tactic(auto, unfolding(crate::specs::Inner::PhaseRead::rule_at, crate::specs::Phase::phased_test))]
 pub fn phased_rule(case: &Case<'_>, v: usize) -> bool
     requires { v < case.now.laid.sizes.n }
     ensures { result ≡ rule_at case.now.laid.words.now v }
@@ -41,6 +42,7 @@ pub fn phased_rule(case: &Case<'_>, v: usize) -> bool
 }
 
 // Variant v is phased.
+#[tactic(auto, unfolding(crate::specs::Inner::PhaseRead::phased_at))]
 pub fn is_phased(case: &Case<'_>, phase: &[u8], v: usize) -> bool
     requires { (v < case.now.laid.sizes.n) × (v < length phase.now) }
     ensures { result ≡ phased_at case.now.laid.words.now phase.now v }
@@ -160,7 +162,8 @@ impl PhasedCase<'_> {
         least
     }
 
-    // Variant v's name, where `least` holds those of all sets; 0 for none.
+    // Variant v's name, where `least` holds those of all sets; 0 for none, as the slice of names has it.
+    #[tactic(auto, using(crate::proofs::Names::unnamed, crate::proofs::Names::no_set, crate::proofs::Names::its_name))]
     fn name(&self, least: &[Option<u32>], v: usize) -> u32
         requires in_case { v < self.now.case.laid.sizes.n }
         requires named_to { NamedTo self.now.case.laid.words.now self.now.sets.now self.now.case.laid.sizes.n self.now.case.laid.sizes.n least.now }

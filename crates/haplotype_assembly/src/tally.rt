@@ -18,6 +18,7 @@ pub struct Tally {
 
 impl Tally {
     // The same with a call at v.
+    #[tactic(auto, using(crate::proofs::Decimals::decimal_top))]
     pub fn with_call(self, v: usize) -> Tally
         requires { (v < 1024) × SmallTally self 16384 }
         ensures { result ≡ tally_step self v }
@@ -43,6 +44,7 @@ impl Tally {
     }
 
     // How many bytes the line with this tally and id has.
+    #[tactic(auto, using(crate::proofs::Decimals::decimal_top))]
     pub fn line_bytes(self, id: usize) -> usize
         requires { SmallTally self 16384 × (id ≤ 4096) }
         ensures { result ≡ length (decimal self.blocks) + length (decimal id) + (self.bytes + self.calls + 5) }
@@ -70,6 +72,7 @@ impl Flist<'_> {
     }
 
     // A fragment with this many shown calls has a line.
+    #[tactic(auto, unfolding(crate::specs::Lines::has_line))]
     pub fn has_line(&self, calls: usize) -> bool
         ensures { result ≡ has_line self.now.single calls }
     {

@@ -1,19 +1,22 @@
 -- A loop over a read's calls: what holds at its head, and what a turn does. Whether the calls fit, the rest decides; where they are counted, with
 -- the rest all are. Counting a call leaves the counts of later variants as they were lent, so that the next one may be counted.
 -- Assumes nothing.
-use mathlib.Core.Path.{◌≡◌, ap, ◌∙◌}
+use mathlib.Core.Path.{◌≡◌}
 use mathlib.Core.Bool.{Bool, true, false}
 use mathlib.Core.List.{List, [], ◌∷◌}
 use Prim.Native.Nat.{ℕ, suc, ◌+◌, ◌*◌, ◌/◌, ◌≤◌, ◌<◌}
 use native.Mathlib.Omega.{arith}
 use borrow.Author.Tests.{ne_eqb}
-use lib.IntN.{ℤ, pos, negsuc, nat_abs, +ℤ_idr}
+use lib.IntN.{ℤ, pos, +ℤ_idr}
 use lib.ListN.{length, get_or}
 use Rattle.variants_and_fragments.specs.Case.{Fragment, Call}
 use Rattle.variants_and_fragments.specs.Inner.Accepted.{allb}
 use Rattle.variants_and_fragments.proofs.First.{all_below}
-use Rattle.late_reads.specs.Inner.Counting.{count_call, call_fits, Countable, counted_call, count_calls, counts_arrived, counts_departed, counts_fit}
-use Rattle.late_reads.proofs.Counting.{Rising, more, ranged, all_counted, all_fit, arrived_is, departed_is}
+use Rattle.pileup.specs.declared.reader.Call.{Call as CallHeld}
+use Rattle.pileup.specs.Inner.Packed.{call_read}
+use Rattle.late_reads.specs.declared.counts.CountedCall.{CountedCall}
+use Rattle.late_reads.specs.Inner.Counting.{count_call, call_fits, Countable, counted_call, CountedIs, Rising, more, count_calls, counts_after, counts_fit, CountsLent}
+use Rattle.late_reads.proofs.Counting.{ranged, all_counted, all_fit}
 use Rattle.late_reads.proofs.Places.{count_length, count_at}
 
 -- calls are left: their variants rise from `low` on, and the counts from there on are in range
@@ -23,8 +26,8 @@ pub record CallsLeft (n : ℕ) (calls : List Call) (counts : List ℤ) : Type 0 
   pub long : 10 * n ≤ length counts
   pub in_range : (e : ℕ) → 10 * low ≤ e → e < 10 * n → ranged (get_or counts e (pos 0)) ≡ true
 
-left_start : {n : ℕ} {calls : List Call} (counts : List ℤ) → Rising n 0 calls → 10 * n ≤ length counts → counts_fit n counts ≡ true → CallsLeft n calls counts
-left_start {n} counts r long lent = record { low = 0; rises = r; long = long; in_range = λ e l m. all_below _ (10 * n) lent e m }
+left_start : {n : ℕ} {calls : List Call} {counts : List ℤ} {d : ℤ} → Rising n 0 calls → CountsLent n counts d → CallsLeft n calls counts
+left_start {n} r lent = record { low = 0; rises = r; long = lent.long; in_range = λ e l m. all_below _ (10 * n) lent.ranged e m }
 
 record FirstIn (n b : ℕ) (call : Call) (calls : List Call) : Type 0 where
   above : b ≤ call.variant
@@ -37,8 +40,8 @@ first_in (more lo hi three r) = record { above = lo; variant_in = hi; allele_in 
 
 module _ {n : ℕ} {call : Call} {calls : List Call} {counts : List ℤ} (i : CallsLeft n (call ∷ calls) counts) (cutoff : ℤ) (x : Fragment) where
   -- the next one may be counted
-  left_countable : {d : ℤ} → nat_abs d ≤ 1 → n ≤ 1024 → Countable counts d (counted_call cutoff x call)
-  left_countable one top =
+  left_countable : {lent : List ℤ} {d : ℤ} → CountsLent n lent d → n ≤ 1024 → Countable counts d (counted_call cutoff x call)
+  left_countable h top =
       let f = first_in i.rises in
       let a = f.above in
       let b = f.variant_in in
@@ -46,7 +49,7 @@ module _ {n : ℕ} {call : Call} {calls : List Call} {counts : List ℤ} (i : Ca
       record {
         variant_in = omega arith;
         allele_in = f.allele_in;
-        each_in = λ j h. record { there = omega arith; ranged = i.in_range (10 * call.variant + j) (omega arith) (omega arith); one = one };
+        each_in = λ j m. record { there = omega arith; ranged = i.in_range (10 * call.variant + j) (omega arith) (omega arith); one = h.one };
       }
 
   -- and those after it are then left
@@ -81,49 +84,44 @@ pub record Adding (d cutoff : ℤ) (x : Fragment) (n : ℕ) (calls : List Call) 
   pub same : count_calls d cutoff x calls counts ≡ after
 
 -- at the start all are left
-module _ (cutoff : ℤ) (x : Fragment) {n : ℕ} (r : Rising n 0 x.calls) {left : List Call} (e : x.calls ≡ left) (counts : List ℤ) (lent : counts_fit n counts ≡ true) (long : 10 * n ≤ length counts) where
-  all_left : CallsLeft n left counts
-  all_left = rw e at (left_start counts r long lent)
+module _ (cutoff : ℤ) (x : Fragment) {n : ℕ} {counts : List ℤ} {d : ℤ} (r : Rising n 0 x.calls) (lent : CountsLent n counts d) where
+  pub fit_start : Fitting d cutoff x n counts x.calls (counts_fit n (counts_after d cutoff x n counts))
+  fit_start = record { left = left_start r lent; decides = all_fit d cutoff x r counts lent.long lent.ranged }
 
-  pub arriving_fit_start : Fitting (pos 1) cutoff x n counts left (counts_fit n (counts_arrived cutoff n x counts))
-  arriving_fit_start = record { left = all_left; decides = rw (← e) (all_fit (pos 1) cutoff x r counts long lent ∙ ap (counts_fit n) (arrived_is cutoff x n counts)) }
+  pub add_start : Adding d cutoff x n x.calls counts (counts_after d cutoff x n counts)
+  add_start = record { left = left_start r lent; same = all_counted d cutoff x r counts lent.long }
 
-  pub departing_fit_start : Fitting (negsuc 0) cutoff x n counts left (counts_fit n (counts_departed cutoff n x counts))
-  departing_fit_start = record { left = all_left; decides = rw (← e) (all_fit (negsuc 0) cutoff x r counts long lent ∙ ap (counts_fit n) (departed_is cutoff x n counts)) }
+-- a call as the code sees it
+pub counted_so : {q : ℤ} {strand : ℕ} {held : CallHeld} {counted : CountedCall} (cutoff : ℤ) (x : Fragment) → CountedIs q strand held counted → q ≡ cutoff → x.strand ≡ strand → counted ≡ counted_call cutoff x (call_read held)
+counted_so cutoff x c e z = rw (← e) (c.is x z)
 
-  pub arriving_start : Adding (pos 1) cutoff x n left counts (counts_arrived cutoff n x counts)
-  arriving_start = record { left = all_left; same = rw (← e) (all_counted (pos 1) cutoff x r counts long ∙ arrived_is cutoff x n counts) }
-
-  pub departing_start : Adding (negsuc 0) cutoff x n left counts (counts_departed cutoff n x counts)
-  departing_start = record { left = all_left; same = rw (← e) (all_counted (negsuc 0) cutoff x r counts long ∙ departed_is cutoff x n counts) }
-
-module _ {d cutoff : ℤ} {x : Fragment} {n : ℕ} {counts : List ℤ} {left : List Call} {answer : Bool} (i : Fitting d cutoff x n counts left answer) where
-  pub fit_end : left ≡ [] → true ≡ answer
+module _ {d cutoff : ℤ} {x : Fragment} {n : ℕ} {counts : List ℤ} {answer : Bool} where
+  pub fit_end : Fitting d cutoff x n counts [] answer → true ≡ answer
   unfolding allb
-  fit_end e = rw e at i.decides
+  fit_end i = i.decides
 
   -- a call more
-  module _ {call : Call} {calls : List Call} (e : left ≡ call ∷ calls) where
-    pub fit_countable : nat_abs d ≤ 1 → n ≤ 1024 → Countable counts d (counted_call cutoff x call)
-    fit_countable = left_countable (rw e at i.left) cutoff x
+  module _ {call : Call} {calls : List Call} (i : Fitting d cutoff x n counts (call ∷ calls) answer) {counted : CountedCall} (e : counted ≡ counted_call cutoff x call) where
+    pub fit_countable : {lent : List ℤ} → CountsLent n lent d → n ≤ 1024 → Countable counts d counted
+    fit_countable lent top = rw e (left_countable i.left cutoff x lent top)
 
-    pub fit_stop : call_fits d x.strand (counted_call cutoff x call) counts ≡ false → false ≡ answer
+    pub fit_stop : call_fits d x.strand counted counts ≡ false → false ≡ answer
     unfolding allb
-    fit_stop h = rw h at (rw e at i.decides)
+    fit_stop h = rw (rw e at h) at i.decides
 
-    pub fit_on : call_fits d x.strand (counted_call cutoff x call) counts ≡ true → Fitting d cutoff x n counts calls answer
+    pub fit_on : call_fits d x.strand counted counts ≡ true → Fitting d cutoff x n counts calls answer
     unfolding allb
-    fit_on h = record { left = left_next (rw e at i.left) cutoff x; decides = rw h at (rw e at i.decides) }
+    fit_on h = record { left = left_next i.left cutoff x; decides = rw (rw e at h) at i.decides }
 
-module _ {d cutoff : ℤ} {x : Fragment} {n : ℕ} {left : List Call} {counts after : List ℤ} (i : Adding d cutoff x n left counts after) where
-  pub add_end : left ≡ [] → counts ≡ after
+module _ {d cutoff : ℤ} {x : Fragment} {n : ℕ} {counts after : List ℤ} where
+  pub add_end : Adding d cutoff x n [] counts after → counts ≡ after
   unfolding count_calls
-  add_end e = rw e at i.same
+  add_end i = i.same
 
-  module _ {call : Call} {calls : List Call} (e : left ≡ call ∷ calls) where
-    pub add_countable : {c : ℤ} → nat_abs c ≤ 1 → n ≤ 1024 → Countable counts c (counted_call cutoff x call)
-    add_countable = left_countable (rw e at i.left) cutoff x
+  module _ {call : Call} {calls : List Call} (i : Adding d cutoff x n (call ∷ calls) counts after) {counted : CountedCall} (e : counted ≡ counted_call cutoff x call) where
+    pub add_countable : {lent : List ℤ} → CountsLent n lent d → n ≤ 1024 → Countable counts d counted
+    add_countable lent top = rw e (left_countable i.left cutoff x lent top)
 
-    pub add_on : (put : List ℤ) → put ≡ count_call d x.strand (counted_call cutoff x call) counts → Adding d cutoff x n calls put after
+    pub add_on : (put : List ℤ) → put ≡ count_call d x.strand counted counts → Adding d cutoff x n calls put after
     unfolding count_calls
-    add_on put q = rw q (record { left = left_counted (rw e at i.left) cutoff x d; same = rw e at i.same })
+    add_on put q = rw (q, e) (record { left = left_counted i.left cutoff x d; same = i.same })

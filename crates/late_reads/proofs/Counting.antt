@@ -17,25 +17,14 @@ use Rattle.variants_and_fragments.specs.Case.{Fragment, Call}
 use Rattle.variants_and_fragments.specs.First.{holds_below}
 use Rattle.variants_and_fragments.specs.Pileup.{only}
 use Rattle.variants_and_fragments.specs.Words.{within}
-use Rattle.variants_and_fragments.specs.Written.{written}
 use Rattle.variants_and_fragments.specs.Inner.Accepted.{allb}
 use Rattle.variants_and_fragments.proofs.Bools.{both}
 use Rattle.variants_and_fragments.proofs.First.{first_end, all_below, below_all}
 use Rattle.variants_and_fragments.proofs.Only.{only_in, only_out, only_none}
 use Rattle.variants_and_fragments.proofs.Written.{written_length, written_at, written_past, written_same}
 use Rattle.late_reads.specs.Values.{max_count, counted, read_count}
-use Rattle.late_reads.specs.Inner.Counting.{count_call, call_fits, counted_call, count_calls, counts_arrived, counts_departed, counts_fit}
+use Rattle.late_reads.specs.Inner.Counting.{count_call, call_fits, counted_call, Rising, none, more, count_calls, times, counts_after, counts_arrived, counts_departed, counts_fit}
 use Rattle.late_reads.proofs.Places.{counts_at, count_length, count_at, fit_at, at_fit}
-
--- variants below n that rise strictly, from b on, and alleles below 3
-pub data Rising (n : ℕ) : ℕ → List Call → Type 0 where
-  none : {b : ℕ} → Rising n b []
-  more : {b : ℕ} {call : Call} {calls : List Call} → b ≤ call.variant → call.variant < n → call.allele < 3 → Rising n (suc call.variant) calls → Rising n b (call ∷ calls)
-
--- n times d
-pub times : ℤ → ℕ → ℤ
-times d zero = pos 0
-times d (suc n) = d +ℤ times d n
 
 times_one : (n : ℕ) → times (pos 1) n ≡ pos n
 unfolding times
@@ -94,11 +83,8 @@ module _ (d cutoff : ℤ) (x : Fragment) where
       (λ t. rw (t, only_out (counts_at cutoff x e) call calls t, +ℤ_idr)))
 
   -- ---- of all its calls
-  abbrev counts_after : ℕ → List ℤ → List ℤ
-  counts_after n counts = written (λ e. get_or counts e (pos 0) +ℤ times d (read_count cutoff x e)) (10 * n) counts
-
   module _ {n : ℕ} (r : Rising n 0 x.calls) (counts : List ℤ) (long : 10 * n ≤ length counts) where
-    pub all_counted : count_calls d cutoff x x.calls counts ≡ counts_after n counts
+    pub all_counted : count_calls d cutoff x x.calls counts ≡ counts_after d cutoff x n counts
     unfolding read_count times
     all_counted =
         let g : ℕ → ℤ = λ e. get_or counts e (pos 0) +ℤ times d (read_count cutoff x e) in
@@ -139,13 +125,13 @@ module _ (d cutoff : ℤ) (x : Fragment) where
 
   -- the counts afterwards are in range just where each call fits the counts as lent
   module _ {n : ℕ} (r : Rising n 0 x.calls) (counts : List ℤ) (long : 10 * n ≤ length counts) (lent : counts_fit n counts ≡ true) where
-    pub all_fit : allb (fits counts) x.calls ≡ counts_fit n (counts_after n counts)
+    pub all_fit : allb (fits counts) x.calls ≡ counts_fit n (counts_after d cutoff x n counts)
     unfolding read_count
     all_fit =
         let g : ℕ → ℤ = λ e. get_or counts e (pos 0) +ℤ times d (read_count cutoff x e) in
-        let p : ℕ → Bool = λ e. ranged (get_or (counts_after n counts) e (pos 0)) in
+        let p : ℕ → Bool = λ e. ranged (get_or (counts_after d cutoff x n counts) e (pos 0)) in
         let k = all_below (λ e. ranged (get_or counts e (pos 0))) (10 * n) lent in
-        let is : (e : ℕ) → e < 10 * n → get_or (counts_after n counts) e (pos 0) ≡ g e = written_at g (10 * n) counts (pos 0) long in
+        let is : (e : ℕ) → e < 10 * n → get_or (counts_after d cutoff x n counts) e (pos 0) ≡ g e = written_at g (10 * n) counts (pos 0) long in
         agree _ _
         (λ t. holds_below_lem p (10 * n) (λ e l. rw (is e l) (fit_ranged counts r t e (k e l))))
         (λ t. ranged_fit counts r k (λ e l. rw (is e l) at (all_below p (10 * n) t e l)))

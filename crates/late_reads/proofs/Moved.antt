@@ -1,11 +1,12 @@
 -- A number times 1 or −1: no larger, itself, or its negative. Assumes nothing.
-use mathlib.Core.Path.{◌≡◌, ap}
+use mathlib.Core.Path.{◌≡◌, ap, ◌∙◌}
 use Prim.Native.Nat.{ℕ, zero, suc, ◌^◌, ◌≤◌}
 use native.Mathlib.Nat.{one-mul}
 use native.Mathlib.Omega.{arith}
-use lib.IntN.{ℤ, pos, negsuc, neg_ℤ, nat_abs, ◌+ℤ◌, ◌*ℤ◌}
+use lib.IntN.{ℤ, pos, negsuc, neg_ℤ, nat_abs, ◌+ℤ◌, ◌-ℤ◌, ◌*ℤ◌}
 use mir.Syntax.{w64}
 use mir.Val.{SFits, to_z, of_z}
+use Rattle.steps.specs.Logs.{mix_of}
 use Rattle.steps.proofs.Signed.{neg_abs, times_abs, read_small, sfits, plus_fits, plus_read}
 
 pub times_one : (z : ℤ) → pos 1 *ℤ z ≡ z
@@ -45,3 +46,11 @@ module _ (total share d : ℤ) (t : nat_abs total ≤ 2 ^ 40) (h : nat_abs share
 
   pub moved_read : to_z w64 (of_z w64 (to_z w64 (of_z w64 total) +ℤ to_z w64 (of_z w64 (to_z w64 (of_z w64 d) *ℤ to_z w64 (of_z w64 share))))) ≡ total +ℤ (d *ℤ share)
   moved_read = rw product_read (plus_read w64 total (d *ℤ share) (omega (arith, low)))
+
+-- the new total, where a read's share comes and where it goes
+module _ (total : ℤ) {sum share a b x y : ℤ} (m : share ≡ mix_of a b) (p : a ≡ x) (q : b ≡ y) where
+  pub total_more : sum ≡ total +ℤ (pos 1 *ℤ share) → sum ≡ total +ℤ mix_of x y
+  total_more e = e ∙ ap (λ (z : ℤ). total +ℤ z) (times_one share ∙ m ∙ cc (p, q))
+
+  pub total_less : sum ≡ total +ℤ (negsuc 0 *ℤ share) → sum ≡ total -ℤ mix_of x y
+  total_less e = e ∙ ap (λ (z : ℤ). total +ℤ z) (times_less share ∙ ap neg_ℤ (m ∙ cc (p, q)))

@@ -18,16 +18,15 @@ use Rattle.variants_and_fragments.specs.declared.Refusal.TheVariants.{Short}
 use Rattle.variants_and_fragments.specs.Decode.{fragment_from}
 use Rattle.variants_and_fragments.specs.First.{holds_below}
 use Rattle.variants_and_fragments.specs.Layout.{cutoff_at}
-use Rattle.variants_and_fragments.specs.Refusals.{Promise, done}
+use Rattle.variants_and_fragments.specs.Refusals.{Promise, done, refusal}
 use Rattle.variants_and_fragments.specs.Words.{within}
 use Rattle.variants_and_fragments.specs.Inner.Sums.{DownTo}
 use Rattle.variants_and_fragments.proofs.Bools.{both}
 use Rattle.variants_and_fragments.proofs.Bounds.{down_zero, down_more, down_abs}
 use Rattle.variants_and_fragments.proofs.First.{first_end, all_below, below_all}
 use Rattle.variants_and_fragments.proofs.Outcomes.{unless_on, unless_at, promise_refused, promise_done}
-use Rattle.late_reads.specs.declared.Updated.TheVariants.{Unsettled, Refused}
 use Rattle.late_reads.specs.Arriving.{arriving_read}
-use Rattle.late_reads.specs.LateReads.{outcome_of, LateSlices, late_slices, unsettled}
+use Rattle.late_reads.specs.LateReads.{LateSlices, late_slices, unsettled}
 use Rattle.late_reads.specs.Values.{Values, lowest_total, in_range, put_likelihoods, likelihood_on, arrived, departed}
 use Rattle.late_reads.specs.Inner.Counting.{counts_arrived, counts_departed, counts_fit}
 use Rattle.late_reads.specs.Inner.Ready.{Kept, Arriving, fixed_at, arrived_at, departed_at, ranged_outcome}
@@ -97,19 +96,17 @@ module _ {s : Sizes} {x : Values} {sum : ℤ} {counts : List ℤ} (u : Updating 
   ranged_is a b t c = rw (u.likelihoods_in, ← u.total_is, ← u.counts_are, t, c)
 
   module _ {new before : LateSlices} where
-    refuses : in_range s.n s.f x ≡ false → Promise (ranged_outcome s x) new before (outcome_of (Refused (Short 0))) before
-    unfolding outcome_of
+    refuses : in_range s.n s.f x ≡ false → Promise (ranged_outcome s x) new before (refusal (Short 0)) before
     refuses h = promise_refused (Short 0) (unless_at (in_range s.n s.f x) 10 0 (done (unsettled x)) h)
 
-    pub refuses_total : within lowest_total (pos 0) sum ≡ false → Promise (ranged_outcome s x) new before (outcome_of (Refused (Short 0))) before
+    pub refuses_total : within lowest_total (pos 0) sum ≡ false → Promise (ranged_outcome s x) new before (refusal (Short 0)) before
     refuses_total h = refuses (ranged_is false (counts_fit s.n counts) h refl)
 
-    pub refuses_counts : within lowest_total (pos 0) sum ≡ true → counts_fit s.n counts ≡ false → Promise (ranged_outcome s x) new before (outcome_of (Refused (Short 0))) before
+    pub refuses_counts : within lowest_total (pos 0) sum ≡ true → counts_fit s.n counts ≡ false → Promise (ranged_outcome s x) new before (refusal (Short 0)) before
     refuses_counts t c = refuses (ranged_is true false t c)
 
     pub updates : {after : LateSlices} (t : LogProb) → t.0 ≡ sum → within lowest_total (pos 0) sum ≡ true → counts_fit s.n counts ≡ true → after ≡ new
-        → Promise (ranged_outcome s x) new before (outcome_of (Unsettled t)) after
-    unfolding outcome_of
+        → Promise (ranged_outcome s x) new before (done (record { settled = false; total = t.0 })) after
     updates t e l c w = rw (e, u.total_is) (promise_done (unsettled x) (unless_on (in_range s.n s.f x) 10 0 (done (unsettled x)) (ranged_is true true l c)) w)
 
 -- equal parts, equal slices, shares and likelihoods

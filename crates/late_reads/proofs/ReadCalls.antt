@@ -1,41 +1,34 @@
--- The calls of a read that arrives, past its tests, and those of an accepted case's fragment: their variants rise and are the case's, and the
--- strand is 0 or 1. What a loop has left of them is the rest of a table, or of a chain from where the walk stands; a record that is not used
--- ends the chain as 0 does.
+-- The calls of a read that arrives, past its tests, and those of an accepted case's fragment: their variants rise and are the case's. What is left of
+-- arriving calls is the rest of a table, and what the code holds of either read stands for the read.
 -- Assumes nothing.
-use mathlib.Core.Path.{◌≡◌, refl, sym, ap, ◌∙◌}
+use mathlib.Core.Path.{◌≡◌, refl, ap}
 use mathlib.Core.Bool.{true}
 use mathlib.Core.List.{List, [], ◌∷◌, map}
 use Prim.Native.Nat.{ℕ, zero, suc, ◌+◌, ◌-◌, ◌≤◌, ◌<◌}
 use native.Mathlib.Omega.{arith}
 use borrow.Author.Tests.{ne_eqb, ltb-true}
-use lib.IntN.{ℤ}
+use lib.IntN.{ℤ, pos, negsuc}
 use Rattle.variants_and_fragments.specs.declared.Sizes.{Sizes}
-use Rattle.variants_and_fragments.specs.Case.{Call}
-use Rattle.variants_and_fragments.specs.Chain.{link_ok, chain_from}
+use Rattle.variants_and_fragments.specs.Case.{Fragment, Call}
+use Rattle.variants_and_fragments.specs.Chain.{link_ok, present_at, strand_at}
 use Rattle.variants_and_fragments.specs.Decode.{tabulate_from, call_from, fragment_from}
-use Rattle.variants_and_fragments.specs.Layout.{allele_count_at, call_variant_at, variant_field, allele_field, cutoff_at, call_ok}
+use Rattle.variants_and_fragments.specs.Layout.{allele_count_at, call_variant_at, variant_field, allele_field, call_ok, cutoff_at}
 use Rattle.variants_and_fragments.specs.Words.{below, nat_of}
 use Rattle.variants_and_fragments.specs.Inner.Accepted.{allb, CaseIn}
 use Rattle.variants_and_fragments.specs.Inner.Alleles.{VariantsIn}
-use Rattle.variants_and_fragments.specs.Inner.Chain.{first_record_at}
 use Rattle.variants_and_fragments.proofs.Bools.{both}
 use Rattle.variants_and_fragments.proofs.Chain.{next_rises}
 use Rattle.variants_and_fragments.proofs.Linked.{Linked, ends, goes, chain_linked}
 use Rattle.variants_and_fragments.proofs.Ranges.{below_less}
 use Rattle.variants_and_fragments.proofs.Records.{call_facts}
 use Rattle.variants_and_fragments.proofs.Tabulated.{table_start, table_more, table_end}
-use Rattle.variants_and_fragments.proofs.Walks.{start_chain, chain_end, chain_none, chain_step}
 use Rattle.pileup.specs.declared.reader.Call.{Call as CallHeld}
-use Rattle.pileup.specs.declared.reader.CallRead.TheVariants as read
-use Rattle.pileup.specs.declared.reader.CallStep.{CallStep}
-use Rattle.pileup.specs.Inner.Reader.{step_at}
-use Rattle.pileup.proofs.CallReads.{read_here}
-use Rattle.pileup.proofs.Onward.{Onward, onward_next}
-use Rattle.late_reads.specs.declared.counts.CountedCall.{CountedCall}
+use Rattle.pileup.specs.Inner.Packed.{call_read}
+use Rattle.pileup.specs.Inner.Reader.{held_call}
 use Rattle.late_reads.specs.Arriving.{arriving_word, whole_calls, arriving_call, arriving_read, arriving_ok, arriving_rises}
-use Rattle.late_reads.specs.Inner.Counting.{counted_call, CountedIs}
-use Rattle.late_reads.specs.Inner.Ready.{Arriving}
-use Rattle.late_reads.proofs.Counting.{Rising, none, more}
+use Rattle.late_reads.specs.Inner.Counting.{Rising, none, more, read_of, counts_after, counts_arrived, counts_departed}
+use Rattle.late_reads.specs.Inner.Ready.{Arriving, arriving_left}
+use Rattle.late_reads.proofs.Counting.{arrived_is, departed_is}
 
 -- ---- a read that arrives
 -- a table of m calls, from i on
@@ -69,20 +62,27 @@ module _ {w : List ℤ} {s : Sizes} {f : ℕ} {strand : ℤ} {calls : List ℤ} 
   unfolding arriving_read
   arriving_rises_lem = table_rising (arriving_call calls) s.n (whole_calls calls) arriving_in arriving_up (whole_calls calls) 0 0 (omega arith) (λ l. omega arith)
 
--- the calls left at call i
-abbrev pub arriving_left : List ℤ → ℕ → List Call
-arriving_left calls i = tabulate_from (arriving_call calls) i (whole_calls calls - i)
-
+-- the calls left at call i, as the code holds them
 module _ (calls : List ℤ) where
-  pub arriving_left_lem : (strand : ℤ) → (arriving_read strand calls).calls ≡ arriving_left calls 0
-  unfolding arriving_read
-  arriving_left_lem strand = sym (table_start (arriving_call calls) (whole_calls calls))
-
-  pub arriving_more : (i : ℕ) → i < whole_calls calls → arriving_left calls i ≡ arriving_call calls i ∷ arriving_left calls (i + 1)
-  arriving_more = table_more (arriving_call calls) (whole_calls calls)
+  pub arriving_more : (i : ℕ) → i < whole_calls calls → arriving_left calls i ≡ held_call (arriving_call calls i) ∷ arriving_left calls (i + 1)
+  arriving_more i l = ap (map held_call) (table_more (arriving_call calls) (whole_calls calls) i l)
 
   pub arriving_out : (i : ℕ) → whole_calls calls ≤ i → arriving_left calls i ≡ []
-  arriving_out = table_end (arriving_call calls) (whole_calls calls)
+  arriving_out i l = ap (map held_call) (table_end (arriving_call calls) (whole_calls calls) i l)
+
+-- ---- what is held of a read's calls
+pub read_back : (calls : List Call) → map call_read (map held_call calls) ≡ calls
+unfolding held_call
+read_back [] = refl
+read_back (call ∷ calls) = ap (λ (rest : List Call). call ∷ rest) (read_back calls)
+
+pub read_arriving : (strand : ℤ) (calls : List ℤ) → read_of (nat_of strand) (arriving_left calls 0) ≡ arriving_read strand calls
+unfolding arriving_read
+read_arriving strand calls = rw (table_start, read_back) refl
+
+pub read_fragment : (w : List ℤ) (s : Sizes) (f : ℕ) → present_at w s f ≡ true → read_of (strand_at w s f) (map held_call (fragment_from w s f).calls) ≡ fragment_from w s f
+unfolding fragment_from
+read_fragment w s f p = rw (read_back, p) refl
 
 -- ---- a fragment
 linked_rising : (w : List ℤ) (s : Sizes) → VariantsIn w s → (b : ℕ) {r : ℕ} {rs : List ℕ} → Linked w s (link_ok w s) r rs → (1 ≤ r → b ≤ call_variant_at w s r) → allb (call_ok w s) rs ≡ true → Rising s.n b (map (call_from w s) rs)
@@ -98,37 +98,18 @@ module _ {w : List ℤ} {s : Sizes} (case : CaseIn w s) (f : ℕ) (h : f < s.f) 
   unfolding fragment_from
   chain_rises = let i = case.frags f h in linked_rising w s case.variants 0 (chain_linked case.sized.used_top i) (λ l. omega arith) i.calls
 
--- the calls left after k records, at record r
-abbrev pub chain_left : List ℤ → Sizes → ℕ → ℕ → List Call
-chain_left w s k r = map (call_from w s) (chain_from w s (s.c - k) r)
+-- ---- what is promised of the calls that the code holds
+module _ {w : List ℤ} {s : Sizes} (case : CaseIn w s) where
+  pub arriving_held : {f : ℕ} {strand : ℤ} {calls : List ℤ} {left : List CallHeld} → Arriving w s f strand calls → left ≡ arriving_left calls 0 → Rising s.n 0 (map call_read left)
+  arriving_held {strand = strand} {calls = calls} a e = rw (e, ap (λ (x : Fragment). x.calls) (read_arriving strand calls)) (arriving_rises_lem case a)
 
-module _ (w : List ℤ) (s : Sizes) where
-  pub chain_left_lem : (f : ℕ) → (fragment_from w s f).calls ≡ chain_left w s 0 (first_record_at w s f)
-  unfolding fragment_from
-  chain_left_lem f = rw (start_chain w s f _ refl)
+  pub chain_held : (f : ℕ) {left : List CallHeld} → f < s.f → left ≡ map held_call (fragment_from w s f).calls → Rising s.n 0 (map call_read left)
+  chain_held f l e = rw (e, read_back) (chain_rises case f l)
 
-  pub chain_over : (k r : ℕ) → r ≡ 0 → chain_left w s k r ≡ []
-  chain_over k r e = rw (chain_end w s (s.c - k) r e)
+module _ (w : List ℤ) (n : ℕ) (counts : List ℤ) {k : ℕ} {left : List CallHeld} where
+  pub arriving_counted : (strand : ℤ) (calls : List ℤ) → left ≡ arriving_left calls 0 → k ≡ nat_of strand → counts_after (pos 1) (cutoff_at w) (read_of k left) n counts ≡ counts_arrived (cutoff_at w) n (arriving_read strand calls) counts
+  arriving_counted strand calls e z = rw (e, z, read_arriving strand calls) (arrived_is (cutoff_at w) (arriving_read strand calls) n counts)
 
-  pub chain_out : (k r : ℕ) → s.c ≤ k → chain_left w s k r ≡ []
-  chain_out k r l = rw (chain_none w s (s.c - k) r (omega arith))
-
--- a turn of a walk along fragment f's chain: the call of record r was read, the counts see it so, and t is the record after it
-pub record ChainTurn (w : List ℤ) (s : Sizes) (f k r t : ℕ) (counted : CountedCall) : Type 0 where
-  pub left_is : chain_left w s k r ≡ call_from w s r ∷ chain_left w s (k + 1) t
-  pub counted_is : counted ≡ counted_call (cutoff_at w) (fragment_from w s f) (call_from w s r)
-  pub on : Onward w s t (k + 1)
-
-pub chain_turn : {w : List ℤ} {s : Sizes} {k r : ℕ} (f : ℕ) {cutoff : ℤ} {strand : ℕ} {held : CallHeld} {counted : CountedCall} (step : CallStep)
-    → Onward w s r k → k < s.c → step ≡ step_at w s r → step.read ≡ read.Call held → CountedIs cutoff strand held counted → cutoff ≡ cutoff_at w → strand ≡ (fragment_from w s f).strand
-    → ChainTurn w s f k r step.next counted
-chain_turn {w} {s} {k} {r} f {held = held} step i l e g c q z =
-    let x = fragment_from w s f in
-    let call = call_from w s r in
-    let h = read_here w s r step held e g in
-    let some = h.some in
-    record {
-      left_is = rw h.next_is (ap (map (call_from w s)) (chain_step w s s.c k r l (omega arith) i.r_top));
-      counted_is = c.is x call (sym z) h.call_is ∙ ap (λ (y : ℤ). counted_call y x call) q;
-      on = onward_next i l some step.next h.next_is;
-    }
+  pub departing_counted : (s : Sizes) (f : ℕ) → present_at w s f ≡ true → left ≡ map held_call (fragment_from w s f).calls → k ≡ strand_at w s f
+      → counts_after (negsuc 0) (cutoff_at w) (read_of k left) n counts ≡ counts_departed (cutoff_at w) n (fragment_from w s f) counts
+  departing_counted s f p e z = rw (e, z, read_fragment w s f p) (departed_is (cutoff_at w) (fragment_from w s f) n counts)

@@ -7,7 +7,10 @@ use mathlib.Core.List.{List, [], ◌∷◌}
 use Prim.Native.Nat.{ℕ, zero, suc, ◌+◌, ◌*◌, ◌^◌, ◌≤◌, ◌<◌}
 use native.Mathlib.Nat.{zero-add}
 use native.Mathlib.Omega.{arith}
-use lib.IntN.{ℤ, pos, ◌+ℤ◌, +ℤ_idl}
+use lib.IntN.{ℤ, pos, nat_abs, ◌+ℤ◌, +ℤ_idl}
+use mir.Syntax.{w32, w64}
+use mir.Val.{SFits, to_z, of_z}
+use Rattle.steps.proofs.Signed.{read_wide}
 use borrow.Author.Tests.{eq-eqb, ne_eqb}
 use lib.Dec.{eqb}
 use lib.ListN.{get_or}
@@ -20,11 +23,13 @@ use Rattle.variants_and_fragments.specs.Words.{within, below, nat_of}
 use Rattle.variants_and_fragments.specs.Inner.Accepted.{CaseIn}
 use Rattle.variants_and_fragments.specs.Inner.Sums.{DownTo}
 use Rattle.variants_and_fragments.proofs.Bools.{both}
-use Rattle.variants_and_fragments.proofs.Bounds.{down_zero, down_more, down_add}
+use Rattle.variants_and_fragments.proofs.Bounds.{down_zero, down_more, down_add, down_abs}
 use Rattle.variants_and_fragments.proofs.Ranges.{below_less}
 use Rattle.variants_and_fragments.proofs.Readings.{quality_down}
 use Rattle.variants_and_fragments.proofs.Sums.{sum_over_cong, sum_to_cong}
-use Rattle.haplotype_assembly.specs.Phase.{flag_of}
+use Rattle.pileup.specs.declared.reader.Call.{Call as CallHeld}
+use Rattle.pileup.specs.Inner.Packed.{UsableIs}
+use Rattle.pileup.specs.Inner.Reader.{held_call}
 use Rattle.sweeps.specs.Sweeps.{call_term}
 use Rattle.likelihoods.specs.Inner.Likelihoods.{call_share}
 use Rattle.likelihoods.proofs.RunningSums.{table_sum}
@@ -70,9 +75,9 @@ module _ (fixed : Fixed) (x : Fragment) (h : ℕ) where
     unfolding share_on
     share_unphased p = rw (u, p)
 
-    pub share_phased : fixed.phased call.variant ≡ true → call_term call (own call.variant) ≡ share_on fixed x h call
+    pub share_phased : fixed.phased call.variant ≡ true → (v : ℕ) → v ≡ call.variant → call_term call (get_or fixed.haps (2 * v + h) 0) ≡ share_on fixed x h call
     unfolding share_on
-    share_phased p = rw (u, p)
+    share_phased p v e = rw (u, p, e)
 
   -- which is in −262144..0
   share_down : (call : Call) → DownTo 262144 call.qual → DownTo 262144 call.one_minus_qual → DownTo 262144 (share_on fixed x h call)
@@ -90,16 +95,21 @@ pub term_other : (call : Call) (own : ℕ) → (call.allele ≡ own → ⊥) →
 unfolding call_term
 term_other call own e = rw (ne_eqb call.allele own e)
 
--- a flag read back
-pub flag_off : (b : Bool) → flag_of b ≡ 0 → b ≡ false
-flag_off true e = absurd (omega arith)
-flag_off false e = refl
+-- a quality as the code returns it
+module _ (x z : ℤ) (fits : SFits w32 x) (is : x ≡ z) (down : DownTo 262144 z) where
+  pub quality_read : to_z w64 (of_z w64 (to_z w32 (of_z w32 x))) ≡ z
+  quality_read = read_wide w32 w64 x tt fits ∙ is
 
-pub flag_on : (b : Bool) → (flag_of b ≡ 0 → ⊥) → b ≡ true
-flag_on true e = refl
-flag_on false e = absurd (e refl)
+  pub quality_small : nat_abs (to_z w64 (of_z w64 (to_z w32 (of_z w32 x)))) ≤ 262144
+  quality_small = rw quality_read (down_abs 262144 z down)
 
 -- ---- the calls of an arriving read
+-- the code's test of a call is the definition's
+pub usable_read : {q z : ℤ} {k : ℕ} {r : Bool} {held : CallHeld} (cutoff strand : ℤ) (calls : List ℤ) (call : Call) → UsableIs q k z r → q ≡ cutoff → k ≡ nat_of strand → z ≡ held.qual → held ≡ held_call call
+    → usable cutoff (arriving_read strand calls) call ≡ r
+unfolding arriving_read held_call
+usable_read cutoff strand calls call u e k z h = rw (← e) (sym (u.is (arriving_read strand calls) call (sym k) (sym (z ∙ ap (λ (x : CallHeld). x.qual) h))))
+
 -- what call i adds to a likelihood
 abbrev pub arriving_share : ℤ → List ℤ → Fixed → ℕ → ℕ → ℤ
 arriving_share strand calls fixed h i = share_on fixed (arriving_read strand calls) h (arriving_call calls i)

@@ -1,17 +1,17 @@
 -- Requests 1, 3 and 5: what `arrive` and `depart` answer and write. The order of the tests is document 01's, then the ranges before, the arriving calls, 13,
 -- 14, and the ranges after.
 -- Assumes nothing.
-use Rattle.std.specs.Prelude.{Bool, false, not, ◌&&◌, List, [], ◌∷◌, ℕ, ◌*◌, eqb, ltb, leb, ℤ, pos, length}
+use Rattle.std.specs.Prelude.{Result, Bool, false, not, ◌&&◌, List, [], ◌∷◌, ℕ, ◌*◌, eqb, ltb, leb, ℤ, pos, length}
+use Rattle.steps.specs.declared.LogProb.{LogProb}
+use Rattle.variants_and_fragments.specs.declared.Refusal.{Refusal}
 use Rattle.variants_and_fragments.specs.declared.Sizes.{Sizes}
 use Rattle.variants_and_fragments.specs.Case.{Case, fragment_of}
 use Rattle.variants_and_fragments.specs.Check.{check_case_and_haplotypes_outcome}
 use Rattle.variants_and_fragments.specs.Decode.{decode}
 use Rattle.variants_and_fragments.specs.Layout.{max_strand, sizes_of}
-use Rattle.variants_and_fragments.specs.Refusals.{Outcome, done, refusal, unless, each, and_then, long_enough, Promise}
+use Rattle.variants_and_fragments.specs.Refusals.{Outcome, done, answered, unless, each, and_then, long_enough, Promise}
 use Rattle.variants_and_fragments.specs.Words.{within}
 use Rattle.haplotype_assembly.specs.Phase.{phased_flags}
-use Rattle.late_reads.specs.declared.Updated.{Updated}
-use Rattle.late_reads.specs.declared.Updated.TheVariants.{Unsettled, Refused}
 use Rattle.late_reads.specs.Values.{Values, in_range, Fixed, arrived, departed}
 use Rattle.late_reads.specs.Arriving.{arriving_words, whole_calls, arriving_read, arriving_ok, arriving_rises, room, arrived_words, departed_words}
 
@@ -45,9 +45,8 @@ abbrev pub unsettled : Values → LateAnswer
 unsettled after = record { settled = false; total = after.total }
 
 -- the answer as an outcome
-unfoldable pub outcome_of : Updated → Outcome LateAnswer
-outcome_of (Unsettled total) = done (record { settled = false; total = total.0 })
-outcome_of (Refused x) = refusal x
+abbrev pub outcome_of : Result LogProb Refusal → Outcome LateAnswer
+outcome_of answer = answered (λ total. record { settled = false; total = total.0 }) answer
 
 -- 1 to 5, the case, where 2 looks at the haplotypes too; 7, the phase bytes; 10, 2 N haplotypes, 2 F likelihoods and 10 N counts; 10 at place
 -- 0, the values lent

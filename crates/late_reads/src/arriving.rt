@@ -1,120 +1,195 @@
 // The calls of an arrival, four words each, their test, and whether there is room for them.
-ghost use Rattle.std.specs.Prelude.{◌≡◌, ◌<◌, leb, length};
-ghost use Rattle.variants_and_fragments.specs.Check.{outcome_of};
-ghost use Rattle.variants_and_fragments.specs.First.{first_fail};
-ghost use Rattle.variants_and_fragments.specs.Inner.Accepted.{CaseIn};
-ghost use Rattle.late_reads.specs.Arriving.{whole_calls, arriving_at, arriving_ok, arriving_rises, room};
-ghost use Rattle.late_reads.specs.Inner.Ready.{arriving_tests};
+ghost use Rattle.std.specs.Prelude.{◌≡◌, ◌<◌, leb, length, IfOk};
+ghost use Rattle.std.specs.Iterator.{YieldsFirst, item_count};
+ghost use Rattle.variants_and_fragments.specs.Refusals.{done, each, answered, outcome_of};
+ghost use Rattle.pileup.specs.Inner.Reader.{held_call};
+ghost use Rattle.late_reads.specs.Arriving.{whole_calls, arriving_at, arriving_call, arriving_ok, arriving_rises, room};
+ghost use Rattle.late_reads.specs.Inner.Ready.{Arriving, arriving_tests, arriving_left};
 
-use crate::Arrival;
-use variants_and_fragments::calls::call_words_ok;
-use variants_and_fragments::layout::{MAX_STRAND, is_present, nat_of, next_call};
-use variants_and_fragments::{CallWords, Checked, Refusal, Sizes};
+use crate::counts::Calls;
+use crate::kept::Ready;
+use pileup::reader::Call;
+use std::marker::Model;
+use variants_and_fragments::layout::{MAX_STRAND, nat_of};
+use variants_and_fragments::{CallWords, Case, Refusal};
 
 // The words of an arriving call.
-pub const ARRIVING_WORDS: usize = 4;
+const ARRIVING_WORDS: usize = 4;
 
-// The words of call i.
-pub fn arriving_at(calls: &[i32], i: usize) -> CallWords
-    requires { i < whole_calls calls.now }
-    ensures { result ≡ arriving_at calls.now i }
-{
-    let at = ARRIVING_WORDS * i;
-    CallWords {
-        variant: calls[at],
-        allele: calls[at + 1],
-        qual: calls[at + 2],
-        one_minus_qual: calls[at + 3],
-    }
+// A read that arrives: the number of its fragment, its strand, and the words of its calls.
+#[derive(Clone, Copy)]
+pub struct Arrival<'a> {
+    pub fragment: usize,
+    pub strand: i32,
+    pub calls: &'a [i32],
 }
 
-// The first whole call that is out of range, or their number. At the loop's head those before i are right.
-fn first_bad_arriving(words: &[i32], s: Sizes, calls: &[i32]) -> usize
-    requires { CaseIn words.now s }
-    ensures { result ≡ first_fail (arriving_ok words.now s calls.now) (whole_calls calls.now) }
-{
-    let m = calls.len() / ARRIVING_WORDS;
-    let mut i = 0;
-    while i < m {
-        if !call_words_ok(words, s, arriving_at(calls, i)) {
-            return i;
+impl<'a> Arrival<'a> {
+    // Its calls, one after the other.
+    pub fn iter(&self) -> ArrivingCalls<'a>
+        ensures { result ≡ arriving_left self.now.calls.now 0 }
+    {
+        ArrivingCalls {
+            read: *self,
+            next: 0,
         }
-        i += 1;
     }
-    i
-}
 
-// Call i's variant rises over that of the call before.
-fn arriving_rises(calls: &[i32], i: usize) -> bool
-    requires { i < whole_calls calls.now }
-    ensures { result ≡ arriving_rises calls.now i }
-{
-    if i == 0 {
-        return true;
+    // The number of whole calls.
+    pub fn count(&self) -> usize
+        ensures { result ≡ whole_calls self.now.calls.now }
+    {
+        self.calls.len() / ARRIVING_WORDS
     }
-    let before = arriving_at(calls, i - 1);
-    let here = arriving_at(calls, i);
-    nat_of(before.variant) < nat_of(here.variant)
-}
 
-// The first whole call whose variant does not rise, or their number. At the loop's head those before i rise.
-fn first_not_rising(calls: &[i32]) -> usize
-    ensures { result ≡ first_fail (arriving_rises calls.now) (whole_calls calls.now) }
-{
-    let m = calls.len() / ARRIVING_WORDS;
-    let mut i = 0;
-    while i < m {
-        if !arriving_rises(calls, i) {
-            return i;
+    // The words of call i.
+    pub fn call_words(&self, i: usize) -> CallWords
+        requires { i < whole_calls self.now.calls.now }
+        ensures { result ≡ arriving_at self.now.calls.now i }
+    {
+        let at = ARRIVING_WORDS * i;
+        CallWords {
+            variant: self.calls[at],
+            allele: self.calls[at + 1],
+            qual: self.calls[at + 2],
+            one_minus_qual: self.calls[at + 3],
         }
-        i += 1;
     }
-    i
+
+    // Call i.
+    pub fn call(&self, i: usize) -> Call
+        requires { i < whole_calls self.now.calls.now }
+        ensures { result ≡ held_call (arriving_call self.now.calls.now i) }
+    {
+        let words = self.call_words(i);
+        Call {
+            variant: nat_of(words.variant),
+            allele: nat_of(words.allele),
+            qual: words.qual,
+            one_minus_qual: words.one_minus_qual,
+        }
+    }
+
+    // Call i's variant rises over that of the call before.
+    fn rises(&self, i: usize) -> bool
+        requires { i < whole_calls self.now.calls.now }
+        ensures { result ≡ arriving_rises self.now.calls.now i }
+    {
+        i == 0 || self.call(i - 1).variant < self.call(i).variant
+    }
+
+    // 4: each whole call is in range; the place of a fault is the first that is not.
+    fn check_calls(&self, case: &Case<'_>) -> Result<(), Refusal>
+        ensures { outcome_of result ≡ each 4 (arriving_ok case.now.laid.words.now case.now.laid.sizes self.now.calls.now) 0 (whole_calls self.now.calls.now) (done tt) }
+    {
+        let known = case.with_variants();
+        for i in 0..self.count() {
+            if !known.call_words_ok(self.call_words(i)) {
+                return Err(Refusal::Call(i));
+            }
+        }
+        Ok(())
+    }
+
+    // 5: the variants of the whole calls rise; the place of a fault is the first call whose does not.
+    fn check_rises(&self) -> Result<(), Refusal>
+        ensures { outcome_of result ≡ each 5 (arriving_rises self.now.calls.now) 0 (whole_calls self.now.calls.now) (done tt) }
+    {
+        for i in 0..self.count() {
+            if !self.rises(i) {
+                return Err(Refusal::Chain(i));
+            }
+        }
+        Ok(())
+    }
+}
+
+// The calls of an arrival from the next on, seen as a list.
+#[derive(Drop)]
+pub struct ArrivingCalls<'a> {
+    read: Arrival<'a>,
+    next: usize,
+}
+
+impl<'a> Model for ArrivingCalls<'a> {
+    ghost use Rattle.std.specs.Prelude.{List};
+    ghost use Rattle.pileup.specs.declared.reader.Call.{Call};
+    ghost use Rattle.late_reads.specs.Inner.Ready.{arriving_left};
+
+    ghost Value = { List Call };
+
+    ghost view = { λ it. arriving_left it.read.calls.now it.next };
+}
+
+impl<'a> Iterator for ArrivingCalls<'a> {
+    type Item = Call;
+
+    ghost next_gives = { YieldsFirst (λ calls. calls) };
+
+    ghost remaining = { item_count (λ calls. calls) };
+
+    fn next(&mut self) -> Option<Call> {
+        let i = self.next;
+        if self.read.count() <= i {
+            return None;
+        }
+        self.next = i + 1;
+        Some(self.read.call(i))
+    }
+}
+
+impl Calls for ArrivingCalls<'_> {
+    ghost left = { λ s. s };
+
+    ghost gives_first = { λ s r t h. h };
+
+    ghost goes_on = { λ s. (tt, tt) };
 }
 
 // Free and unused records together are at least m. At the loop's head i counts the unused records and the free ones before r.
-fn has_room(words: &[i32], s: Sizes, m: usize) -> bool
-    requires { CaseIn words.now s }
-    ensures { result ≡ leb m (length (room words.now s)) }
+fn has_room(case: &Case<'_>, m: usize) -> bool
+    ensures { result ≡ leb m (length (room case.now.laid.words.now case.now.laid.sizes)) }
 {
+    let s = case.laid.sizes;
     let mut r = s.free;
-    let mut i = s.c - s.used;
-    while i < m {
+    for i in s.c - s.used..m {
         if r == 0 {
             return false;
         }
-        r = next_call(words, s, r);
-        i += 1;
+        r = case.laid.next_call(r);
     }
     true
 }
 
-// The sizes, or what refuses the arrival: 4 and 5 of its calls and strand, 13, 14.
-pub fn arriving_fault(words: &[i32], s: Sizes, arrival: Arrival, calls: &[i32]) -> Checked
-    requires { CaseIn words.now s }
-    ensures { outcome_of result ≡ arriving_tests words.now s arrival.fragment arrival.strand calls.now }
+// An arrival that passed its tests.
+#[derive(Clone, Copy)]
+pub struct TestedArrival<'a> {
+    pub ready: Ready<'a>,
+    pub read: Arrival<'a>,
+    ghost arriving: { Arriving ready.case.laid.words.now ready.case.laid.sizes read.fragment read.strand read.calls.now },
+}
+
+// The arrival, or what refuses it: 4 and 5 of its calls and strand, 13, 14.
+pub fn test_arrival<'a>(ready: &Ready<'a>, read: &Arrival<'a>) -> Result<TestedArrival<'a>, Refusal>
+    ensures outcome { answered (λ arrival. arrival.ready.case.laid.sizes) result ≡ arriving_tests ready.now.case.laid.words.now ready.now.case.laid.sizes read.now.fragment read.now.strand read.now.calls.now }
+    ensures same { IfOk result (λ arrival. (arrival.ready ≡ ready.now) × (arrival.read ≡ read.now)) }
 {
-    let m = calls.len() / ARRIVING_WORDS;
-    let f = arrival.fragment;
-    let bad = first_bad_arriving(words, s, calls);
-    if bad < m {
-        return Checked::Refused(Refusal::Call(bad));
+    let case = &ready.case;
+    let m = read.count();
+    let f = read.fragment;
+    read.check_calls(case)?;
+    read.check_rises()?;
+    if (read.calls.len() != ARRIVING_WORDS * m) | (MAX_STRAND < nat_of(read.strand)) {
+        return Err(Refusal::Chain(m));
     }
-    let flat = first_not_rising(calls);
-    if flat < m {
-        return Checked::Refused(Refusal::Chain(flat));
+    if case.laid.sizes.f <= f || case.laid.is_present(f) {
+        return Err(Refusal::Fragment(f));
     }
-    if (calls.len() != ARRIVING_WORDS * m) | (MAX_STRAND < nat_of(arrival.strand)) {
-        return Checked::Refused(Refusal::Chain(m));
+    if !has_room(case, m) {
+        return Err(Refusal::Room(m));
     }
-    if s.f <= f {
-        return Checked::Refused(Refusal::Fragment(f));
-    }
-    if is_present(words, s, f) {
-        return Checked::Refused(Refusal::Fragment(f));
-    }
-    if !has_room(words, s, m) {
-        return Checked::Refused(Refusal::Room(m));
-    }
-    Checked::Accepted(s)
+    Ok(TestedArrival {
+        ready: *ready,
+        read: *read,
+    })
 }

@@ -1,6 +1,5 @@
 // The ranges of the values: the total and each likelihood in −2^40..0, each count in 0..4096.
-ghost use Rattle.std.specs.Prelude.{◌≡◌, ◌*◌, ◌≤◌, pos, length, get_or};
-ghost use Rattle.variants_and_fragments.specs.First.{holds_below};
+ghost use Rattle.std.specs.Prelude.{◌≡◌, ◌*◌, ◌≤◌, ◌↔◌, true, IsTrue, EachIndex, slice_index_or, pos, length};
 ghost use Rattle.variants_and_fragments.specs.Words.{within};
 ghost use Rattle.late_reads.specs.Values.{values, lowest_total, max_count, in_range};
 
@@ -26,34 +25,18 @@ pub fn count_ok(z: i32) -> bool
     (0 <= z) & (z <= MAX_COUNT)
 }
 
-// The first n likelihoods are in range. At the loop's head those before e are.
-fn likelihoods_ok(likelihoods: &[i64], n: usize) -> bool
-    requires { n ≤ length likelihoods.now }
-    ensures { result ≡ holds_below (λ e. within lowest_total (pos 0) (get_or likelihoods.now e (pos 0))) n }
+// Each likelihood is in range.
+fn likelihoods_ok(likelihoods: &[i64]) -> bool
+    ensures { IsTrue result ↔ EachIndex likelihoods.now (λ e. within lowest_total (pos 0) (slice_index_or likelihoods.now e (pos 0)) ≡ true) }
 {
-    let mut e = 0;
-    while e < n {
-        if !total_ok(LogProb(likelihoods[e])) {
-            return false;
-        }
-        e += 1;
-    }
-    true
+    likelihoods.iter().all(|x| total_ok(LogProb(*x)))
 }
 
-// The first n counts are in range. At the loop's head those before e are.
-fn counts_ok(counts: &[i32], n: usize) -> bool
-    requires { n ≤ length counts.now }
-    ensures { result ≡ holds_below (λ e. within (pos 0) (pos max_count) (get_or counts.now e (pos 0))) n }
+// Each count is in range.
+fn counts_ok(counts: &[i32]) -> bool
+    ensures { IsTrue result ↔ EachIndex counts.now (λ e. within (pos 0) (pos max_count) (slice_index_or counts.now e (pos 0)) ≡ true) }
 {
-    let mut e = 0;
-    while e < n {
-        if !count_ok(counts[e]) {
-            return false;
-        }
-        e += 1;
-    }
-    true
+    counts.iter().all(|x| count_ok(*x))
 }
 
 // The values of a case of these sizes are in range.
@@ -62,7 +45,7 @@ pub fn in_range(s: Sizes, likelihoods: &[i64], counts: &[i32], total: LogProb) -
     ensures { result ≡ in_range s.n s.f (values likelihoods.now counts.now total.0) }
 {
     let a = total_ok(total);
-    let b = likelihoods_ok(likelihoods, 2 * s.f);
-    let c = counts_ok(counts, 10 * s.n);
+    let b = likelihoods_ok(&likelihoods[..2 * s.f]);
+    let c = counts_ok(&counts[..10 * s.n]);
     a & (b & c)
 }

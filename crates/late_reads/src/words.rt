@@ -9,89 +9,86 @@ ghost use Rattle.late_reads.specs.Arriving.{whole_calls, taken, calls_laid, arri
 ghost use Rattle.late_reads.specs.Inner.Ready.{Arriving};
 ghost use Rattle.late_reads.specs.Inner.Room.{front_of, rest_of, left_at};
 
-use crate::Arrival;
-use crate::arriving::{ARRIVING_WORDS, arriving_at};
+use crate::arriving::Arrival;
 use variants_and_fragments::Sizes;
 use variants_and_fragments::layout::{
     ABSENT, first_call, next_call, put_call, put_first, put_free, put_next, put_strand, put_used,
 };
 
-// The records that are left to take: the first free one or 0, and how many are used.
+// The records that are left to take: the first free one, and how many are used. Where none is free it is 0, as in the words, which no record is.
 #[derive(Clone, Copy)]
 pub struct RoomLeft {
     pub free: usize,
     pub used: usize,
 }
 
-// The record that is taken next: the first free one, else the first of the unused tail.
-fn front_of(left: RoomLeft) -> usize
-    requires { left.used ≤ max_calls }
-    ensures { result ≡ front_of left }
-{
-    if left.free == 0 {
-        return left.used + 1;
+impl RoomLeft {
+    // The record that is taken next: the first free one, else the first of the unused tail.
+    fn front(self) -> usize
+        requires { self.used ≤ max_calls }
+        ensures { result ≡ front_of self }
+    {
+        if self.free == 0 {
+            return self.used + 1;
+        }
+        self.free
     }
-    left.free
-}
 
-// What is left once it is taken.
-fn rest_of(words: &[i32], s: Sizes, left: RoomLeft) -> RoomLeft
-    requires sized { Sized words.now s }
-    requires used_le_max_calls { (left.used ≤ max_calls) × (left.free ≤ s.c) }
-    ensures { result ≡ rest_of words.now s left }
-{
-    if left.free == 0 {
-        return RoomLeft {
-            free: 0,
-            used: left.used + 1,
-        };
-    }
-    RoomLeft {
-        free: next_call(words, s, left.free),
-        used: left.used,
+    // What is left once it is taken.
+    fn rest(self, words: &[i32], s: Sizes) -> RoomLeft
+        requires sized { Sized words.now s }
+        requires in_case { (self.used ≤ max_calls) × (self.free ≤ s.c) }
+        ensures { result ≡ rest_of words.now s self }
+    {
+        if self.free == 0 {
+            return RoomLeft {
+                free: 0,
+                used: self.used + 1,
+            };
+        }
+        RoomLeft {
+            free: next_call(words, s, self.free),
+            used: self.used,
+        }
     }
 }
 
 // Writes the arriving calls into the records that they take, linked one after the other, and answers what is left. At the loop's head those
 // before i are written.
-fn lay_calls(words: &mut [i32], s: Sizes, arrival: Arrival, calls: &[i32]) -> RoomLeft
+fn lay_calls(words: &mut [i32], s: Sizes, read: &Arrival<'_>) -> RoomLeft
     requires case_in { CaseIn words.old s }
-    requires arriving { Arriving words.old s arrival.fragment arrival.strand calls.now }
-    ensures words_after { words.new ≡ calls_laid words.old s calls.now (taken words.old s (whole_calls calls.now)) (whole_calls calls.now) }
-    ensures value { result ≡ left_at words.old s (whole_calls calls.now) }
+    requires arriving { Arriving words.old s read.now.fragment read.now.strand read.now.calls.now }
+    ensures words_after { words.new ≡ calls_laid words.old s read.now.calls.now (taken words.old s (whole_calls read.now.calls.now)) (whole_calls read.now.calls.now) }
+    ensures value { result ≡ left_at words.old s (whole_calls read.now.calls.now) }
 {
-    let m = calls.len() / ARRIVING_WORDS;
+    let m = read.count();
     let mut left = RoomLeft {
         free: s.free,
         used: s.used,
     };
-    let mut i = 0;
-    while i < m {
-        let r = front_of(left);
-        left = rest_of(words, s, left);
-        let next = if i + 1 == m { 0 } else { front_of(left) };
-        put_call(words, s, r, arriving_at(calls, i), next);
-        i += 1;
+    for i in 0..m {
+        let r = left.front();
+        left = left.rest(words, s);
+        let next = if i + 1 == m { 0 } else { left.front() };
+        put_call(words, s, r, read.call_words(i), next);
     }
     left
 }
 
 // Writes an arrival: its calls' records, its fragment's first call and strand, how many records are used and the first free one.
-pub fn lay_arrival(words: &mut [i32], s: Sizes, arrival: Arrival, calls: &[i32])
+pub fn lay_arrival(words: &mut [i32], s: Sizes, read: &Arrival<'_>)
     requires case_in { CaseIn words.old s }
-    requires arriving { Arriving words.old s arrival.fragment arrival.strand calls.now }
-    ensures { words.new ≡ arrived_words words.old s arrival.fragment arrival.strand calls.now }
+    requires arriving { Arriving words.old s read.now.fragment read.now.strand read.now.calls.now }
+    ensures { words.new ≡ arrived_words words.old s read.now.fragment read.now.strand read.now.calls.now }
 {
-    let m = calls.len() / ARRIVING_WORDS;
-    let f = arrival.fragment;
     let before = RoomLeft {
         free: s.free,
         used: s.used,
     };
-    let first = if m == 0 { 0 } else { front_of(before) };
-    let left = lay_calls(words, s, arrival, calls);
-    put_first(words, s, f, first as i32);
-    put_strand(words, s, f, arrival.strand);
+    let first = if read.count() == 0 { 0 } else { before.front() };
+    let left = lay_calls(words, s, read);
+    put_first(words, s, read.fragment, first as i32);
+    put_strand(words, s, read.fragment, read.strand);
     put_used(words, left.used);
     put_free(words, left.free);
 }
@@ -102,11 +99,8 @@ fn last_record(words: &[i32], s: Sizes, f: usize) -> usize
     requires f_lt_f { (f < s.f) × (1 ≤ first_record_at words.now s f) }
     ensures { result ≡ get_or (chain_of words.now s f) (length (chain_of words.now s f) - 1) 0 }
 {
-    let c = s.c;
     let mut last = first_call(words, s, f);
-    let mut k = 1;
-    while k < c {
-        k += 1;
+    for k in 1..s.c {
         let next = next_call(words, s, last);
         if next == 0 {
             return last;

@@ -33,7 +33,7 @@ term_small n c a h k = either_small n (eqb c.allele a) c.one_minus_qual c.qual k
 
 -- what a call adds from its parts: its term where its flag is 1, and else nothing
 module _ (call : Call) (hap mask : List ℕ) (h : ℕ) where
-  pub share_counted : (q o y : ℤ) → CallIn call hap mask → get_or mask call.variant 0 ≡ 1 → q ≡ call.qual → o ≡ call.one_minus_qual → y ≡ cond (eqb call.allele (allele_on hap h call.variant)) o q
+  pub share_counted : (q o y : ℤ) → CallIn call hap mask → get_or mask call.variant 0 ≡ 1 → q ≡ call.qual → o ≡ call.one_minus_qual → y ≡ call_term (record { variant = call.variant; allele = call.allele; qual = q; one_minus_qual = o }) (allele_on hap h call.variant)
       → (y ≡ call_share (flagged mask) (allele_on hap h) call) × (nat_abs y ≤ 262144)
   unfolding flagged call_term
   share_counted q o y k e eq eo ey =

@@ -1,6 +1,7 @@
 // Likelihoods of the reads on the two haplotypes, from the rows by fragment.
-ghost use Rattle.std.specs.Prelude.{◌≡◌, cond, ◌*◌, ◌<◌, ◌≤◌, eqb, nat_abs, length, get_or};
+ghost use Rattle.std.specs.Prelude.{◌≡◌, ◌*◌, ◌<◌, ◌≤◌, nat_abs, length, get_or};
 ghost use Rattle.pileup.specs.Inner.Packed.{group_start, row_from};
+ghost use Rattle.sweeps.specs.Sweeps.{call_term};
 ghost use Rattle.variants_and_fragments.specs.Written.{written};
 ghost use Rattle.likelihoods.specs.Inner.Likelihoods.{CallIn, CallsIn, EndsIn, LikelihoodsAre, row_call, flagged, allele_on, call_share, likelihood_at};
 
@@ -27,14 +28,14 @@ pub struct ReadRows<'a> {
     pub ghost ends_in: { EndsIn ends.now (length ends.now) },
 }
 
-// one_minus_qual on a match and qual otherwise.
-fn call_term(allele: usize, own: u8, qual: LogProb, one_minus_qual: LogProb) -> LogProb
-    ensures { result.0 ≡ cond (eqb allele own) one_minus_qual.0 qual.0 }
+// A row's one_minus_qual where it shows the allele `own`, and its qual otherwise.
+pub fn call_term(row: Row, own: usize) -> LogProb
+    ensures { result.0 ≡ call_term (row_call (row_from row)) own }
 {
-    if allele == own as usize {
-        one_minus_qual
+    if row.allele == own {
+        row.one_minus_qual
     } else {
-        qual
+        row.qual
     }
 }
 
@@ -57,7 +58,12 @@ impl ReadRows<'_> {
         let flag = self.mask[v];
         let qual = weighed(flag, row.qual);
         let one_minus_qual = weighed(flag, row.one_minus_qual);
-        let y = call_term(row.allele, self.hap[2 * v + h], qual, one_minus_qual);
+        let held = Row {
+            qual,
+            one_minus_qual,
+            ..row
+        };
+        let y = call_term(held, self.hap[2 * v + h] as usize);
         let counts = flag == 1;
         if counts { y } else { LogProb(0) }
     }

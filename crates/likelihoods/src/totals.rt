@@ -28,7 +28,8 @@ impl PairPriors<'_> {
         requires { v < length self.now.ks.now }
         ensures { (result.0 ≡ prior_share self.now.ks.now self.now.pri.now self.now.hap.now self.now.mask.now v) × (nat_abs result.0 ≤ 2 ^ 21) }
     {
-        if self.mask[v] == 1 {
+        let counts = self.mask[v] == 1;
+        if counts {
             let k = self.ks[v] as usize;
             let i = self.hap[2 * v] as usize;
             let j = self.hap[2 * v + 1] as usize;

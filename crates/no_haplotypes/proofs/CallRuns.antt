@@ -1,22 +1,20 @@
 -- All variants called, one after the other: what is written so far, and the priors that still stand in their places.
 -- Assumes nothing.
-use mathlib.Core.Path.{◌≡◌, refl, ap, ◌∙◌}
-use mathlib.Core.List.{List, []}
-use Prim.Native.Nat.{ℕ, ◌+◌, ◌*◌, ◌/◌, ◌%◌, ◌≤◌, ◌<◌}
-use native.Mathlib.Omega.{arith}
-use lib.Ieee.{Float}
-use lib.IntN.{ℤ, pos, nat_abs}
-use lib.ListN.{length, get_or}
+use Rattle.std.proofs.Common.{◌≡◌, List, ℕ, ◌+◌, ◌-◌, ◌*◌, ◌/◌, ◌%◌, ◌≤◌, ◌<◌, Float, ℤ, pos, nat_abs, length, get_or, set, take, drop, refl, sym, ap, ◌∙◌, arith, length-take, length-drop}
+use Rattle.std.proofs.lemmas.List.{get_or-take, get_or-drop}
+use borrow.Rule.Slice.PartMut.{put_mid}
 use Rattle.variants_and_fragments.specs.declared.Sizes.{Sizes}
 use Rattle.variants_and_fragments.specs.Decode.{decode}
 use Rattle.variants_and_fragments.specs.Layout.{allele_count_at}
 use Rattle.variants_and_fragments.specs.Written.{written}
 use Rattle.variants_and_fragments.specs.Inner.Written.{written_from}
-use Rattle.variants_and_fragments.proofs.Written.{written_on, written_length, from_after}
+use Rattle.variants_and_fragments.proofs.Written.{written_on, from_after}
 use Rattle.genotype_probs.specs.Posteriors.{qual_of}
+use Rattle.genotype_probs.proofs.NinePlaces.{mid_length, mid_after, lent_written}
+use Rattle.no_haplotypes.specs.declared.answer.Answer.{Answer}
 use Rattle.no_haplotypes.specs.NoHaplotypes.{answer_from, gq_from}
-use Rattle.no_haplotypes.specs.Inner.Tally.{PriorsAt}
-use Rattle.no_haplotypes.specs.Inner.Calling.{PriorsIn, made_from, VariantCalled, VariantsCalled}
+use Rattle.no_haplotypes.specs.Inner.Tally.{NinePriors}
+use Rattle.no_haplotypes.specs.Inner.Calling.{PriorsIn, made_from, made_at, VariantCalled, VariantsCalled}
 use Rattle.no_haplotypes.proofs.CallLaws.{made_same}
 
 -- the variants before v are called
@@ -36,40 +34,41 @@ calling_start = record {
 }
 
 module _ {w : List ℤ} {s : Sizes} {post₀ variants₀ : List ℤ} {quals₀ gqs₀ : List Float} {v : ℕ} {post variants : List ℤ} {quals gqs : List Float} (c : CallingTo w s post₀ variants₀ quals₀ gqs₀ v post variants quals gqs) where
-  -- the lent slices are as long as they were
-  pub variants_long : length variants ≡ length variants₀
-  variants_long = ap length (c.called.variants_are []) ∙ written_length _ (13 * v) variants₀
+  -- the nine places of v, as they are lent
+  abbrev pub own : List ℤ
+  own = take (9 * v + 9 - 9 * v) (drop (9 * v) post)
 
-  pub quals_long : length quals ≡ length quals₀
-  quals_long = ap length (c.called.quals_are []) ∙ written_length _ v quals₀
+  own_at : (p : ℕ) → p < 9 → get_or own p (pos 0) ≡ get_or post₀ (9 * v + p) (pos 0)
+  own_at p h = get_or-take (9 * v + 9 - 9 * v) (drop (9 * v) post) p (pos 0) (omega arith) ∙ get_or-drop (9 * v) post p (pos 0) ∙ c.rest (9 * v + p) (omega arith)
 
-  pub gqs_long : length gqs ≡ length gqs₀
-  gqs_long = ap length (c.called.gqs_are []) ∙ written_length _ v gqs₀
-
-  pub priors_at : PriorsIn post₀ s.n → v < s.n → PriorsAt post (9 * v)
-  priors_at p h = record {
-    room = omega (arith, c.long, p.room);
-    small = λ q l. omega (arith, ap nat_abs (c.rest (9 * v + q) (omega arith)), p.small (9 * v + q) (omega arith));
+  pub nine_priors : PriorsIn post₀ s.n → v < s.n → NinePriors own
+  nine_priors p h = record {
+    size = simp (length-take, length-drop) (omega (arith, c.long, p.room));
+    small = λ q l. omega (arith, ap nat_abs (own_at q l), p.small (9 * v + q) (omega arith));
   }
 
-  pub calling_on : {post' variants' : List ℤ} {quals' gqs' : List Float} → v < s.n → length post' ≡ length post → VariantCalled w v post variants quals gqs post' variants' quals' gqs' → CallingTo w s post₀ variants₀ quals₀ gqs₀ (v + 1) post' variants' quals' gqs'
-  calling_on h l f =
-      let n = allele_count_at w v in
-      let same : (b : List ℕ) → made_from w post b v ≡ made_from w post₀ b v = λ b. made_same w post post₀ b v (λ p m. c.rest (9 * v + p) (omega arith)) in
+  pub calling_on : (after : List ℤ) {answer : Answer} → v < s.n → 9 * s.n ≤ length post → 13 * s.n ≤ length variants → length after ≡ 9 → VariantCalled w v own answer
+      → CallingTo w s post₀ variants₀ quals₀ gqs₀ (v + 1) (put_mid (9 * v) (9 * v + 9 - 9 * v) post after) (put_mid (13 * v) (13 * v + 13 - 13 * v) variants answer.words) (set quals v answer.qual.0) (set gqs v answer.gq.0)
+  calling_on after {answer} h room long nine f =
+      let k = allele_count_at w v in
+      let same : (b : List ℕ) → made_from w own b v ≡ made_at w post₀ b v = λ b. made_same w own (drop (9 * v) post₀) b v (λ p m. own_at p m ∙ sym (get_or-drop (9 * v) post₀ p (pos 0))) in
+      let n : 9 * v + 9 - 9 * v ≡ 9 = omega arith in
+      let m : 13 * v + 13 - 13 * v ≡ 13 = omega arith in
       let z : 13 * v + 13 ≡ 13 * (v + 1) = omega arith in
       record {
         inside = omega arith;
-        long = l ∙ c.long;
-        rest = λ e m. f.past e (omega arith) ∙ c.rest e (omega arith);
+        long = rw n (mid_length (9 * v) 9 post after (omega arith) nine) ∙ c.long;
+        rest = λ e l. rw n (mid_after (9 * v) 9 post after (omega arith) nine e (pos 0) (omega arith)) ∙ c.rest e (omega arith);
         called = record {
           variants_are = λ b.
-              let g : ℕ → ℤ = λ e. answer_from (made_from w post₀ b (e / 13)) (allele_count_at w (e / 13)) (decode w b) (e / 13) (e % 13) in
-              f.variants_are b
-              ∙ ap (written_from (answer_from (made_from w post b v) n (decode w b) v) (13 * v) 13) (c.called.variants_are b)
-              ∙ from_after g (answer_from (made_from w post b v) n (decode w b) v) (13 * v) 13 variants₀ (λ p m. let q : (13 * v + p) / 13 ≡ v = omega arith in let r : (13 * v + p) % 13 ≡ p = omega arith in rw (q, r, same b))
-              ∙ ap (λ (k : ℕ). written g k variants₀) z;
-          quals_are = λ b. f.quals_are b ∙ written_on (λ u. qual_of (made_from w post₀ b u)) v quals₀ quals (qual_of (made_from w post b v)) (c.called.quals_are b) (ap qual_of (same b));
-          gqs_are = λ b. f.gqs_are b ∙ written_on (λ u. gq_from (made_from w post₀ b u) (allele_count_at w u)) v gqs₀ gqs (gq_from (made_from w post b v) n) (c.called.gqs_are b) (ap (λ (m : List ℤ). gq_from m n) (same b));
+              let g : ℕ → ℤ = λ e. answer_from (made_at w post₀ b (e / 13)) (allele_count_at w (e / 13)) (decode w b) (e / 13) (e % 13) in
+              let one : ℕ → ℤ = answer_from (made_from w own b v) k (decode w b) v in
+              rw m (lent_written one (13 * v) 13 variants answer.words (omega arith) (f.words_are b))
+              ∙ ap (written_from one (13 * v) 13) (c.called.variants_are b)
+              ∙ from_after g one (13 * v) 13 variants₀ (λ p l. let q : (13 * v + p) / 13 ≡ v = omega arith in let r : (13 * v + p) % 13 ≡ p = omega arith in rw (q, r, same b))
+              ∙ ap (λ (j : ℕ). written g j variants₀) z;
+          quals_are = λ b. written_on (λ u. qual_of (made_at w post₀ b u)) v quals₀ quals answer.qual.0 (c.called.quals_are b) (f.qual_is b ∙ ap qual_of (same b));
+          gqs_are = λ b. written_on (λ u. gq_from (made_at w post₀ b u) (allele_count_at w u)) v gqs₀ gqs answer.gq.0 (c.called.gqs_are b) (f.gq_is b ∙ ap (λ (l : List ℤ). gq_from l k) (same b));
         };
       }
 

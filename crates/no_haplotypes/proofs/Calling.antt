@@ -1,74 +1,86 @@
 -- Calling an accepted case: its piles, its priors, and that what is made from them are the posteriors of the definition.
 -- Assumes nothing.
-use mathlib.Core.Path.{◌≡◌, refl, sym, ap, ◌∙◌}
-use mathlib.Core.List.{List, []}
-use Prim.Native.Nat.{ℕ, ◌+◌, ◌*◌, ◌/◌, ◌%◌, ◌^◌, ◌≤◌, ◌<◌}
-use native.Mathlib.Omega.{arith}
-use lib.Dec.{eqb, ltb}
-use lib.Ieee.{Float}
-use lib.IntN.{ℤ, pos, nat_abs}
-use lib.ListN.{length, get_or, drop}
-use lib.Seq.{get_or-drop}
+use Rattle.std.proofs.Common.{◌≡◌, List, [], map, ℕ, ◌+◌, ◌-◌, ◌*◌, ◌/◌, ◌%◌, ◌^◌, ◌≤◌, ◌<◌, ltb, Float, ℤ, pos, nat_abs, length, get_or, drop, sym, ap, ◌∙◌, arith, length-take}
+use Rattle.std.proofs.lemmas.List.{length-map, get_or-map, get_or-drop, drop-take}
 use Rattle.steps.proofs.Signed.{by_test}
 use Rattle.variants_and_fragments.specs.declared.Sizes.{Sizes}
 use Rattle.variants_and_fragments.specs.Inner.Accepted.{CaseIn}
-use Rattle.variants_and_fragments.specs.Case.{Case, Variant, Call, allele_count, variant_of, call_count}
-use Rattle.variants_and_fragments.specs.Check.{check_case_outcome}
+use Rattle.variants_and_fragments.specs.Inner.Case.{All}
+use Rattle.variants_and_fragments.specs.Case.{Variant, allele_count, variant_of}
 use Rattle.variants_and_fragments.specs.Decode.{decode}
 use Rattle.variants_and_fragments.specs.Layout.{allele_count_at}
-use Rattle.variants_and_fragments.specs.Pileup.{only, pile_of}
-use Rattle.variants_and_fragments.specs.Refusals.{done}
+use Rattle.variants_and_fragments.specs.Pileup.{pile_of}
+use Rattle.variants_and_fragments.specs.Visits.{Visit, visits, visited}
 use Rattle.variants_and_fragments.specs.Written.{written}
+use Rattle.variants_and_fragments.proofs.Alls.{all_at, all_imp}
 use Rattle.variants_and_fragments.proofs.Decoded.{allele_count_is}
-use Rattle.variants_and_fragments.proofs.GoodCases.{good_case}
-use Rattle.variants_and_fragments.proofs.Sums.{count_le}
-use Rattle.variants_and_fragments.proofs.Only.{only_length}
+use Rattle.variants_and_fragments.proofs.Sums.{count_to_on, count_to_grows}
+use Rattle.variants_and_fragments.proofs.Visits.{visits_top}
 use Rattle.variants_and_fragments.proofs.Written.{written_at, written_length, written_same}
-use Rattle.pileup.specs.Inner.Packed.{Grouped}
-use Rattle.pileup.proofs.CaseRows.{piles_are}
-use Rattle.pileup.proofs.Groups.{group_rows, group_in}
+use Rattle.pileup.specs.Inner.Collected.{collected}
+use Rattle.pileup.specs.Inner.Packed.{RowIn, unpacked, group_start, Grouped}
+use Rattle.pileup.specs.Inner.Piles.{CallsPiled}
+use Rattle.pileup.proofs.CaseRows.{piles_are, ambiguous_collected}
+use Rattle.pileup.proofs.Groups.{unpack_all}
+use Rattle.pileup.proofs.Packing.{in_packable}
 use Rattle.genotype_probs.specs.declared.Rates.{Rates}
 use Rattle.genotype_probs.specs.Priors.{all_priors, prior_at}
 use Rattle.genotype_probs.specs.Inner.Rates.{rates_fault}
 use Rattle.genotype_probs.proofs.PriorSizes.{prior_small}
 use Rattle.genotype_probs.proofs.TableSizes.{by_cond}
 use Rattle.genotype_probs.proofs.TableSums.{tabulate_cong}
-use Rattle.no_haplotypes.specs.NoHaplotypes.{pair_score, score_at, posteriors, calls_at, variant_answer, answer_at, qual_at, gq_at}
+use Rattle.no_haplotypes.specs.NoHaplotypes.{pair_score, score_at, posteriors, variant_answer, answer_at, qual_at, gq_at}
+use Rattle.no_haplotypes.specs.Inner.Piles.{pile_words, CallsHeld, Piled}
 use Rattle.no_haplotypes.specs.Inner.Tally.{scored_from, posteriors_from}
-use Rattle.no_haplotypes.specs.Inner.Calling.{FewCalls, Piled, pile_at, PileHeld, made_from, PriorsIn, VariantsCalled, AcceptedCalled}
-use Rattle.no_haplotypes.proofs.CountLaws.{all_calls}
+use Rattle.no_haplotypes.specs.Inner.Calling.{made_at, PriorsIn, VariantsCalled, AcceptedCalled}
 
--- ---- how many calls
-calls_of : (case : Case) (v : ℕ) → calls_at case v ≤ call_count case
-unfolding calls_at
-calls_of case v =
-    count_le case.fragments (λ fragment. length (only (λ (call : Call). eqb call.variant v) fragment.calls)) (λ fragment. length fragment.calls) (λ fragment. only_length (λ (call : Call). eqb call.variant v) fragment.calls)
+-- ---- the calls of each variant, as the walk leaves them
+module _ {w : List ℤ} {s : Sizes} (k : CaseIn w s) {rows row_ends ambiguous ends piles : List ℕ} {count : ℕ} (made : CallsPiled w s rows row_ends ambiguous piles ends count) (long : s.n ≤ length ambiguous) where
+  grouped : (b : List ℕ) → Grouped s.n s.f s.n (pile_of (decode w b)) ends piles
+  grouped b = piles_are k b made.piles_made
 
--- the calls do not go by the bases
-same_calls : (w : List ℤ) (b other : List ℕ) (v : ℕ) → calls_at (decode w b) v ≡ calls_at (decode w other) v
-unfolding calls_at decode
-same_calls w b other v = refl
+  module _ (v : ℕ) (h : v < s.n) where
+    abbrev lent : List ℕ
+    lent = pile_words ends piles v
 
-pub few_calls : (w : List ℤ) (b : List ℕ) (s : Sizes) → check_case_outcome w b ≡ done s → FewCalls w
-few_calls w b s h other v = omega (arith, same_calls w other b v, calls_of (decode w b) v, (good_case w b s h).calls_top)
+    rows_lent : (b : List ℕ) → map unpacked lent ≡ pile_of (decode w b) v
+    rows_lent b =
+        let g = grouped b in
+        let d : group_start ends v + (get_or ends v 0 - group_start ends v) ≡ get_or ends v 0 = omega (arith, g.rises v h) in
+        ap (map unpacked) (sym (rw d at (drop-take (group_start ends v) (get_or ends v 0 - group_start ends v) piles)) ∙ g.are v h)
+        ∙ unpack_all (all_imp (λ row r. in_packable k.sized.n_top k.sized.f_top r) (g.rows_in v h))
 
--- ---- the pile of a variant
-module _ {w : List ℤ} {s : Sizes} {ambiguous ends piles : List ℕ} (p : Piled w s ambiguous ends piles) (v : ℕ) (h : v < s.n) where
-  abbrev grouped : (b : List ℕ) → Grouped s.n s.f s.n (pile_of (decode w b)) ends piles
-  grouped b = piles_are p.case_in b p.piles_made
+    row_lent : (i : ℕ) → i < length lent → RowIn s.n s.f (unpacked (get_or lent i 0))
+    row_lent i l =
+        let rows : All (RowIn s.n s.f) (map unpacked lent) = rw (rows_lent []) ((grouped []).rows_in v h) in
+        rw (get_or-map unpacked lent i 0 (unpacked 0) l) at (all_at rows i (unpacked 0) (rw length-map l))
 
-  pub pile_held : PileHeld w s piles v (pile_at ambiguous ends v)
-  pile_held =
-      let z = p.case_in.sized in
-      record {
-        case_in = p.case_in;
-        variant_in = h;
-        pile_in = record { rises = (grouped []).rises v h; rows_in = group_in (grouped []) z.n_top z.f_top v h };
-        rows_are = λ b. group_rows (grouped b) z.n_top z.f_top v h;
-        rows_in = λ b. (grouped b).rows_in v h;
-        ambiguous_is = λ b. p.ambiguous_are b v h;
-        ambiguous_few = omega (arith, p.ambiguous_are [] v h, all_calls (decode w []) v, p.few [] v);
-      }
+    ambiguous_at : get_or ambiguous v 0 ≡ (collected w s).ambiguous v
+    ambiguous_at = made.rows_made.ambiguous_counted.at v (omega arith)
+
+    few_ambiguous : get_or ambiguous v 0 ≤ 16384
+    unfolding visited
+    few_ambiguous =
+        omega (arith, ambiguous_at, count_to_on v (collected w s).ambiguous, count_to_grows (v + 1) s.n (collected w s).ambiguous (omega arith), made.rows_made.all_calls, length-map (visits w s) (λ (x : Visit). x.number), visits_top w s k s.f (omega arith), k.sized.used_top, k.sized.c_top)
+
+    calls_held : CallsHeld w s v lent (get_or ambiguous v 0)
+    calls_held = record {
+      variant_in = h;
+      few = rw length-take (omega (arith, (grouped []).few v h));
+      rows_are = rows_lent;
+      rows_in = row_lent;
+      ambiguous_is = λ b. ambiguous_at ∙ ambiguous_collected k b v;
+      ambiguous_few = few_ambiguous;
+    }
+
+  pub piled : Piled w s ambiguous ends piles
+  piled = record {
+    ends_long = (grouped []).ends_long;
+    ambiguous_long = long;
+    rises = (grouped []).rises;
+    words_long = (grouped []).long;
+    held = calls_held;
+  }
 
 -- ---- the priors
 all_small : (rates : Rates) → rates_fault rates ≡ 7 → (variant : Variant) (p : ℕ) → nat_abs (all_priors rates variant p) ≤ 2 ^ 21
@@ -106,7 +118,7 @@ module _ {w : List ℤ} {s : Sizes} (b : List ℕ) (rates : Rates) (before post 
         (λ t. let d = rw t at (prior_of p l) in rw (count_here, t, d))
         (λ t. rw (count_here, t))
 
-    pub made_is : made_from w post b v ≡ posteriors rates (decode w b) v
+    pub made_is : made_at w post b v ≡ posteriors rates (decode w b) v
     unfolding posteriors_from posteriors
     made_is = rw (tabulate_cong 9 (scored_from (drop (9 * v) post) (allele_count_at w v) (pile_of (decode w b) v)) (score_at rates (decode w b) v) score_is, count_here)
 

@@ -3,7 +3,6 @@ pub mod Counts
 pub mod TallyLaws
 pub mod ScoreLaws
 pub mod PosteriorLaws
-pub mod AnswerLaws
 pub mod CallLaws
 pub mod CallRuns
 pub mod Calling

@@ -14,6 +14,7 @@ use Rattle.variants_and_fragments.specs.Pileup.{Row}
 use Rattle.variants_and_fragments.specs.Sums.{sum_over}
 use Rattle.variants_and_fragments.proofs.Sums.{sum_over_cong}
 use Rattle.genotype_probs.proofs.ListLaws.{sum_plus}
+use Rattle.no_haplotypes.specs.declared.tally.Tally.{Tally}
 use Rattle.no_haplotypes.specs.NoHaplotypes.{call_score}
 use Rattle.steps.specs.Logs.{mix_of}
 use Rattle.no_haplotypes.specs.Inner.Tally.{row_qual, both_gain, one_gain, gain_at, Tallied, pair_gain}
@@ -42,12 +43,12 @@ module _ (row : Row) where
   ]
 
 -- ---- all calls of a pile
-module _ {w : List ℤ} {s : Sizes} {rows : List Row} {total : ℤ} {gains : List ℤ} {counts : List ℕ} (t : Tallied w s rows total gains counts) where
-  pub pair_is : (i j : ℕ) → i < 3 → j < 3 → pair_gain total gains i j ≡ sum_over rows (λ row. call_score i j row.call)
+module _ {w : List ℤ} {s : Sizes} {rows : List Row} {t : Tally} (made : Tallied w s rows t) where
+  pub pair_is : (i j : ℕ) → i < 3 → j < 3 → pair_gain t i j ≡ sum_over rows (λ row. call_score i j row.call)
   unfolding pair_gain
   pair_is i j h l = elim (ℕ_discrete i j) [
-    | yes e ↦ rw (← e, eq-eqb i i refl, t.total_is, t.both_are i h) (sym (sum_over_cong rows (λ row. call_score i i row.call) (λ row. row_qual row +ℤ gain_at both_gain i row) (λ row. both_match row i) ∙ sum_plus rows row_qual (gain_at both_gain i)))
-    | no n ↦ rw (ne_eqb i j n, t.total_is, t.one_are i h, t.one_are j l)
+    | yes e ↦ rw (← e, eq-eqb i i refl, made.total_is, made.both_are i h) (sym (sum_over_cong rows (λ row. call_score i i row.call) (λ row. row_qual row +ℤ gain_at both_gain i row) (λ row. both_match row i) ∙ sum_plus rows row_qual (gain_at both_gain i)))
+    | no n ↦ rw (ne_eqb i j n, made.total_is, made.one_are i h, made.one_are j l)
         (sym (sum_over_cong rows (λ row. call_score i j row.call) (λ row. row_qual row +ℤ gain_at one_gain i row +ℤ gain_at one_gain j row) (λ row. one_match row i j n)
         ∙ sum_plus rows (λ row. row_qual row +ℤ gain_at one_gain i row) (gain_at one_gain j)
         ∙ ap (λ (z : ℤ). z +ℤ sum_over rows (gain_at one_gain j)) (sum_plus rows row_qual (gain_at one_gain i))))

@@ -1,14 +1,24 @@
-// The 13 words of one variant.
-ghost use Rattle.std.specs.Prelude.{◌≡◌, ◌+◌, ◌*◌, ◌<◌, ◌≤◌, pos, length, get_or};
-ghost use Rattle.variants_and_fragments.specs.Inner.Accepted.{CaseIn};
-ghost use Rattle.variants_and_fragments.specs.Layout.{depth_at};
-ghost use Rattle.variants_and_fragments.specs.Inner.Written.{written_from};
-ghost use Rattle.no_haplotypes.specs.Inner.Calling.{answer_values, WordsIn, larger};
+// What is called of one variant: its 13 words and its two qualities.
+ghost use Rattle.std.specs.Prelude.{◌≡◌, List, ℕ, ◌<◌, pos, map};
+ghost use Rattle.variants_and_fragments.specs.Decode.{decode};
+ghost use Rattle.no_haplotypes.specs.NoHaplotypes.{depth_after};
+ghost use Rattle.no_haplotypes.specs.Inner.Tally.{NinePriors};
+ghost use Rattle.no_haplotypes.specs.Inner.Calling.{answer_values, VariantCalled};
 
-use genotype_probs::posteriors::Genotype;
-use variants_and_fragments::{Sizes, layout};
+use crate::calls::Calls;
+use crate::tally::{Summed, Tally};
+use genotype_probs::posteriors::{Genotype, Table, normalize};
+use steps::PHREDProb;
 
-// A number as a word.
+// The words are genotype, counts, forward and reverse counts, ambiguous count and depth.
+#[derive(Clone, Copy)]
+pub struct Answer {
+    pub words: [i32; 13],
+    pub qual: PHREDProb,
+    pub gq: PHREDProb,
+}
+
+// A number as a word. `as`, since no number that comes here is too large, and a `try_from` would have to say what it is then.
 fn word_of(x: usize) -> i32
     requires { x < 2147483648 }
     ensures { result ≡ pos x }
@@ -16,56 +26,51 @@ fn word_of(x: usize) -> i32
     x as i32
 }
 
-// Number p of the 13 of a variant; the counts stand by strand and allele.
-fn answer_value(g: Genotype, counts: &[usize; 6], ambiguous: usize, depth: usize, p: usize) -> usize
-    requires { WordsIn counts.now ambiguous depth × (p < 13) }
-    ensures { (result ≡ get_or (answer_values g counts.now ambiguous depth) p 0) × (result < 2147483648) }
-{
-    if p == 0 {
-        return g.0 as usize;
-    }
-    if p == 1 {
-        return g.1 as usize;
-    }
-    if p < 5 {
-        return counts[p - 2] + counts[p + 1];
-    }
-    if p < 11 {
-        return counts[p - 5];
-    }
-    if p == 11 {
-        return ambiguous;
-    }
-    depth
-}
-
-// Writes the 13 words of v. At the loop's head the first p are written.
-pub fn write_answer(
-    g: Genotype,
-    counts: &[usize; 6],
-    ambiguous: usize,
-    depth: usize,
-    variants: &mut [i32],
-    v: usize,
-)
-    requires { WordsIn counts.now ambiguous depth × (v < 1024) × (13 * v + 13 ≤ length variants.old) }
-    ensures { variants.new ≡ written_from (λ p. pos (get_or (answer_values g counts.now ambiguous depth) p 0)) (13 * v) 13 variants.old }
-{
-    let mut p = 0;
-    while p < 13 {
-        variants[13 * v + p] = word_of(answer_value(g, counts, ambiguous, depth, p));
-        p += 1;
+impl Summed<'_> {
+    // The 13 words, where g is the genotype.
+    fn words(&self, g: Genotype) -> [i32; 13]
+        ensures { (b : List ℕ) → result ≡ map pos (answer_values g self.now.tally.counts self.now.calls.ambiguous (depth_after (decode self.now.calls.case.laid.words.now b) self.now.calls.v)) }
+    {
+        let counts = &self.tally.counts;
+        let forward = [counts[0], counts[1], counts[2]];
+        let reverse = [counts[3], counts[4], counts[5]];
+        [
+            i32::from(g.0),
+            i32::from(g.1),
+            word_of(forward[0] + reverse[0]),
+            word_of(forward[1] + reverse[1]),
+            word_of(forward[2] + reverse[2]),
+            word_of(forward[0]),
+            word_of(forward[1]),
+            word_of(forward[2]),
+            word_of(reverse[0]),
+            word_of(reverse[1]),
+            word_of(reverse[2]),
+            word_of(self.calls.ambiguous),
+            word_of(self.calls.depth_after()),
+        ]
     }
 }
 
-// The larger of v's depth in the case and the number of its calls, usable and ambiguous.
-pub fn depth_after(words: &[i32], s: Sizes, calls: usize, v: usize) -> usize
-    requires { CaseIn words.now s × (v < s.n) × (calls < 2147483648) }
-    ensures { (result ≡ larger (depth_at words.now v) calls) × (result < 2147483648) }
-{
-    let dp = layout::depth_of(words, s, v);
-    if dp < calls {
-        return calls;
+impl Calls<'_> {
+    // Calls the variant. Its nine places hold its priors, and then its posteriors.
+    pub fn answer(&self, post: &mut [i64]) -> Answer
+        requires { NinePriors post.old }
+        ensures { VariantCalled self.now.case.laid.words.now self.now.v post.old result }
+    {
+        let summed = Summed {
+            calls: *self,
+            tally: Tally::of(self),
+        };
+        let k = self.case.laid.allele_count(self.v);
+        summed.score(post, k);
+        normalize(post, k);
+        let table = Table { post, k };
+        let p = table.max_genotype(false);
+        Answer {
+            words: summed.words(table.genotype(p)),
+            qual: table.qual(),
+            gq: table.gq(p),
+        }
     }
-    dp
 }

@@ -1,82 +1,87 @@
-// What one pass over a variant's pile adds up: the qualities, what each allele gains on them, and the calls by strand and allele.
-ghost use Rattle.std.specs.Prelude.{◌≡◌, ◌<◌, ◌≤◌, ◌^◌, ◌+◌, pos, nat_abs, length, get_or, set};
-ghost use Rattle.variants_and_fragments.specs.Inner.Accepted.{CaseIn};
-ghost use Rattle.pileup.specs.Inner.Packed.{row_at, RowIn};
-ghost use Rattle.no_haplotypes.specs.Inner.Tally.{added, pile_rows, PileIn, GainsIn, CountsIn, CallAdded, Untouched, Tallied};
+// What one pass over a variant's calls adds up: the qualities, what each allele gains on them, and the calls by strand and allele.
+ghost use Rattle.std.specs.Prelude.{◌≡◌, ◌*◌, ◌/◌, ◌%◌, ◌<◌, ◌≤◌, ◌^◌, ℕ, pos, nat_abs, ◌+ℤ◌, map, get_or};
+ghost use Rattle.pileup.specs.Inner.Packed.{RowIn, row_from, unpacked};
+ghost use Rattle.no_haplotypes.specs.Inner.Tally.{SumsIn, CallAdded, Tallied, pair_gain, NinePriors};
 
-use pileup::row::unpack;
+use crate::calls::Calls;
+use pileup::row::Row;
 use steps::LogProb;
-use variants_and_fragments::{Sizes, layout};
+use variants_and_fragments::Case;
+use variants_and_fragments::layout::direction_of;
 
-// A variant's pile: where its rows start and end among the words, and how many calls at the variant are ambiguous.
+// The sum of qual; what allele x gains on it in place x where both alleles of a pair match, and in place 3 + x where one does; and the calls that
+// show it, forward in place x and reverse in place 3 + x.
 #[derive(Clone, Copy)]
-pub struct Pile {
-    pub start: usize,
-    pub end: usize,
-    pub ambiguous: usize,
+pub struct Tally {
+    pub total: LogProb,
+    pub gains: [i64; 6],
+    pub counts: [usize; 6],
 }
 
-// Adds a gain to place x.
-fn add_gain(gains: &mut [i64; 6], x: usize, gain: i64)
-    requires { (x < 6) × (nat_abs (get_or gains.old x (pos 0)) ≤ 2 ^ 40) × (nat_abs gain ≤ 2 ^ 40) }
-    ensures { gains.new ≡ added gains.old x gain }
-{
-    gains[x] = gains[x] + gain;
-}
-
-// Counts one more in place x.
-fn count_one(counts: &mut [usize; 6], x: usize)
-    requires { (x < 6) × (get_or counts.old x 0 ≤ 16384) }
-    ensures { counts.new ≡ set counts.old x (get_or counts.old x 0 + 1) }
-{
-    counts[x] = counts[x] + 1;
-}
-
-// Adds the call at c to both gains of its allele, x and 3 + x, and to the counts; answers its qual.
-fn add_call(
-    words: &[i32],
-    s: Sizes,
-    piles: &[u64],
-    gains: &mut [i64; 6],
-    counts: &mut [usize; 6],
-    c: usize,
-) -> LogProb
-    requires case_in { CaseIn words.now s × (c < length piles.now) × RowIn s.n s.f (row_at piles.now c) }
-    requires gains_in { GainsIn gains.old × CountsIn counts.old }
-    ensures { CallAdded words.now s (row_at piles.now c) gains.old counts.old result.0 gains.new counts.new }
-{
-    let row = unpack(piles[c]);
-    let x = row.allele;
-    let q = row.qual.0;
-    let o = row.one_minus_qual.0;
-    let m = row.qual.mix(row.one_minus_qual).0;
-    let strand = layout::direction_of(layout::strand_of(words, s, row.fragment));
-    add_gain(gains, x, o - q);
-    add_gain(gains, 3 + x, m - q);
-    count_one(counts, 3 * strand + x);
-    row.qual
-}
-
-// Adds up a pile; answers the sum of qual. At the loop's head the calls before c are added.
-pub fn tally(
-    words: &[i32],
-    s: Sizes,
-    piles: &[u64],
-    pile: Pile,
-    gains: &mut [i64; 6],
-    counts: &mut [usize; 6],
-) -> LogProb
-    requires case_in { CaseIn words.now s × PileIn s piles.now pile }
-    requires untouched { Untouched gains.old counts.old }
-    ensures { Tallied words.now s (pile_rows piles.now pile) result.0 gains.new counts.new }
-{
-    let e = pile.end;
-    let mut total = LogProb::ln_one();
-    let mut c = pile.start;
-    while c < e {
-        let q = add_call(words, s, piles, gains, counts, c);
-        total = LogProb(total.0 + q.0);
-        c += 1;
+impl Tally {
+    // Adds one call.
+    fn add(&mut self, case: &Case<'_>, row: Row)
+        requires row_in { RowIn case.now.laid.sizes.n case.now.laid.sizes.f (row_from row) }
+        requires sums_in { SumsIn self.old }
+        ensures { CallAdded case.now.laid.words.now case.now.laid.sizes (row_from row) self.old self.new }
+    {
+        let x = row.allele;
+        let q = row.qual.0;
+        let both = row.one_minus_qual.0 - q;
+        let one = row.qual.mix(row.one_minus_qual).0 - q;
+        let strand = direction_of(case.laid.strand(row.fragment));
+        self.total.0 += q;
+        self.gains[x] += both;
+        self.gains[3 + x] += one;
+        self.counts[3 * strand + x] += 1;
     }
-    total
+
+    // Adds up a variant's calls.
+    pub fn of(calls: &Calls<'_>) -> Tally
+        ensures { Tallied calls.now.case.laid.words.now calls.now.case.laid.sizes (map unpacked calls.now.usable.now) result }
+    {
+        let mut tally = Tally {
+            total: LogProb(0),
+            gains: [0; 6],
+            counts: [0; 6],
+        };
+        for word in calls.usable {
+            tally.add(&calls.case, Row::unpack(*word));
+        }
+        tally
+    }
+}
+
+// A variant's calls, and what they add up to.
+#[derive(Clone, Copy)]
+pub struct Summed<'a> {
+    pub calls: Calls<'a>,
+    pub tally: Tally,
+    pub ghost tallied: { Tallied calls.case.laid.words.now calls.case.laid.sizes (map unpacked calls.usable.now) tally },
+    pub ghost sums_in: { SumsIn tally },
+}
+
+impl Summed<'_> {
+    // What the calls add to the prior of the pair (i, j).
+    fn pair_gain(&self, i: usize, j: usize) -> LogProb
+        requires { (i < 3) × (j < 3) }
+        ensures { (result.0 ≡ pair_gain self.now.tally i j) × (nat_abs result.0 ≤ 2 ^ 36) }
+    {
+        let total = self.tally.total.0;
+        let gains = &self.tally.gains;
+        if i == j {
+            return LogProb(total + gains[i]);
+        }
+        LogProb(total + gains[3 + i] + gains[3 + j])
+    }
+
+    // Adds what the calls add to each of the k × k priors of the variant.
+    pub fn score(&self, post: &mut [i64], k: usize)
+        requires { (1 ≤ k) × (k ≤ 3) × NinePriors post.old }
+        ensures { (p : ℕ) → p < k * k → get_or post.new p (pos 0) ≡ get_or post.old p (pos 0) +ℤ pair_gain self.now.tally (p / k) (p % k) }
+    {
+        for p in 0..k * k {
+            post[p] += self.pair_gain(p / k, p % k).0;
+        }
+    }
 }

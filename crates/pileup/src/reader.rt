@@ -16,13 +16,13 @@ pub struct Call {
     pub one_minus_qual: i32,
 }
 
-// A reader of a chain, seen as the calls that are left: the words, the number of the next record, where 0 ends the chain, and the record after the
-// last one read, which is mostly the next.
+// A reader of a chain, seen as the calls that are left: the words, and the number of the next record, where 0 ends the chain. `guess` is the record
+// after the last one read, which is mostly the next.
 #[derive(Drop)]
 pub struct ChainReader<'a> {
     laid: Laid<'a>,
+    guess: usize,
     next: usize,
-    after: usize,
 }
 
 impl<'a> Model for ChainReader<'a> {
@@ -34,7 +34,7 @@ impl<'a> Model for ChainReader<'a> {
 
     ghost view = { λ reader. calls_left reader.laid.words.now reader.laid.sizes reader.next };
 
-    ghost invariant = { λ reader. Readable reader.laid.words.now reader.laid.sizes reader.next × (1 ≤ reader.after) };
+    ghost invariant = { λ reader. Readable reader.laid.words.now reader.laid.sizes reader.next × (1 ≤ reader.guess) };
 }
 
 impl<'a> ChainReader<'a> {
@@ -45,8 +45,8 @@ impl<'a> ChainReader<'a> {
     {
         ChainReader {
             laid: case.laid,
+            guess: 1,
             next: case.laid.first_call(f),
-            after: 1,
         }
     }
 }
@@ -58,10 +58,10 @@ impl<'a> Iterator for ChainReader<'a> {
 
     ghost remaining = { item_count (λ calls. calls) };
 
-    // A chain mostly goes on at the record after: the arm of its own lets the machine guess that and run ahead, where `r = self.next` waits for the
-    // word.
+    // The arm of its own for a right guess lets the machine run ahead, where `r = self.next` waits for the word; it is kept while `guess` stands before
+    // `next`, above and here (docs/DECISIONS.md, "A chain mostly goes on at the next record").
     fn next(&mut self) -> Option<Call> {
-        let mut r = self.after;
+        let mut r = self.guess;
         if self.next != r {
             let ended = self.next == 0;
             if ended {
@@ -69,7 +69,7 @@ impl<'a> Iterator for ChainReader<'a> {
             }
             r = self.next;
         }
-        self.after = r + 1;
+        self.guess = r + 1;
         self.next = self.laid.next_call(r);
         Some(call_at(&self.laid, r))
     }

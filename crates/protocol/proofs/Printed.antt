@@ -4,7 +4,7 @@ use mathlib.Core.Bool.{false≢true}
 use native.Mathlib.Nat.{pow-succ'}
 use Rattle.protocol.specs.Text.{is_digit, all_digits, is_numeral, value_of, integer, int_of}
 use Rattle.protocol.specs.Inner.Print.{decimal_from, decimal_of, signed_of}
-use Rattle.protocol.proofs.Readings.{both, digit_low}
+use Rattle.protocol.proofs.Digits.{both, digit_low}
 
 digit : (d : ℕ) → d < 10 → is_digit (48 + d) ≡ true
 unfolding is_digit

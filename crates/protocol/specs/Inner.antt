@@ -1,3 +1,6 @@
 pub mod State
+pub mod Reads
+pub mod Tokens
 pub mod Print
 pub mod Input
+pub mod Word

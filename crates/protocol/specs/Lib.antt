@@ -1,4 +1,3 @@
 -- The definitions that the contracts of the text of the request stream cite.
 pub mod Text
-pub mod Word
 pub mod Inner

@@ -1,150 +1,100 @@
-// Standard output through a buffer: `used` of its bytes wait to be written. Each function takes the
-// count and answers the new one.
-ghost use Rattle.std.specs.Prelude.{◌≡◌, ◌≤◌};
+// Standard output through a buffer.
+ghost use Rattle.std.specs.Prelude.{◌≡◌, ◌≤◌, [], ◌∷◌, take};
+ghost use Rattle.protocol.specs.declared.TheConstants.{BUFFER_BYTES};
+ghost use Rattle.protocol.specs.Inner.Print.{EndsIn};
 
-use crate::number::widened;
-use crate::{Sink, print};
-use std::io::Write;
+use crate::print::ToText;
+use crate::{BUFFER_BYTES, Buffer};
+use std::io;
+use std::io::{Stdout, Write};
 
-// Writes out the bytes that wait, and answers 0. After a write that failed nothing is written.
-pub fn flush(output: &mut Sink, used: usize) -> usize
-    ensures { result ≡ 0 }
-{
-    if output.is_whole() {
-        if used <= output.bytes.len() {
-            output.outcome = output.stdout.write_all(&output.bytes[..used]);
+// The bytes that may wait while there is room for any number.
+const ROOM: usize = 65500;
+
+// Standard output, the buffer of its bytes, of which the first `used` wait to be written, and whether a write failed,
+// after which none is tried. std's `BufWriter` allocates, and this program has no heap.
+#[derive(Drop)]
+pub struct Writer {
+    stdout: Stdout,
+    bytes: Buffer,
+    used: usize,
+    outcome: io::Result<()>,
+    ghost fits: { used ≤ BUFFER_BYTES },
+}
+
+impl Writer {
+    pub fn new(stdout: Stdout) -> Writer {
+        Writer {
+            stdout,
+            bytes: [0; BUFFER_BYTES],
+            used: 0,
+            outcome: Ok(()),
         }
     }
-    0
-}
 
-// The count after which there is room for any number: the bytes that wait are written out where there is none.
-fn room(output: &mut Sink, used: usize) -> usize
-    ensures { result ≤ 65500 }
-{
-    if used > 65500 {
-        flush(output, used)
-    } else {
-        used
+    // Whether no write failed.
+    pub fn is_whole(&self) -> bool {
+        self.outcome.is_ok()
     }
-}
 
-// One byte.
-pub fn byte(output: &mut Sink, used: usize, b: u8) -> usize {
-    let at = room(output, used);
-    output.bytes[at] = b;
-    at + 1
-}
-
-// A text.
-pub fn text(output: &mut Sink, used: usize, bytes: &[u8]) -> usize {
-    let mut at = used;
-    let mut i: usize = 0;
-    while i < bytes.len() {
-        at = byte(output, at, bytes[i]);
-        i += 1;
+    // The error of the write that failed.
+    pub fn finish(self) -> io::Result<()> {
+        self.outcome
     }
-    at
-}
 
-// A number that is not below 0.
-pub fn natural(output: &mut Sink, used: usize, x: u64) -> usize {
-    let at = room(output, used);
-    print::put_u64(&mut output.bytes, at, x)
-}
-
-// A signed number.
-pub fn integer(output: &mut Sink, used: usize, x: i64) -> usize {
-    let at = room(output, used);
-    print::put_i64(&mut output.bytes, at, x)
-}
-
-// An f64, as its pattern.
-pub fn float(output: &mut Sink, used: usize, x: f64) -> usize {
-    let at = room(output, used);
-    print::put_f64(&mut output.bytes, at, x)
-}
-
-// What stands in front of the i-th number of a line: one space, and nothing in front of the first.
-fn space(output: &mut Sink, used: usize, i: usize) -> usize {
-    if i == 0 {
-        used
-    } else {
-        byte(output, used, b' ')
+    // Writes out the bytes that wait. After a write that failed nothing is written.
+    pub fn flush(&mut self)
+        ensures { self.new.used ≡ 0 }
+    {
+        if self.is_whole() {
+            self.outcome = self.stdout.write_all(&self.bytes[..self.used]);
+        }
+        self.used = 0;
     }
-}
 
-// A line of the elements of xs, with one space between two. At the loop's head i of them are printed.
-pub fn line_u8(output: &mut Sink, used: usize, xs: &[u8]) -> usize {
-    let mut at = used;
-    let mut i: usize = 0;
-    while i < xs.len() {
-        let x = xs[i];
-        at = space(output, at, i);
-        at = natural(output, at, from_u8(x));
-        i += 1;
+    // Sees to it that there is room for any number: the bytes that wait are written out where there is none.
+    fn make_room(&mut self)
+        ensures { self.new.used ≤ ROOM }
+    {
+        if self.used > ROOM {
+            self.flush();
+        }
     }
-    byte(output, at, b'\n')
-}
 
-// A line of the elements of xs, with one space between two. At the loop's head i of them are printed.
-pub fn line_u32(output: &mut Sink, used: usize, xs: &[u32]) -> usize {
-    let mut at = used;
-    let mut i: usize = 0;
-    while i < xs.len() {
-        let x = xs[i];
-        at = space(output, at, i);
-        at = natural(output, at, from_u32(x));
-        i += 1;
+    // One byte.
+    pub fn byte(&mut self, b: u8)
+        ensures { EndsIn (take self.new.used self.new.bytes) (b ∷ []) }
+    {
+        self.make_room();
+        self.bytes[self.used] = b;
+        self.used += 1;
     }
-    byte(output, at, b'\n')
-}
 
-// A line of the elements of xs, with one space between two. At the loop's head i of them are printed.
-pub fn line_i32(output: &mut Sink, used: usize, xs: &[i32]) -> usize {
-    let mut at = used;
-    let mut i: usize = 0;
-    while i < xs.len() {
-        let x = xs[i];
-        at = space(output, at, i);
-        at = integer(output, at, widened(x));
-        i += 1;
+    // A text.
+    pub fn text(&mut self, bytes: &[u8]) {
+        for b in bytes {
+            self.byte(*b);
+        }
     }
-    byte(output, at, b'\n')
-}
 
-// A line of the elements of xs, with one space between two. At the loop's head i of them are printed.
-pub fn line_i64(output: &mut Sink, used: usize, xs: &[i64]) -> usize {
-    let mut at = used;
-    let mut i: usize = 0;
-    while i < xs.len() {
-        let x = xs[i];
-        at = space(output, at, i);
-        at = integer(output, at, x);
-        i += 1;
+    // A number.
+    pub fn number<T: ToText>(&mut self, x: T)
+        ensures { EndsIn (take self.new.used self.new.bytes) (T.text x) }
+    {
+        self.make_room();
+        self.used = x.put(&mut self.bytes, self.used);
     }
-    byte(output, at, b'\n')
-}
 
-// A line of the elements of xs, with one space between two. At the loop's head i of them are printed.
-pub fn line_f64(output: &mut Sink, used: usize, xs: &[f64]) -> usize {
-    let mut at = used;
-    let mut i: usize = 0;
-    while i < xs.len() {
-        let x = xs[i];
-        at = space(output, at, i);
-        at = float(output, at, x);
-        i += 1;
+    // A line of the elements of xs, with one space between two.
+    pub fn line<T: ToText>(&mut self, xs: &[T])
+        ensures { EndsIn (take self.new.used self.new.bytes) (10 ∷ []) }
+    {
+        for (i, x) in xs.iter().enumerate() {
+            if i > 0 {
+                self.byte(b' ');
+            }
+            self.number(*x);
+        }
+        self.byte(b'\n');
     }
-    byte(output, at, b'\n')
-}
-
-// The same number as a u64.
-fn from_u8(x: u8) -> u64 {
-    x as u64
-}
-
-// The same number as a u64.
-fn from_u32(x: u32) -> u64 {
-    x as u64
 }

@@ -1,63 +1,100 @@
 // Decimal text put into a lent buffer.
-ghost use Rattle.std.specs.Prelude.{◌≡◌, ◌+◌, ◌≤◌, length, to_bits, unsigned_abs};
+ghost use Rattle.std.specs.Prelude.{◌≡◌, ℕ, ◌+◌, ◌≤◌, List, length, pos, to_bits};
 ghost use Rattle.std.proofs.Math.Seq.{paste};
 ghost use Rattle.std.specs.Float.{binary64};
 ghost use Rattle.protocol.specs.Inner.Print.{Put, decimal_of, signed_of};
 
 use crate::float;
 
+// A type whose values are printed as numbers.
+pub trait ToText: Copy {
+    // The text of a value.
+    ghost text: { Self → List ℕ };
+
+    // Puts the text into out from at on, and answers where it ends.
+    fn put(self, out: &mut [u8], at: usize) -> usize
+        requires { at + 21 ≤ length out.old }
+        ensures { Put out.old at (text self) out.new result };
+}
+
+impl ToText for u8 {
+    ghost text = { decimal_of };
+
+    fn put(self, out: &mut [u8], at: usize) -> usize {
+        put_u64(out, at, u64::from(self))
+    }
+}
+
+impl ToText for u32 {
+    ghost text = { decimal_of };
+
+    fn put(self, out: &mut [u8], at: usize) -> usize {
+        put_u64(out, at, u64::from(self))
+    }
+}
+
+impl ToText for u64 {
+    ghost text = { decimal_of };
+
+    fn put(self, out: &mut [u8], at: usize) -> usize {
+        put_u64(out, at, self)
+    }
+}
+
+impl ToText for usize {
+    ghost text = { decimal_of };
+
+    fn put(self, out: &mut [u8], at: usize) -> usize {
+        put_u64(out, at, self as u64)
+    }
+}
+
+impl ToText for i32 {
+    ghost text = { signed_of };
+
+    fn put(self, out: &mut [u8], at: usize) -> usize {
+        put_i64(out, at, i64::from(self))
+    }
+}
+
+impl ToText for i64 {
+    ghost text = { signed_of };
+
+    fn put(self, out: &mut [u8], at: usize) -> usize {
+        put_i64(out, at, self)
+    }
+}
+
+// Its pattern.
+impl ToText for f64 {
+    ghost text = { λ x. decimal_of (to_bits binary64 x) };
+
+    fn put(self, out: &mut [u8], at: usize) -> usize {
+        put_u64(out, at, float::pattern(self))
+    }
+}
+
 // Puts x's decimal text into out from at on, and answers where it ends.
-pub fn put_u64(out: &mut [u8], at: usize, x: u64) -> usize
+fn put_u64(out: &mut [u8], at: usize, x: u64) -> usize
     requires { at + 20 ≤ length out.old }
     ensures { Put out.old at (decimal_of x) out.new result }
 {
     let mut digits = itoa::Buffer::new();
-    let text = digits.format(x);
-    copy(text.as_bytes(), out, at);
-    at + text.len()
+    let text = digits.format(x).as_bytes();
+    let end = at + text.len();
+    out[at..end].copy_from_slice(text);
+    end
 }
 
 // The same for a signed number: a `-` in front of a negative one.
-pub fn put_i64(out: &mut [u8], at: usize, x: i64) -> usize
+fn put_i64(out: &mut [u8], at: usize, x: i64) -> usize
     requires { at + 21 ≤ length out.old }
     ensures { Put out.old at (signed_of x) out.new result }
 {
     if x < 0 {
         out[at] = b'-';
-        put_u64(out, at + 1, magnitude(x))
+        put_u64(out, at + 1, x.unsigned_abs())
     } else {
-        put_u64(out, at, magnitude(x))
-    }
-}
-
-// The same for an f64: its pattern.
-pub fn put_f64(out: &mut [u8], at: usize, x: f64) -> usize
-    requires { at + 20 ≤ length out.old }
-    ensures { Put out.old at (decimal_of (to_bits binary64 x)) out.new result }
-{
-    put_u64(out, at, float::pattern(x))
-}
-
-// |x|.
-fn magnitude(x: i64) -> u64
-    ensures { result ≡ unsigned_abs x }
-{
-    if x < 0 {
-        let below = -(x + 1);
-        below as u64 + 1
-    } else {
-        x as u64
-    }
-}
-
-// Copies text into out from at on. At the loop's head i bytes are there.
-fn copy(text: &[u8], out: &mut [u8], at: usize)
-    requires { at + length text.now ≤ length out.old }
-    ensures { out.new ≡ paste out.old at text.now (length text.now) }
-{
-    let mut i: usize = 0;
-    while i < text.len() {
-        out[at + i] = text[i];
-        i += 1;
+        put_u64(out, at, x.unsigned_abs())
     }
 }

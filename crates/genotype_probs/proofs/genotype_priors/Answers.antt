@@ -1,5 +1,5 @@
 -- Each way out is a line of the table, or the priors written.
-use Rattle.std.proofs.Common.{◌≡◌, ◌*◌, length, sym, ap, ◌∙◌}
+use Rattle.std.proofs.Common.{sym, ◌∙◌}
 use Rattle.std.proofs.lemmas.Result.{err_from_is_err_and}
 use Rattle.variants_and_fragments.proofs.Decoded.{variants_are}
 use Rattle.variants_and_fragments.proofs.Outcomes.{case_stops, case_past, each_stops, each_passes, enough_past, promise_refused, promise_done}

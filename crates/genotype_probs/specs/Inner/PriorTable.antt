@@ -4,10 +4,9 @@ use Rattle.std.specs.Prelude.{cond, List, ℕ, zero, suc, ◌+◌, ◌*◌, ◌/
 use Rattle.variants_and_fragments.specs.Case.{Variant, allele_of}
 use Rattle.variants_and_fragments.specs.Decode.{tabulate}
 use Rattle.genotype_probs.specs.declared.Rates.{Rates}
-use Rattle.genotype_probs.specs.declared.letters.Compared.{Compared}
 use Rattle.genotype_probs.specs.Rates.{ts_rate, tv_rate}
-use Rattle.genotype_probs.specs.Letters.{Base, A, C, G, T, Letter, base, D, I, base_number, letter_number, Change, same, transition, transversion, indel, change}
-use Rattle.genotype_probs.specs.Priors.{ln_half, ln_quarter, diploid, base_at, Comparison, compared}
+use Rattle.genotype_probs.specs.Letters.{Base, A, C, G, T, Letter, base, D, I, base_number, letter_number, Change, same, transition, transversion, indel}
+use Rattle.genotype_probs.specs.Priors.{ln_half, ln_quarter, diploid, base_at, compared}
 
 -- the base and the letter of a number
 unfoldable pub numbered_base : ℕ → Base
@@ -23,14 +22,6 @@ numbered_letter (suc (suc zero)) = base G
 numbered_letter (suc (suc (suc zero))) = base T
 numbered_letter (suc (suc (suc (suc zero)))) = D
 numbered_letter (suc (suc (suc (suc (suc n))))) = I
-
--- what a comparison leaves, in numbers
-unfoldable pub numbered : Comparison → Compared
-numbered c = record { base = base_number c.ref; letter = letter_number c.letter }
-
--- what letter x is beside base b
-abbrev pub change_at : ℕ → ℕ → Change
-change_at b x = change (numbered_base b) (numbered_letter x)
 
 -- the value of one letter, where that of the reference base, the rate of another base and the rate of an indel are given
 unfoldable pub letter_value : Rates → ℤ → ℤ → ℤ → Change → ℤ
@@ -55,8 +46,8 @@ table_value table ref first second =
 unfoldable pub lookup : List ℤ → List ℕ → List ℕ → List ℕ → ℤ
 lookup table reference first second =
     let one = compared reference first (base_at reference 0) in
-    let two = compared reference second one.ref in
-    table_value table (base_number two.ref) (letter_number one.letter) (letter_number two.letter)
+    let two = compared reference second one.base in
+    table_value table (base_number two.base) (letter_number one.letter) (letter_number two.letter)
 
 -- `get_prior`, looked up
 unfoldable pub table_prior : List ℤ → Variant → ℕ → ℕ → ℤ

@@ -1,11 +1,9 @@
 -- Each way out is one line of the table, or the lines written: the rows that it makes are those of the case.
-use Rattle.std.proofs.Common.{◌≡◌, ◌≤◌, length, sym, ap, ◌∙◌, arith}
+use Rattle.std.proofs.Common.{sym, ap, ◌∙◌, arith}
 use Rattle.std.proofs.lemmas.Result.{err_from_is_err_and}
 use Rattle.variants_and_fragments.specs.Refusals.{done}
-use Rattle.variants_and_fragments.specs.Decode.{decode}
 use Rattle.variants_and_fragments.proofs.Outcomes.{case_stops, case_past, enough_stops, enough_passes, enough_fits, promise_refused, promise_done}
 use Rattle.variants_and_fragments.proofs.Short.{short_fits}
-use Rattle.haplotype_assembly.specs.Lines.{flist_buffer}
 use Rattle.haplotype_assembly.specs.FlistBuffer.{generate_flist_buffer_outcome}
 use Rattle.haplotype_assembly.proofs.LinesDecoded.{given, bytes_are, amount_is, buffer_written}
 use Rattle.haplotype_assembly.proofs.generate_flist_buffer.Goals as goal

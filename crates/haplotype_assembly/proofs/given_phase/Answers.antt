@@ -1,5 +1,5 @@
 -- Each way out is one line of the table, or what is written of an accepted case.
-use Rattle.std.proofs.Common.{◌≡◌, ◌*◌, sym, ◌∙◌, length, arith}
+use Rattle.std.proofs.Common.{sym, ◌∙◌, arith}
 use Rattle.std.proofs.lemmas.Result.{err_from_is_err_and}
 use Rattle.variants_and_fragments.proofs.Outcomes.{case_stops, case_past, enough_fits, promise_refused, promise_done}
 use Rattle.variants_and_fragments.proofs.Short.{short_fits}

@@ -1,11 +1,11 @@
 -- The counts as the code updates them, call by call. Assumes nothing.
-use Rattle.std.specs.Prelude.{◌≡◌, Bool, true, cond, ◌&&◌, List, [], ◌∷◌, ℕ, ◌+◌, ◌*◌, ◌≤◌, ◌<◌, ℤ, pos, nat_abs, ◌+ℤ◌, ◌-ℤ◌, length, get_or, set}
+use Rattle.std.specs.Prelude.{◌≡◌, Bool, true, cond, ◌&&◌, List, [], ◌∷◌, map, ℕ, zero, suc, ◌+◌, ◌*◌, ◌≤◌, ◌<◌, ℤ, pos, nat_abs, ◌+ℤ◌, ◌-ℤ◌, length, get_or, set}
 use Rattle.variants_and_fragments.specs.Case.{Fragment, Call, direction, usable}
 use Rattle.variants_and_fragments.specs.First.{holds_below}
 use Rattle.variants_and_fragments.specs.Words.{within}
 use Rattle.variants_and_fragments.specs.Written.{written}
 use Rattle.pileup.specs.declared.reader.Call.{Call as CallHeld}
-use Rattle.pileup.specs.Inner.Reader.{held_call}
+use Rattle.pileup.specs.Inner.Packed.{call_read}
 use Rattle.late_reads.specs.declared.counts.CountedCall.{CountedCall}
 use Rattle.late_reads.specs.Values.{max_count, read_count}
 
@@ -52,9 +52,18 @@ pub record Countable (counts : List ℤ) (d : ℤ) (call : CountedCall) : Type 0
 abbrev pub counted_call : ℤ → Fragment → Call → CountedCall
 counted_call cutoff x call = record { variant = call.variant; allele = call.allele; usable = usable cutoff x call }
 
--- a call that was read is counted so, for every read of this strand and every call that it holds
+-- a read of this strand and these calls
+abbrev pub read_of : ℕ → List CallHeld → Fragment
+read_of strand calls = record { present = true; strand = strand; calls = map call_read calls }
+
+-- a call that was read is counted so, for every read of this strand
 pub record CountedIs (cutoff : ℤ) (strand : ℕ) (held : CallHeld) (counted : CountedCall) : Type 0 where
-  pub is : (x : Fragment) (call : Call) → x.strand ≡ strand → held ≡ held_call call → counted ≡ counted_call cutoff x call
+  pub is : (x : Fragment) → x.strand ≡ strand → counted ≡ counted_call cutoff x (call_read held)
+
+-- variants below n that rise strictly, from b on, and alleles below 3
+pub data Rising (n : ℕ) : ℕ → List Call → Type 0 where
+  none : {b : ℕ} → Rising n b []
+  more : {b : ℕ} {call : Call} {calls : List Call} → b ≤ call.variant → call.variant < n → call.allele < 3 → Rising n (suc call.variant) calls → Rising n b (call ∷ calls)
 
 -- the calls of read x counted, one after the other
 unfoldable pub count_calls : ℤ → ℤ → Fragment → List Call → List ℤ → List ℤ
@@ -62,6 +71,15 @@ count_calls d cutoff x [] counts = counts
 count_calls d cutoff x (call ∷ calls) counts = count_calls d cutoff x calls (count_call d x.strand (counted_call cutoff x call) counts)
 
 -- ---- the counts afterwards, as `Values` says them, and their range
+-- n times d
+unfoldable pub times : ℤ → ℕ → ℤ
+times d zero = pos 0
+times d (suc n) = d +ℤ times d n
+
+-- d more for each call of read x
+abbrev pub counts_after : ℤ → ℤ → Fragment → ℕ → List ℤ → List ℤ
+counts_after d cutoff x n counts = written (λ e. get_or counts e (pos 0) +ℤ times d (read_count cutoff x e)) (10 * n) counts
+
 abbrev pub counts_arrived : ℤ → ℕ → Fragment → List ℤ → List ℤ
 counts_arrived cutoff n x counts = written (λ e. get_or counts e (pos 0) +ℤ pos (read_count cutoff x e)) (10 * n) counts
 
@@ -70,3 +88,9 @@ counts_departed cutoff n x counts = written (λ e. get_or counts e (pos 0) -ℤ 
 
 abbrev pub counts_fit : ℕ → List ℤ → Bool
 counts_fit n counts = holds_below (λ e. within (pos 0) (pos max_count) (get_or counts e (pos 0))) (10 * n)
+
+-- the counts of n variants are there and in range, and d is at most 1 either way
+pub record CountsLent (n : ℕ) (counts : List ℤ) (d : ℤ) : Type 0 where
+  pub long : 10 * n ≤ length counts
+  pub ranged : counts_fit n counts ≡ true
+  pub one : nat_abs d ≤ 1

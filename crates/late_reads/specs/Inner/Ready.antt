@@ -1,17 +1,19 @@
 -- What holds past each test of an arrival and a departure, and the values in terms of the words. Assumes nothing.
-use Rattle.std.specs.Prelude.{◌≡◌, true, false, not, cond, ◌&&◌, List, ℕ, ◌+◌, ◌*◌, ◌≤◌, ◌<◌, eqb, ltb, leb, ℤ, pos, length, get_or}
+use Rattle.std.specs.Prelude.{◌≡◌, true, false, not, cond, ◌&&◌, List, map, ℕ, ◌+◌, ◌-◌, ◌*◌, ◌≤◌, ◌<◌, eqb, ltb, leb, ℤ, pos, length, get_or}
 use Rattle.variants_and_fragments.specs.declared.Sizes.{Sizes}
 use Rattle.variants_and_fragments.specs.Case.{Fragment, Call, usable}
 use Rattle.variants_and_fragments.specs.Chain.{present_at}
-use Rattle.variants_and_fragments.specs.Decode.{fragment_from}
+use Rattle.variants_and_fragments.specs.Decode.{tabulate_from, fragment_from}
 use Rattle.variants_and_fragments.specs.Layout.{max_strand, cutoff_at}
 use Rattle.variants_and_fragments.specs.Refusals.{Outcome, done, unless, each, Promise}
 use Rattle.variants_and_fragments.specs.Words.{within}
 use Rattle.variants_and_fragments.specs.Inner.Accepted.{CaseIn}
+use Rattle.pileup.specs.declared.reader.Call.{Call as CallHeld}
+use Rattle.pileup.specs.Inner.Reader.{held_call}
 use Rattle.haplotype_assembly.specs.Inner.PhaseRead.{phased_at}
 use Rattle.sweeps.specs.Sweeps.{call_term}
 use Rattle.late_reads.specs.Values.{Values, in_range, Fixed, arrived, departed}
-use Rattle.late_reads.specs.Arriving.{arriving_words, whole_calls, arriving_read, arriving_ok, arriving_rises, room, arrived_words, departed_words}
+use Rattle.late_reads.specs.Arriving.{arriving_words, whole_calls, arriving_call, arriving_read, arriving_ok, arriving_rises, room, arrived_words, departed_words}
 use Rattle.late_reads.specs.LateReads.{LateAnswer, unsettled, LateSlices, late_slices}
 
 -- the case is accepted, with its phase bytes and haplotypes
@@ -36,6 +38,10 @@ pub record Arriving (w : List ℤ) (s : Sizes) (f : ℕ) (strand : ℤ) (calls :
   pub below : f < s.f
   pub absent : present_at w s f ≡ false
   pub fits : whole_calls calls ≤ length (room w s)
+
+-- the arriving calls from call i on, as the code holds them
+abbrev pub arriving_left : List ℤ → ℕ → List CallHeld
+arriving_left calls i = map held_call (tabulate_from (arriving_call calls) i (whole_calls calls - i))
 
 -- the tests of an arrival, in terms of the words
 unfoldable pub arriving_tests : List ℤ → Sizes → ℕ → ℤ → List ℤ → Outcome Sizes

@@ -1,33 +1,31 @@
--- How far a step of the reading is from the end of what may be read, what a reader says of a token, and what a read length says of its array. Assumes nothing.
-use Rattle.std.specs.Prelude.{◌≡◌, ℕ, suc, ◌+◌, ◌%◌, ◌^◌, ◌≤◌, false, cond, List, length, take, ◌==◌}
-use Rattle.protocol.specs.declared.input.Reader.{Reader}
+-- Where the reading stands: the bytes that may still be read, the lines, and the number of a token. Assumes nothing.
+use Rattle.std.specs.Prelude.{ℕ, suc, ◌+◌, ◌%◌, ◌^◌, cond, Option, Some, None, ◌==◌}
+use Rattle.protocol.specs.declared.input.Place.{Place}
 use Rattle.protocol.specs.declared.input.Reason.{Reason}
-use Rattle.protocol.specs.declared.input.Step.{Step}
+use Rattle.protocol.specs.declared.input.Unreadable.{Unreadable}
 
--- the bytes that may still be read after a step and one more, or 0 at the end
-abbrev pub ahead : Step → ℕ
-ahead s = cond s.more (suc s.cursor.left) 0
+-- the bytes that may still be read after a byte and one more, or 0 at the end
+abbrev pub ahead : Option ℕ → ℕ → ℕ
+ahead None left = 0
+ahead (Some b) left = suc left
 
 -- the line of the byte after the byte b of a line: a line feed (10) ends its line
-unfoldable pub line_after : ℕ → ℕ → ℕ
+abbrev pub line_after : ℕ → ℕ → ℕ
 line_after line b = cond (b == 10) ((line + 1) % 2 ^ 64) line
 
--- the number of the next token in its request; a reader that failed stays at the token that cannot be read
-unfoldable pub next_token : Reader → ℕ
-next_token r = cond r.ok ((r.token + 1) % 2 ^ 64) r.token
+-- the same after a byte or the end of the input, which ends no line
+abbrev pub line_below : ℕ → Option ℕ → ℕ
+line_below line None = line
+line_below line (Some b) = line_after line b
 
--- the reader after the token of this number and line, which the byte of the step ended
-unfoldable pub after_token : Reader → ℕ → ℕ → Step → Reader
-after_token r token line s =
-    record { cursor = s.cursor; line = line; below = line_after line s.byte; token = token; ok = r.ok; reason = r.reason }
+-- the number of the next token in its request
+abbrev pub next_token : ℕ → ℕ
+next_token token = (token + 1) % 2 ^ 64
 
--- the reader after a token that cannot be read; the first such token's place and reason stay
-unfoldable pub failed : Reader → Reason → Reader
-failed r reason =
-    cond r.ok
-    (record { cursor = r.cursor; line = r.line; below = r.below; token = r.token; ok = false; reason = reason })
-    r
+-- the place after the token of this number and line, which the byte `ended` ended, or the end of the input
+abbrev pub after_token : ℕ → ℕ → Option ℕ → Place
+after_token token line ended = record { line = line; below = line_below line ended; token = token }
 
--- n counts elements at the front of xs. The second part follows from the first, and is what lending them asks.
-abbrev pub Counts : {A : Type 0} → ℕ → List A → Type 0
-Counts n xs = (n ≤ length xs) × (n ≡ length (take n xs))
+-- the token at a place, which cannot be read
+abbrev pub unreadable_at : Place → Reason → Unreadable
+unreadable_at p reason = record { line = p.line; token = p.token; reason = reason }

@@ -21,3 +21,7 @@ pub record Put (before : List ℕ) (at : ℕ) (text : List ℕ) (after : List �
   pub ends : next ≡ at + length text
   pub buffer : after ≡ paste before at text (length text)
   pub inside : next ≤ length before
+
+-- a text is the end of what waits
+abbrev pub EndsIn : List ℕ → List ℕ → Type 0
+EndsIn waits text = (front : List ℕ) × (waits ≡ front ++ text)

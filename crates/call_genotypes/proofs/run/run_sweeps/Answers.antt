@@ -1,10 +1,10 @@
 -- A sweep settles the run, or goes on with it, or the limit is met. Assumes nothing.
-use Rattle.std.proofs.Common.{arith}
+use Rattle.std.proofs.Common.{arith, rules}
 use Rattle.call_genotypes.proofs.Running.{running_start, running_sweep, running_step, run_settles, run_out}
 use Rattle.call_genotypes.proofs.run.run_sweeps.Goals as goal
 
 pub returns : goal.returns
-returns c C R = run_out R (c.loop-s.invariant C R) _ (omega arith) (omega arith) (cc)
+returns c C R = run_out R (c.loop-s.invariant C R) _ (omega arith) (omega arith) (search rules)
 
 pub returns-then-not-sweep : goal.returns-then-not-sweep
 returns-then-not-sweep c C R =

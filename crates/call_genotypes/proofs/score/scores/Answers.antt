@@ -1,5 +1,5 @@
 -- The rows are the variant's pile, and the scores from their sums are the case's. Assumes nothing.
-use Rattle.std.proofs.Common.{◌∙◌, w64, arith}
+use Rattle.std.proofs.Common.{◌∙◌, rules, w64, arith}
 use Rattle.steps.proofs.Signed.{read_back}
 use Rattle.call_genotypes.proofs.Turns.{turn_small}
 use Rattle.call_genotypes.proofs.Linked.{lik_within, pile_fits, scores_room, first_small, scored}
@@ -23,5 +23,5 @@ below_first-base-requires c =
 
 pub returns : goal.returns
 returns c C S =
-    scored S c.pile.result.now c.pair_at-old.result c.turns_of-turns.result c.score_calls-acc.result _ _ c.pile.ensures c.pair_at-old.ensures c.turns_of-turns.ensures c.score_calls-acc.ensures
+    scored S c.pile.result.now c.pair_at-old.result _ c.turns_of-turns.result c.score_calls-acc.result _ _ c.pile.ensures c.pair_at-old.ensures (search rules) c.turns_of-turns.ensures c.score_calls-acc.ensures
     (read_back w64 _ c.below_first-base.type_inv ∙ c.below_first-base.ensures.0) c.write_scores.ensures

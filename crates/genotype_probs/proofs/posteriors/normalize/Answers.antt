@@ -1,9 +1,9 @@
 -- An entry and the total are small; past the entries zeros are written.
-use Rattle.std.proofs.Common.{◌≡◌, ℕ, ◌+◌, ◌-◌, ◌*◌, ◌^◌, ◌<◌, ◌≤◌, ltb, List, ◌++◌, length, get_or, take, drop, ℤ, pos, nat_abs, ◌-ℤ◌, refl, sym, ap, ◌∙◌, arith, lt-ltb, le-ltb, length-append, length-take, length-drop, w64}
+use Rattle.std.proofs.Common.{◌≡◌, ℕ, ◌-◌, ◌*◌, ◌<◌, ◌≤◌, List, ◌++◌, length, get_or, take, drop, ℤ, pos, nat_abs, refl, ap, ◌∙◌, arith, lt-ltb, le-ltb, length-append, length-take, length-drop, w64}
 use Rattle.std.proofs.lemmas.List.{get_or_append_left, get_or-take}
 use borrow.Rule.Slice.PartMut.{post_of}
 use Rattle.steps.proofs.Signed.{minus_fits}
-use Rattle.genotype_probs.specs.Posteriors.{table_sum, normalized}
+use Rattle.genotype_probs.specs.Posteriors.{normalized}
 use Rattle.genotype_probs.specs.Inner.Posteriors.{TableIn}
 use Rattle.genotype_probs.proofs.AlleleLaws.{nine}
 use Rattle.genotype_probs.proofs.NinePlaces.{then_zeros}

@@ -1,11 +1,13 @@
 -- One more genotype is written; past them zeros are.
-use Rattle.std.proofs.Common.{◌≡◌, ◌≢◌, ℕ, ◌+◌, ◌-◌, ◌*◌, ◌<◌, ◌≤◌, length, get_or, take, drop, ℤ, pos, refl, sym, ◌∙◌, arith, rules, length-take, length-drop, w64, to_z, of_z}
+use Rattle.std.proofs.Common.{◌≡◌, ◌+◌, ◌-◌, ◌*◌, ◌<◌, length, take, drop, pos, refl, ◌∙◌, arith, rules, length-take, length-drop, w64, to_z, of_z}
 use lib.Seq.{get_or-set_same, get_or-set_other}
 use native.Mathlib.Decide.{ℕ_discrete}
 use Rattle.variants_and_fragments.specs.Decode.{variant_from}
 use Rattle.genotype_probs.specs.Priors.{all_priors}
-use Rattle.genotype_probs.proofs.AlleleLaws.{nine, place_is, past_places}
+use Rattle.genotype_probs.proofs.AlleleLaws.{nine, prior_is, place_is, past_places}
 use Rattle.genotype_probs.proofs.TableSums.{place_in}
+use Rattle.genotype_probs.specs.Inner.PriorTable.{prior_table}
+use Rattle.genotype_probs.proofs.HeldPriors.{table_holds}
 use Rattle.genotype_probs.proofs.NinePlaces.{then_zeros}
 use Rattle.genotype_probs.proofs.priors.get_all_priors.Goals as goal
 
@@ -18,7 +20,16 @@ loop-j-preserved c =
     let l = place_in i j k c.loop-i-test.true c.loop-j-test.true in
     let long : i * k + j < length c.loop-j.priors = omega (arith, c.loop-j.auto.priors, c.requires, nine k c.count-k.ensures.1) in
     let r : to_z w64 (of_z w64 c.get_prior.result.0) ≡ c.get_prior.result.0 = search rules in
-    let v = r ∙ c.get_prior.ensures ∙ place_is c.args.table.now.rates.rates x.case.now.laid.words.now x.case.now.bases.now x.v k c.count-k.ensures.0 i j c.loop-j-test.true l in
+    let rates = c.args.table.now.rates.rates in
+    let w = x.case.now.laid.words.now in
+    let b = x.case.now.bases.now in
+    let low = (x.case.now.case_in.variants.each x.v x.inside).k_low in
+    let n = c.count-k.ensures.0 in
+    let v = r
+    ∙ c.get_prior.ensures
+    ∙ prior_is (prior_table rates) w b x.v i j c.allele-reference.result.now c.allele-first.result.now c.allele.result.now (omega (arith, low)) (omega (arith, n, c.loop-i-test.true)) (omega (arith, n, c.loop-j-test.true)) c.allele-reference.ensures.0 c.allele-first.ensures.0 c.allele.ensures.0
+    ∙ table_holds rates (variant_from w b x.v) i j
+    ∙ place_is rates w b x.v k n i j c.loop-j-test.true l in
     λ p h. elim (ℕ_discrete p (i * k + j)) [
       | yes q ↦ rw q (get_or-set_same c.loop-j.priors (i * k + j) _ (pos 0) long ∙ v)
       | no q ↦ get_or-set_other c.loop-j.priors (i * k + j) p (to_z w64 (of_z w64 c.get_prior.result.0)) (pos 0) (λ e. q (omega arith)) ∙ c.loop-j.invariant p (omega arith)

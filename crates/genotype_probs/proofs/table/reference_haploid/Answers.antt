@@ -1,7 +1,6 @@
 -- The sum of two rates does not wrap, and is below 0.
-use Rattle.std.proofs.Common.{◌≡◌, ◌+◌, ◌<◌, ◌^◌, nat_abs, ◌+ℤ◌, ap, ◌∙◌, arith, w64}
+use Rattle.std.proofs.Common.{◌+◌, ◌<◌, ◌^◌, nat_abs, ap, ◌∙◌, arith, w64}
 use Rattle.steps.proofs.Signed.{plus_fits, plus_read, add_abs}
-use Rattle.genotype_probs.specs.declared.Rates.{Rates}
 use Rattle.genotype_probs.specs.declared.accepted.AcceptedRates.{AcceptedRates}
 use Rattle.genotype_probs.specs.Rates.{het_snv_rate, het_indel_rate}
 use Rattle.genotype_probs.specs.Priors.{one_minus_exp}

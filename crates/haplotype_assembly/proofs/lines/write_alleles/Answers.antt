@@ -1,4 +1,4 @@
-use Rattle.std.proofs.Common.{◌≡◌, [], ◌∷◌, ◌++◌, ap, ◌∙◌, arith}
+use Rattle.std.proofs.Common.{[], ◌∷◌, ◌++◌, ap, ◌∙◌, arith}
 use Rattle.haplotype_assembly.specs.Lines.{digit, block_start, allele_bytes}
 use Rattle.haplotype_assembly.specs.Inner.LinesRead.{call_of}
 use Rattle.haplotype_assembly.proofs.Gathered.{gather_room, gather_on, gather_end}

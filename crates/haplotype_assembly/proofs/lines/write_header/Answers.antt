@@ -6,29 +6,14 @@ use Rattle.haplotype_assembly.proofs.Pieces.{header_length}
 use Rattle.haplotype_assembly.proofs.Stores.{put_end, put_one, put_on}
 use Rattle.haplotype_assembly.proofs.lines.write_header.Goals as goal
 
-pub write_number-end-requires : goal.write_number-end-requires
-write_number-end-requires c = omega (arith, header_length c.args.head)
-
-pub bounds-buffer-end : goal.bounds-buffer-end
-bounds-buffer-end c = omega (arith, header_length c.args.head)
-
-pub overflow_add-end : goal.overflow_add-end
-overflow_add-end c = omega (arith, header_length c.args.head)
-
 pub write_number-end2-requires : goal.write_number-end2-requires
 write_number-end2-requires c = simp length-set (omega (arith, header_length c.args.head))
 
 pub bounds-buffer-end2 : goal.bounds-buffer-end2
 bounds-buffer-end2 c = omega (arith, header_length c.args.head, simp length-set at c.write_number-end2.auto.buffer)
 
-pub overflow_add-buffer : goal.overflow_add-buffer
-overflow_add-buffer c = omega (arith, header_length c.args.head)
-
 pub bounds-buffer-end2-2 : goal.bounds-buffer-end2-2
 bounds-buffer-end2-2 c = simp length-set (omega (arith, header_length c.args.head, simp length-set at c.write_number-end2.auto.buffer))
-
-pub overflow_add-result : goal.overflow_add-result
-overflow_add-result c = omega (arith, header_length c.args.head)
 
 pub returns : goal.returns
 unfolding header_of

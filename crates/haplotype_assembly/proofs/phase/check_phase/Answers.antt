@@ -1,5 +1,5 @@
 -- Each way out is one of number 7.
-use Rattle.std.proofs.Common.{◌≡◌, ℕ, ◌<◌, true, false, sym, ◌∙◌, get_or, below_none, below_more, rules, arith}
+use Rattle.std.proofs.Common.{◌≡◌, sym, ◌∙◌, get_or, below_more, rules, arith}
 use lib.IntN.{pos}
 use mir.Facts.{to_z-of_z}
 use mir.Syntax.{w32}
@@ -10,9 +10,6 @@ use Rattle.haplotype_assembly.proofs.phase.check_phase.Goals as goal
 
 pub returns-then-phase-n : goal.returns-then-phase-n
 returns-then-phase-n c = phase_length _ _ _ c.then-phase-n.either
-
-pub loop-v-init : goal.loop-v-init
-loop-v-init c = below_none _
 
 pub returns-then-not-set_ok : goal.returns-then-not-set_ok
 unfolding sets_ok

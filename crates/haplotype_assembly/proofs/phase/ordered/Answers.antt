@@ -1,5 +1,5 @@
 -- The smaller and the larger of two alleles, in the byte's order.
-use Rattle.std.proofs.Common.{◌≡◌, ◌≤◌, ℕ, min, max, ◌∙◌, arith}
+use Rattle.std.proofs.Common.{◌≡◌, ℕ, min, max, ◌∙◌, arith}
 use native.Mathlib.Decide.{dec_le}
 use borrow.Author.Tests.{le-leb, lt-leb, eq-eqb, ne_eqb}
 use Rattle.haplotype_assembly.specs.Phase.{low, high, ordered_first, ordered_second}

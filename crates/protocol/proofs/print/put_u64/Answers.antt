@@ -1,13 +1,13 @@
 -- `print::put_u64` meets its contract: what `itoa` writes is the decimal text, at most 20 bytes. Assumes nothing.
-use Rattle.std.proofs.Common.{List, ℕ, length, ap, ◌∙◌, arith}
-use Rattle.std.proofs.Math.Seq.{paste}
+use Rattle.std.proofs.Common.{length, ◌∙◌, refl, arith}
+use Rattle.std.proofs.lemmas.Slice.{put_mid-paste}
 use Rattle.protocol.proofs.Decimal.{put_text}
 use Rattle.protocol.proofs.print.put_u64.Goals as goal
 
 pub returns : goal.returns
 returns c =
-    let put = c.copy.ensures ∙ ap (λ (t : List ℕ). paste c.args.out.now c.args.at t (length t)) c.as_bytes.ensures.value in
-    put_text c.args.out.now c.format-text.result.now c.args.at c.args.x c.copy.new.out (omega (arith, c.ranges.x.fits))
-    c.format-text.ensures.text
-    (omega (arith, c.requires, c.format-text.ensures.fits))
-    put
+    let text = c.as_bytes-text.result.now in
+    put_text c.args.out.now text c.args.at c.args.x _ c.ranges.x.fits
+    (c.as_bytes-text.ensures.value ∙ c.format.ensures.text)
+    (omega (arith, c.requires, c.format.ensures.fits, c.as_bytes-text.ensures.len))
+    (put_mid-paste c.args.at _ c.args.out.now c.copy_from_slice.new.self text (length text) c.copy_from_slice.ensures.after (omega arith) refl)

@@ -1,7 +1,6 @@
 -- One more value looked at, which is greater or not.
-use Rattle.std.proofs.Common.{◌≡◌, ◌*◌, true, false, ℤ, sym, ap, ◌∙◌, arith}
+use Rattle.std.proofs.Common.{◌≡◌, ◌*◌, ap, ◌∙◌, arith}
 use Rattle.std.proofs.lemmas.Grind.{common_steps}
-use lib.Signed.{lt_z}
 use Rattle.genotype_probs.specs.Posteriors.{first_maximum, post_at, max_genotype}
 use Rattle.genotype_probs.proofs.TableSizes.{first_in}
 use Rattle.genotype_probs.proofs.Maxima.{maximum_one, maximum_more, maximum_kept, genotype_maximum, lt_test}

@@ -1,5 +1,5 @@
 -- `best` is the first maximum of the first p values, and `top` its value.
-use Rattle.std.proofs.Common.{◌≡◌, ◌<◌, ◌*◌}
+use Rattle.std.proofs.Common.{◌≡◌}
 use Rattle.genotype_probs.specs.Posteriors.{first_maximum, post_at}
 use Rattle.genotype_probs.proofs.posteriors.Table.max_genotype.Given as goal
 

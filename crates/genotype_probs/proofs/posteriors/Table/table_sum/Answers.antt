@@ -1,5 +1,5 @@
 -- One more row's sum on the way, and none left at the end.
-use Rattle.std.proofs.Common.{ℕ, ◌+◌, ◌^◌, ◌≤◌, nat_abs, ap, ◌∙◌, arith}
+use Rattle.std.proofs.Common.{◌+◌, ◌^◌, ◌≤◌, nat_abs, ap, ◌∙◌, arith}
 use Rattle.steps.specs.Logs.{add_exp}
 use Rattle.steps.proofs.Marks.{size_small, add_is}
 use Rattle.genotype_probs.specs.Posteriors.{row_sum, table_sum}

@@ -1,5 +1,5 @@
 -- The allele ends within the bases, and has one.
-use Rattle.std.proofs.Common.{◌+◌, ◌<◌, ◌≤◌, length, ap, arith}
+use Rattle.std.proofs.Common.{◌+◌, ap, arith}
 use Rattle.variants_and_fragments.proofs.Decoded.{allele_end}
 use Rattle.genotype_probs.proofs.AlleleLaws.{length_high, start_top, allele_within, allele_part, allele_there}
 use Rattle.genotype_probs.proofs.priors.VariantAlleles.allele.Goals as goal

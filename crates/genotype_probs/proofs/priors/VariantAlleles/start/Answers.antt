@@ -1,5 +1,5 @@
 -- One more allele's length on the way.
-use Rattle.std.proofs.Common.{◌+◌, ◌*◌, ◌<◌, ◌≤◌, sym, ap, ◌∙◌, arith, add-one}
+use Rattle.std.proofs.Common.{arith, add-one}
 use Rattle.variants_and_fragments.specs.Decode.{allele_start}
 use Rattle.genotype_probs.proofs.AlleleLaws.{length_high, start_top}
 use Rattle.genotype_probs.proofs.priors.VariantAlleles.start.Goals as goal

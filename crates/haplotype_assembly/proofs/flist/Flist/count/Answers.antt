@@ -1,8 +1,5 @@
-use Rattle.haplotype_assembly.proofs.Counting.{counted_start, counted_on, counted_end}
+use Rattle.haplotype_assembly.proofs.Counting.{counted_on, counted_end}
 use Rattle.haplotype_assembly.proofs.flist.Flist.count.Goals as goal
-
-pub loop-f-init : goal.loop-f-init
-loop-f-init c = counted_start _ _ _ _
 
 pub loop-f-preserved : goal.loop-f-preserved
 loop-f-preserved c = counted_on c.loop-f.invariant c.loop-f-test.true _ c.count_fragment-counted.ensures

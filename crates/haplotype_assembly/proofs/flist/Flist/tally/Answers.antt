@@ -1,4 +1,3 @@
-use Rattle.std.proofs.Common.{◌≤◌, length}
 use Rattle.haplotype_assembly.proofs.Tallies.{tallying_small, tallying_in, tallying_on, tallying_end}
 use Rattle.haplotype_assembly.proofs.flist.Flist.tally.Goals as goal
 

@@ -1,6 +1,4 @@
 -- No name is read before the first variant.
-use Rattle.std.proofs.Common.{◌≤◌, length, arith}
-use Rattle.std.proofs.lemmas.List.{get_or-replicate, length-replicate}
 use Rattle.haplotype_assembly.proofs.Names.{no_names}
 use Rattle.haplotype_assembly.proofs.phase.PhasedCase.least_names.Goals as goal
 

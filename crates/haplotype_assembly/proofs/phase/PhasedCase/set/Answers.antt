@@ -1,14 +1,10 @@
-use Rattle.std.proofs.Common.{◌≡◌, get_or, rules}
+use Rattle.std.proofs.Common.{get_or, rules}
 use lib.IntN.{pos}
 use mir.Facts.{to_z-of_z}
 use mir.Syntax.{w32}
 use mir.Val.{SFits}
 use Rattle.haplotype_assembly.proofs.Names.{set_in}
 use Rattle.haplotype_assembly.proofs.phase.PhasedCase.set.Goals as goal
-
-pub returns-clause-value : goal.returns-clause-value
-returns-clause-value c =
-    let f : SFits w32 (get_or c.args.self.now.sets.now c.args.v (pos 0)) = search rules in rw (to_z-of_z f) at c.set_of.ensures
 
 pub returns-clause-in_case : goal.returns-clause-in_case
 returns-clause-in_case c =

@@ -1,9 +1,9 @@
 -- The read's rows are there, and one more of them is added to either likelihood. Assumes nothing.
 use Rattle.std.proofs.Common.{◌≡◌, ◌-◌, ◌≤◌, get_or, sym, ap, ◌∙◌, subst, arith, rules, w64}
 use Rattle.steps.proofs.Signed.{plus_fits}
-use Rattle.pileup.specs.Inner.Packed.{group_start}
+use Rattle.pileup.specs.Inner.Packed.{group_start, row_from}
 use Rattle.variants_and_fragments.specs.Case.{Call}
-use Rattle.likelihoods.specs.Inner.Likelihoods.{CallIn, flagged, allele_on, call_share}
+use Rattle.likelihoods.specs.Inner.Likelihoods.{CallIn, row_call, flagged, allele_on, call_share}
 use Rattle.likelihoods.proofs.RunningSums.{running_start, running_more}
 use Rattle.likelihoods.proofs.CallShares.{read_rises, read_long, read_few, read_call, read_length, read_row, between_sum}
 use Rattle.likelihoods.proofs.likelihoods.ReadRows.read_likelihoods.Goals as goal
@@ -54,9 +54,12 @@ loop-word-preserved c =
     let s = c.args.self.now in
     let r = read_row s.calls_in s.ends_in c.args.f c.requires c.loop-word.word-index _ (rw c.group_start-a.ensures at c.loop-word-test.true) (rw c.group_start-a.ensures at c.unpack-row.ensures) in
     let few = read_few s.calls_in s.ends_in c.args.f c.requires in
+    let call = row_call (row_from c.unpack-row.result) in
+    let x : c.call_share.result.0 ≡ call_share (flagged s.mask.now) (allele_on s.hap.now 0) call = search rules in
+    let y : c.call_share-in-loop-word.result.0 ≡ call_share (flagged s.mask.now) (allele_on s.hap.now 1) call = search rules in
     record {
-      first = running_more _ _ _ _ _ c.loop-word.invariant.first (c.call_share.ensures.0 ∙ ap (call_share (flagged s.mask.now) (allele_on s.hap.now 0)) r.1) (omega (arith, c.call_share.ensures.1)) (omega (arith, r.0));
-      second = running_more _ _ _ _ _ c.loop-word.invariant.second (c.call_share-in-loop-word.ensures.0 ∙ ap (call_share (flagged s.mask.now) (allele_on s.hap.now 1)) r.1) (omega (arith, c.call_share-in-loop-word.ensures.1)) (omega (arith, r.0));
+      first = running_more _ _ _ _ _ c.loop-word.invariant.first (x ∙ ap (call_share (flagged s.mask.now) (allele_on s.hap.now 0)) r.1) (omega (arith, c.call_share.ensures.1)) (omega (arith, r.0));
+      second = running_more _ _ _ _ _ c.loop-word.invariant.second (y ∙ ap (call_share (flagged s.mask.now) (allele_on s.hap.now 1)) r.1) (omega (arith, c.call_share-in-loop-word.ensures.1)) (omega (arith, r.0));
     }
 
 pub returns : goal.returns

@@ -3,8 +3,8 @@ use Rattle.std.proofs.Common.{arith}
 use Rattle.likelihoods.proofs.TotalParts.{share_flagged, share_unflagged}
 use Rattle.likelihoods.proofs.totals.PairPriors.share.Goals as goal
 
-pub returns-then-self-v-eq1 : goal.returns-then-self-v-eq1
-returns-then-self-v-eq1 c = share_flagged c.args.self.now.priors_in _ c.requires (omega arith)
+pub returns-then-counts : goal.returns-then-counts
+returns-then-counts c = share_flagged c.args.self.now.priors_in _ c.requires (omega arith)
 
 pub returns : goal.returns
 returns c = share_unflagged c.args.self.now.priors_in _ c.requires (λ e. omega arith)

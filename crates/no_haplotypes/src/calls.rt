@@ -1,0 +1,54 @@
+// The calls of a variant, and the piles that they are read from.
+ghost use Rattle.std.specs.Prelude.{◌≡◌, List, ℕ, ◌<◌};
+ghost use Rattle.variants_and_fragments.specs.Decode.{decode};
+ghost use Rattle.no_haplotypes.specs.NoHaplotypes.{depth_after};
+ghost use Rattle.no_haplotypes.specs.Inner.Piles.{CallsHeld, Piled};
+
+use pileup::piles::group_start;
+use variants_and_fragments::Case;
+
+// The calls at variant v of a case: the usable ones, each as the word of its row, and how many more are ambiguous.
+#[derive(Clone, Copy)]
+pub struct Calls<'a> {
+    pub case: Case<'a>,
+    pub v: usize,
+    pub usable: &'a [u64],
+    pub ambiguous: usize,
+    pub ghost held: { CallsHeld case.laid.words.now case.laid.sizes v usable.now ambiguous },
+}
+
+impl Calls<'_> {
+    // The larger of the variant's depth in the case and the number of its calls, usable and ambiguous.
+    pub fn depth_after(&self) -> usize
+        ensures { ((b : List ℕ) → result ≡ depth_after (decode self.now.case.laid.words.now b) self.now.v) × (result < 2147483648) }
+    {
+        self.case
+            .depth(self.v)
+            .max(self.usable.len() + self.ambiguous)
+    }
+}
+
+// The usable calls of a case by variant, where those of each variant end, and how many at each are ambiguous.
+#[derive(Clone, Copy)]
+pub struct Piles<'a> {
+    pub case: Case<'a>,
+    pub words: &'a [u64],
+    pub ends: &'a [usize],
+    pub ambiguous: &'a [usize],
+    pub ghost piled: { Piled case.laid.words.now case.laid.sizes ambiguous.now ends.now words.now },
+}
+
+impl<'a> Piles<'a> {
+    // The calls at variant v.
+    pub fn calls(&self, v: usize) -> Calls<'a>
+        requires { v < self.now.case.laid.sizes.n }
+        ensures { (result.case ≡ self.now.case) × (result.v ≡ v) }
+    {
+        Calls {
+            case: self.case,
+            v,
+            usable: &self.words[group_start(self.ends, v)..self.ends[v]],
+            ambiguous: self.ambiguous[v],
+        }
+    }
+}

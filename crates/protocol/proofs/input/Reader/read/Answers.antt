@@ -1,0 +1,15 @@
+-- `Reader::read` meets its contract: the state of a token's bytes reads as the integer that they stand for. Assumes nothing.
+use Rattle.std.proofs.Common.{◌≡◌, Some, sym, ap, ◌∙◌, of_calls}
+use Rattle.protocol.specs.Inner.State.{start, pushed_all}
+use Rattle.protocol.proofs.Folds.{number_folds, value_read}
+use Rattle.protocol.proofs.input.Reader.read.Goals as goal
+
+pub returns-in-Some-Some-clause-value : goal.returns-in-Some-Some-clause-value
+returns-in-Some-Some-clause-value g c =
+    let t = g.T.FromToken in
+    let pushed = c.in-Some-Some.ensures.pushed in
+    let folds : Some c.in-Some-Some.number ≡ pushed_all (Some start) pushed.0 =
+    sym c.in-Some-Some.field-0-is
+    ∙ number_folds (λ s b u r. search of_calls) (Some c.new.result) pushed.0 c.in-Some-Some.field-0 pushed.1
+    ∙ ap (λ s. pushed_all (Some s) pushed.0) c.new.ensures in
+    value_read t.in_state t.of_reading g.met.T.FromToken.reads pushed.0 c.in-Some-Some.number folds c.from_number.result c.from_number.ensures c.unreadable.result c.ok_or.result c.ok_or.ensures.value
