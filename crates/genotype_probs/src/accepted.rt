@@ -57,7 +57,8 @@ impl Rates {
                 return Err(Refusal::Rates(place));
             }
         }
-        if self.rate_sum() < LogProb(0) {
+        let below = self.rate_sum() < LogProb(0);
+        if below {
             return Ok(AcceptedRates { rates: self });
         }
         Err(Refusal::Rates(6))

@@ -32,8 +32,8 @@ invariant_of-result c =
     let t : lt_z (rate_sum c.args.self) (pos 0) ≡ true = cc (lt_test (rate_sum c.args.self) (pos 0)) in
     record { accepted = all_accepted c.args.self (seven c.args.self c.loop-place.place c.loop-place.invariant c.loop-place-test.false t) }
 
-pub returns-then-lt-clause-outcome : goal.returns-then-lt-clause-outcome
-returns-then-lt-clause-outcome c =
+pub returns-then-below-clause-outcome : goal.returns-then-below-clause-outcome
+returns-then-below-clause-outcome c =
     let t : lt_z (rate_sum c.args.self) (pos 0) ≡ true = cc (lt_test (rate_sum c.args.self) (pos 0)) in
     each_holds 6 (rate_test c.args.self) 0 7 _ (λ j _ l. seven c.args.self c.loop-place.place c.loop-place.invariant c.loop-place-test.false t j l)
 
