@@ -9,7 +9,7 @@ use crate::arriving::{Arrival, test_arrival};
 use crate::counts::{count, fits};
 use crate::kept::check_kept;
 use crate::ranges::total_ok;
-use crate::reads::{moved, put_likelihoods};
+use crate::reads::{likelihoods_of, moved, put_likelihoods};
 use crate::words::{lay_arrival, lay_departure};
 use likelihoods::likelihoods::ReadLikelihoods;
 use pileup::reader::ChainReader;
@@ -84,9 +84,8 @@ pub fn depart(
         return Err(Refusal::Fragment(f));
     }
     let strand = case.laid.strand(f);
-    let first = LogProb(likelihoods[2 * f]);
-    let second = LogProb(likelihoods[2 * f + 1]);
-    let rest = moved(total, first.mix(second), -1);
+    let own = likelihoods_of(likelihoods, f);
+    let rest = moved(total, own.first.mix(own.second), -1);
     let in_range = total_ok(rest) & fits(case, strand, ChainReader::new(case, f), counts, -1);
     if !in_range {
         return Err(Refusal::Short(0));

@@ -1,15 +1,12 @@
 -- What is refused is refused by a test of the definition; past the tests the values and the words are written as it says.
-use Rattle.std.proofs.Common.{◌≡◌, ℕ, ◌<◌, ◌+◌, ◌*◌, ◌^◌, ◌≤◌, true, ℤ, pos, nat_abs, List, get_or, sym, ◌∙◌, arith, to_z, of_z, w64}
+use Rattle.std.proofs.Common.{◌≡◌, ◌+◌, ◌*◌, true, sym, ◌∙◌, arith}
 use Rattle.std.proofs.lemmas.Result.{err_from_is_err_and}
-use Rattle.steps.proofs.Signed.{read_small}
-use Rattle.variants_and_fragments.specs.declared.Sizes.{Sizes}
 use Rattle.variants_and_fragments.specs.declared.Refusal.TheVariants.{Fragment}
 use Rattle.variants_and_fragments.specs.Chain.{present_at}
 use Rattle.variants_and_fragments.specs.Refusals.{done}
 use Rattle.variants_and_fragments.proofs.Outcomes.{promise_refused}
 use Rattle.late_reads.specs.Values.{values}
 use Rattle.late_reads.specs.LateReads.{late_input, kept_outcome}
-use Rattle.late_reads.specs.Inner.Ready.{Kept}
 use Rattle.late_reads.proofs.KeptCase.{kept_past}
 use Rattle.late_reads.proofs.Moved.{total_less}
 use Rattle.late_reads.proofs.Promised.{depart_stops, depart_past, depart_not_there, depart_refuses, depart_updates}
@@ -26,20 +23,6 @@ ready c = sym c.in_ok-ready.ensures.outcome
 there : (c : Else-not-is_present) → present_at c.args.words.now c.in_ok-ready.ready.case.laid.sizes c.args.fragment ≡ true
 there c = rw c.in_ok-ready.ensures.lent.0 at (sym c.is_present.ensures ∙ c.if-not-is_present.false)
 
--- its lent likelihoods are small, and so are read as they are
-module _ (l : List ℤ) (f : ℕ) {w : List ℤ} {s : Sizes} {phase haps : List ℕ} {counts : List ℤ} {total : ℤ} (k : Kept w s phase haps (values l counts total)) (below : f < s.f) where
-  first_small : nat_abs (get_or l (2 * f) (pos 0)) ≤ 2 ^ 40
-  first_small = likelihood_small k (2 * f) (omega arith)
-
-  second_small : nat_abs (get_or l (2 * f + 1) (pos 0)) ≤ 2 ^ 40
-  second_small = likelihood_small k (2 * f + 1) (omega arith)
-
-  first_read : to_z w64 (of_z w64 (get_or l (2 * f) (pos 0))) ≡ get_or l (2 * f) (pos 0)
-  first_read = read_small w64 _ (omega (arith, first_small))
-
-  second_read : to_z w64 (of_z w64 (get_or l (2 * f + 1) (pos 0))) ≡ get_or l (2 * f + 1) (pos 0)
-  second_read = read_small w64 _ (omega (arith, second_small))
-
 pub returns-in_err-ready : goal.returns-in_err-ready
 returns-in_err-ready c =
     let p = err_from_is_err_and c.from_residual.result c.from_residual.ensures.1 in rw (p.1, p.2) (promise_refused _ (depart_stops _ _ _ c.in_err-ready.ensures.outcome))
@@ -53,28 +36,30 @@ returns-then-s-f c =
           promise_refused (Fragment _) (depart_not_there _ _ _ ok w.if-s-f.false (rw c.in_ok-ready.ensures.lent.0 at (sym w.is_present.ensures ∙ w.if-not-is_present.true)))
     ]
 
-pub slice_copy_out-first : goal.slice_copy_out-first
-slice_copy_out-first c = omega (arith, (kept_past _ _ (ready (goal.at.slice_copy_out-first c).In_ok-ready)).likelihoods_long, c.if-s-f.false)
-
-pub slice_copy_out-second : goal.slice_copy_out-second
-slice_copy_out-second c = omega (arith, (kept_past _ _ (ready (goal.at.slice_copy_out-second c).In_ok-ready)).likelihoods_long, c.if-s-f.false)
+pub likelihoods_of-own-requires : goal.likelihoods_of-own-requires
+likelihoods_of-own-requires c =
+    let k = kept_past _ _ (ready (goal.at.likelihoods_of-own-requires c).In_ok-ready) in
+    let f = c.args.fragment in
+    record {
+      there = (omega (arith, k.ready.case_in.sized.f_top, c.if-s-f.false), omega (arith, k.likelihoods_long, c.if-s-f.false));
+      small = (likelihood_small k (2 * f) (omega (arith, c.if-s-f.false)), likelihood_small k (2 * f + 1) (omega (arith, c.if-s-f.false)));
+    }
 
 pub mix-requires : goal.mix-requires
 mix-requires c =
-    let l = c.args.likelihoods.now in
-    let f = c.args.fragment in
     let k = kept_past _ _ (ready (goal.at.mix-requires c).In_ok-ready) in
-    (rw (first_read l f k c.if-s-f.false) (first_small l f k c.if-s-f.false), rw (second_read l f k c.if-s-f.false) (second_small l f k c.if-s-f.false))
+    let f = c.args.fragment in
+    let own = c.likelihoods_of-own.ensures in
+    (rw own.0 (likelihood_small k (2 * f) (omega (arith, c.if-s-f.false))), rw own.1 (likelihood_small k (2 * f + 1) (omega (arith, c.if-s-f.false))))
 
 pub moved-rest-requires : goal.moved-rest-requires
 moved-rest-requires c =
-    let l = c.args.likelihoods.now in
+    let k = kept_past _ _ (ready (goal.at.moved-rest-requires c).In_ok-ready) in
     let f = c.args.fragment in
-    let k = kept_past _ _ (ready (goal.at.moved-rest-requires c).In_ok-ready) in (
-      total_small k,
-      omega (arith, rw (first_read l f k c.if-s-f.false, second_read l f k c.if-s-f.false) at c.mix.ensures.bound, first_small l f k c.if-s-f.false, second_small l f k c.if-s-f.false),
-      omega arith,
-    )
+    let own = c.likelihoods_of-own.ensures in
+    let a = likelihood_small k (2 * f) (omega (arith, c.if-s-f.false)) in
+    let b = likelihood_small k (2 * f + 1) (omega (arith, c.if-s-f.false)) in
+    (total_small k, omega (arith, rw (own.0, own.1) at c.mix.ensures.bound, a, b), omega arith)
 
 pub returns-then-not-in_range : goal.returns-then-not-in_range
 returns-then-not-in_range c =
@@ -82,10 +67,7 @@ returns-then-not-in_range c =
     let ok = ready at.In_ok-ready in
     let s = c.in_ok-ready.ready.case.laid.sizes in
     let p = there at.Else-not-is_present in
-    let l = c.args.likelihoods.now in
-    let f = c.args.fragment in
-    let k = kept_past _ _ ok in
-    let e = total_less c.args.total.0 c.mix.ensures.value (first_read l f k c.if-s-f.false) (second_read l f k c.if-s-f.false) c.moved-rest.ensures in
+    let e = total_less c.args.total.0 c.mix.ensures.value c.likelihoods_of-own.ensures.0 c.likelihoods_of-own.ensures.1 c.moved-rest.ensures in
     let counts = departing_counted c.args.words.now s.n c.args.counts.now c.in_ok-ready.ensures.lent.0 s c.args.fragment p c.new.ensures c.strand-strand.ensures in
     depart_refuses _ _ _ ok c.if-s-f.false p (rw (c.total_ok.ensures, c.fits.ensures, e, counts) at c.if-not-in_range.true)
 
@@ -117,10 +99,7 @@ returns c =
     let s = c.in_ok-ready.ready.case.laid.sizes in
     let w = c.in_ok-ready.ensures.lent.0 in
     let p = there at.Else-not-is_present in
-    let l = c.args.likelihoods.now in
-    let f = c.args.fragment in
-    let k = kept_past _ _ ok in
-    let e = total_less c.args.total.0 c.mix.ensures.value (first_read l f k c.if-s-f.false) (second_read l f k c.if-s-f.false) c.moved-rest.ensures in
+    let e = total_less c.args.total.0 c.mix.ensures.value c.likelihoods_of-own.ensures.0 c.likelihoods_of-own.ensures.1 c.moved-rest.ensures in
     let counts = departing_counted c.args.words.now s.n c.args.counts.now w s c.args.fragment p c.new.ensures c.strand-strand.ensures in
     depart_updates _ _ _ ok c.if-s-f.false p c.moved-rest.result e (rw (c.total_ok.ensures, c.fits.ensures, e, counts) at c.if-not-in_range.false)
     c.lay_departure.ensures
