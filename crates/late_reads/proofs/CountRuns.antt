@@ -3,7 +3,7 @@
 -- Assumes nothing.
 use mathlib.Core.Path.{◌≡◌}
 use mathlib.Core.Bool.{Bool, true, false}
-use mathlib.Core.List.{List, [], ◌∷◌}
+use mathlib.Core.List.{List, [], ◌∷◌, map}
 use Prim.Native.Nat.{ℕ, suc, ◌+◌, ◌*◌, ◌/◌, ◌≤◌, ◌<◌}
 use native.Mathlib.Omega.{arith}
 use borrow.Author.Tests.{ne_eqb}
@@ -92,36 +92,36 @@ module _ (cutoff : ℤ) (x : Fragment) {n : ℕ} {counts : List ℤ} {d : ℤ} (
   add_start = record { left = left_start r lent; same = all_counted d cutoff x r counts lent.long }
 
 -- a call as the code sees it
-pub counted_so : {q : ℤ} {strand : ℕ} {held : CallHeld} {counted : CountedCall} (cutoff : ℤ) (x : Fragment) → CountedIs q strand held counted → q ≡ cutoff → x.strand ≡ strand → counted ≡ counted_call cutoff x (call_read held)
+counted_so : {q : ℤ} {strand : ℕ} {held : CallHeld} {counted : CountedCall} (cutoff : ℤ) (x : Fragment) → CountedIs q strand held counted → q ≡ cutoff → x.strand ≡ strand → counted ≡ counted_call cutoff x (call_read held)
 counted_so cutoff x c e z = rw (← e) (c.is x z)
 
-module _ {d cutoff : ℤ} {x : Fragment} {n : ℕ} {counts : List ℤ} {answer : Bool} where
-  pub fit_end : Fitting d cutoff x n counts [] answer → true ≡ answer
+module _ {d cutoff : ℤ} {x : Fragment} {n : ℕ} {counts : List ℤ} {answer : Bool} {held : List CallHeld} (i : Fitting d cutoff x n counts (map call_read held) answer) where
+  pub fit_end : held ≡ [] → true ≡ answer
   unfolding allb
-  fit_end i = i.decides
+  fit_end e = (rw e at i).decides
 
   -- a call more
-  module _ {call : Call} {calls : List Call} (i : Fitting d cutoff x n counts (call ∷ calls) answer) {counted : CountedCall} (e : counted ≡ counted_call cutoff x call) where
+  module _ {call : CallHeld} {rest : List CallHeld} (next : held ≡ call ∷ rest) {q : ℤ} {strand : ℕ} {counted : CountedCall} (c : CountedIs q strand call counted) (e : q ≡ cutoff) (z : x.strand ≡ strand) where
     pub fit_countable : {lent : List ℤ} → CountsLent n lent d → n ≤ 1024 → Countable counts d counted
-    fit_countable lent top = rw e (left_countable i.left cutoff x lent top)
+    fit_countable lent top = rw (counted_so cutoff x c e z) (left_countable (rw next at i).left cutoff x lent top)
 
     pub fit_stop : call_fits d x.strand counted counts ≡ false → false ≡ answer
     unfolding allb
-    fit_stop h = rw (rw e at h) at i.decides
+    fit_stop h = rw (rw (counted_so cutoff x c e z) at h) at (rw next at i).decides
 
-    pub fit_on : call_fits d x.strand counted counts ≡ true → Fitting d cutoff x n counts calls answer
+    pub fit_on : call_fits d x.strand counted counts ≡ true → Fitting d cutoff x n counts (map call_read rest) answer
     unfolding allb
-    fit_on h = record { left = left_next i.left cutoff x; decides = rw (rw e at h) at i.decides }
+    fit_on h = record { left = left_next (rw next at i).left cutoff x; decides = rw (rw (counted_so cutoff x c e z) at h) at (rw next at i).decides }
 
-module _ {d cutoff : ℤ} {x : Fragment} {n : ℕ} {counts after : List ℤ} where
-  pub add_end : Adding d cutoff x n [] counts after → counts ≡ after
+module _ {d cutoff : ℤ} {x : Fragment} {n : ℕ} {counts after : List ℤ} {held : List CallHeld} (i : Adding d cutoff x n (map call_read held) counts after) where
+  pub add_end : held ≡ [] → counts ≡ after
   unfolding count_calls
-  add_end i = i.same
+  add_end e = (rw e at i).same
 
-  module _ {call : Call} {calls : List Call} (i : Adding d cutoff x n (call ∷ calls) counts after) {counted : CountedCall} (e : counted ≡ counted_call cutoff x call) where
+  module _ {call : CallHeld} {rest : List CallHeld} (next : held ≡ call ∷ rest) {q : ℤ} {strand : ℕ} {counted : CountedCall} (c : CountedIs q strand call counted) (e : q ≡ cutoff) (z : x.strand ≡ strand) where
     pub add_countable : {lent : List ℤ} → CountsLent n lent d → n ≤ 1024 → Countable counts d counted
-    add_countable lent top = rw e (left_countable i.left cutoff x lent top)
+    add_countable lent top = rw (counted_so cutoff x c e z) (left_countable (rw next at i).left cutoff x lent top)
 
-    pub add_on : (put : List ℤ) → put ≡ count_call d x.strand counted counts → Adding d cutoff x n calls put after
+    pub add_on : (put : List ℤ) → put ≡ count_call d x.strand counted counts → Adding d cutoff x n (map call_read rest) put after
     unfolding count_calls
-    add_on put q = rw (q, e) (record { left = left_counted i.left cutoff x d; same = i.same })
+    add_on put h = rw (h, counted_so cutoff x c e z) (record { left = left_counted (rw next at i).left cutoff x d; same = (rw next at i).same })

@@ -2,7 +2,7 @@
 -- its quotient and remainder by 10; here the two are tied, once. So `count_call` adds d just where the call counts, and `call_fits` says that
 -- what stands there would be in range with d more.
 -- Assumes nothing.
-use mathlib.Core.Path.{◌≡◌, refl, sym, ap, ◌∙◌}
+use mathlib.Core.Path.{◌≡◌, refl, ap, ◌∙◌}
 use mathlib.Core.Bool.{Bool, true, false, cond, ◌&&◌, ◌||◌}
 use mathlib.Core.Logic.{◌⊎◌, inl, inr, ⊎_elim}
 use mathlib.Core.List.{List}
@@ -21,7 +21,6 @@ use Rattle.variants_and_fragments.specs.Case.{Fragment, Call, direction, usable}
 use Rattle.variants_and_fragments.specs.Words.{within}
 use Rattle.variants_and_fragments.proofs.Bools.{both}
 use Rattle.variants_and_fragments.proofs.Ranges.{within_top}
-use Rattle.pileup.specs.Inner.Packed.{UsableIs}
 use Rattle.late_reads.specs.declared.counts.CountedCall.{CountedCall}
 use Rattle.late_reads.specs.Values.{max_count, counted}
 use Rattle.late_reads.specs.Inner.Counting.{add_at, allele_place, strand_place, ambiguous_place, count_call, fits_at, call_fits, CountsIn, Countable, counted_call}
@@ -29,11 +28,6 @@ use Rattle.late_reads.specs.Inner.Counting.{add_at, allele_place, strand_place, 
 -- a call of read x counts at element e
 abbrev pub counts_at : ℤ → Fragment → ℕ → Call → Bool
 counts_at cutoff x e call = eqb call.variant (e / 10) && counted cutoff x (e % 10) call
-
--- a call as the code reads it
-pub counted_is : {q z : ℤ} {s v a : ℕ} {r : Bool} (cutoff : ℤ) (x : Fragment) (call : Call) → UsableIs q s z r → q ≡ cutoff → s ≡ x.strand → z ≡ call.qual → v ≡ call.variant → a ≡ call.allele
-    → ◌≡◌ {A = CountedCall} (record { variant = v; allele = a; usable = r }) (counted_call cutoff x call)
-counted_is cutoff x call u q s z v a = rw (v, a, u.is x call (sym s) (sym z), q)
 
 -- ---- one element
 count_small : (z : ℤ) → within (pos 0) (pos max_count) z ≡ true → nat_abs z ≤ max_count
@@ -64,26 +58,12 @@ pub count_length : (d : ℤ) (strand : ℕ) (call : CountedCall) (counts : List 
 unfolding count_call
 count_length d strand call counts = by_test call.usable (λ u. rw u (simp length-set)) (λ u. rw u (simp length-set))
 
--- the same call at the same strand
-module _ (d : ℤ) {k m : ℕ} {a b : CountedCall} (e : k ≡ m) (q : a ≡ b) (counts : List ℤ) where
-  pub same_fits : call_fits d k a counts ≡ call_fits d m b counts
-  same_fits = rw (e, q)
-
-  pub same_count : count_call d k a counts ≡ count_call d m b counts
-  same_count = rw (e, q)
-
 -- ---- the places of a call that may be counted
 module _ {counts : List ℤ} {d : ℤ} {call : CountedCall} (c : Countable counts d call) where
-  pub at_allele : CountsIn counts (allele_place call) d
-  at_allele = c.each_in call.allele (omega (arith, c.allele_in))
-
   pub at_strand : (strand : ℕ) → CountsIn counts (strand_place strand call) d
   at_strand strand =
       let e : 10 * call.variant + (3 * (1 + direction strand) + call.allele) ≡ strand_place strand call = omega arith in
       rw e at (c.each_in (3 * (1 + direction strand) + call.allele) (omega (arith, c.allele_in)))
-
-  pub at_ambiguous : CountsIn counts (ambiguous_place call) d
-  at_ambiguous = c.each_in 9 (omega arith)
 
   -- the first store leaves the second place as it is
   pub at_strand_next : (strand : ℕ) → CountsIn (add_at d (allele_place call) counts) (strand_place strand call) d

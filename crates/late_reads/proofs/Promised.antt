@@ -2,7 +2,7 @@
 -- terms of the words, which is what the definition says of the decoded case.
 -- Assumes nothing.
 use mathlib.Core.Path.{◌≡◌, refl, sym, ap, ◌∙◌}
-use mathlib.Core.Bool.{true, false}
+use mathlib.Core.Bool.{true, false, ◌&&◌}
 use mathlib.Core.List.{List}
 use Prim.Native.Nat.{ℕ, ◌+◌, ◌*◌, ◌≤◌, ◌<◌}
 use lib.IntN.{ℤ, pos, ◌+ℤ◌, ◌-ℤ◌}
@@ -26,7 +26,7 @@ use Rattle.late_reads.specs.Inner.Counting.{counts_arrived, counts_departed, cou
 use Rattle.late_reads.specs.Inner.Ready.{Arriving, arriving_tests, fixed_at, arrived_at, departed_at, ranged_outcome, ArrivesKept, DepartsKept}
 use Rattle.late_reads.proofs.ArrivalTests.{tests_past, tests_are, present_is}
 use Rattle.late_reads.proofs.KeptCase.{kept_past, kept_case}
-use Rattle.late_reads.proofs.Ranged.{Updating, refuses_total, refuses_counts, updates, same_slices, arrival, departure}
+use Rattle.late_reads.proofs.Ranged.{Updating, refuses, updates, same_slices, arrival, departure}
 use Rattle.late_reads.proofs.ValuesDecoded.{arrived_is, departed_is}
 
 -- ---- a promise
@@ -82,18 +82,15 @@ module _ (input : LateInput) (f : ℕ) (strand : ℤ) (calls : List ℤ) where
       updating : Updating s (arrived_at input.words s input.phase input.haplotypes input.kept f strand calls) total_then counts_then
       updating = arrival (kept_past input s ok) arriving
 
-      -- at the last test, of the total and then of the counts, and at the end
-      pub arrive_refuses_total : within lowest_total (pos 0) total_then ≡ false → Arrives input f strand calls (refusal (Short 0)) (lent_slices input)
-      arrive_refuses_total h = arrives (refuses_total updating h)
+      -- at the last test, of the total and the counts, and at the end
+      pub arrive_refuses : (within lowest_total (pos 0) total_then && counts_fit s.n counts_then) ≡ false → Arrives input f strand calls (refusal (Short 0)) (lent_slices input)
+      arrive_refuses h = arrives (refuses updating h)
 
-      pub arrive_refuses_counts : within lowest_total (pos 0) total_then ≡ true → counts_fit s.n counts_then ≡ false → Arrives input f strand calls (refusal (Short 0)) (lent_slices input)
-      arrive_refuses_counts h k = arrives (refuses_counts updating h k)
-
-      pub arrive_updates : (sum : LogProb) {w l c : List ℤ} → sum.0 ≡ total_then → within lowest_total (pos 0) total_then ≡ true → counts_fit s.n counts_then ≡ true
+      pub arrive_updates : (sum : LogProb) {w l c : List ℤ} → sum.0 ≡ total_then → (within lowest_total (pos 0) total_then && counts_fit s.n counts_then) ≡ true
           → w ≡ arrived_words input.words s f strand calls → l ≡ put_likelihoods input.kept.likelihoods f (share 0) (share 1) → c ≡ counts_then
           → Arrives input f strand calls (done (record { settled = false; total = sum.0 })) (late_slices w l c)
       unfolding arrived
-      arrive_updates sum e h k w l c = arrives (updates updating sum e h k (same_slices w l c))
+      arrive_updates sum e h w l c = arrives (updates updating sum e h (same_slices w l c))
 
 -- ---- a departure
 module _ (input : LateInput) (f : ℕ) where
@@ -137,14 +134,11 @@ module _ (input : LateInput) (f : ℕ) where
       updating_lem : Updating s (departed_at input.words s input.kept f) total_left counts_left
       updating_lem = departure (kept_past input s ok) f below
 
-      pub depart_refuses_total : within lowest_total (pos 0) total_left ≡ false → Departs input f (refusal (Short 0)) (lent_slices input)
-      depart_refuses_total h = departs (refuses_total updating_lem h)
+      pub depart_refuses : (within lowest_total (pos 0) total_left && counts_fit s.n counts_left) ≡ false → Departs input f (refusal (Short 0)) (lent_slices input)
+      depart_refuses h = departs (refuses updating_lem h)
 
-      pub depart_refuses_counts : within lowest_total (pos 0) total_left ≡ true → counts_fit s.n counts_left ≡ false → Departs input f (refusal (Short 0)) (lent_slices input)
-      depart_refuses_counts h k = departs (refuses_counts updating_lem h k)
-
-      pub depart_updates : (rest : LogProb) {w l c : List ℤ} → rest.0 ≡ total_left → within lowest_total (pos 0) total_left ≡ true → counts_fit s.n counts_left ≡ true
+      pub depart_updates : (rest : LogProb) {w l c : List ℤ} → rest.0 ≡ total_left → (within lowest_total (pos 0) total_left && counts_fit s.n counts_left) ≡ true
           → w ≡ departed_words input.words s f → l ≡ put_likelihoods input.kept.likelihoods f (pos 0) (pos 0) → c ≡ counts_left
           → Departs input f (done (record { settled = false; total = rest.0 })) (late_slices w l c)
       unfolding departed
-      depart_updates rest e h k w l c = departs (updates updating_lem rest e h k (same_slices w l c))
+      depart_updates rest e h w l c = departs (updates updating_lem rest e h (same_slices w l c))

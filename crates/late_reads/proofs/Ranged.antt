@@ -1,7 +1,7 @@
 -- The last test of an arrival and of a departure. What is lent is in range, and so are the likelihoods afterwards: those of the other fragments
 -- are as they were, and the two written are an arriving read's, in −2^32..0, or 0. So the test is that of the total and of the counts, and each
 -- place at which the operation returns keeps its promise. Assumes nothing.
-use mathlib.Core.Path.{◌≡◌, refl}
+use mathlib.Core.Path.{◌≡◌, refl, ◌∙◌}
 use mathlib.Core.Bool.{Bool, true, false, ◌&&◌}
 use mathlib.Core.List.{List}
 use Prim.Native.Nat.{ℕ, ◌+◌, ◌*◌, ◌^◌, ◌≤◌, ◌<◌}
@@ -91,30 +91,21 @@ pub record Updating (s : Sizes) (x : Values) (sum : ℤ) (counts : List ℤ) : T
   pub counts_are : counts ≡ x.counts
 
 module _ {s : Sizes} {x : Values} {sum : ℤ} {counts : List ℤ} (u : Updating s x sum counts) where
-  ranged_is : (a b : Bool) → within lowest_total (pos 0) sum ≡ a → counts_fit s.n counts ≡ b → in_range s.n s.f x ≡ (a && b)
+  ranged_is : in_range s.n s.f x ≡ (within lowest_total (pos 0) sum && counts_fit s.n counts)
   unfolding in_range
-  ranged_is a b t c = rw (u.likelihoods_in, ← u.total_is, ← u.counts_are, t, c)
+  ranged_is = rw (u.likelihoods_in, ← u.total_is, ← u.counts_are)
 
   module _ {new before : LateSlices} where
-    refuses : in_range s.n s.f x ≡ false → Promise (ranged_outcome s x) new before (refusal (Short 0)) before
-    refuses h = promise_refused (Short 0) (unless_at (in_range s.n s.f x) 10 0 (done (unsettled x)) h)
+    pub refuses : (within lowest_total (pos 0) sum && counts_fit s.n counts) ≡ false → Promise (ranged_outcome s x) new before (refusal (Short 0)) before
+    refuses h = promise_refused (Short 0) (unless_at (in_range s.n s.f x) 10 0 (done (unsettled x)) (ranged_is ∙ h))
 
-    pub refuses_total : within lowest_total (pos 0) sum ≡ false → Promise (ranged_outcome s x) new before (refusal (Short 0)) before
-    refuses_total h = refuses (ranged_is false (counts_fit s.n counts) h refl)
-
-    pub refuses_counts : within lowest_total (pos 0) sum ≡ true → counts_fit s.n counts ≡ false → Promise (ranged_outcome s x) new before (refusal (Short 0)) before
-    refuses_counts t c = refuses (ranged_is true false t c)
-
-    pub updates : {after : LateSlices} (t : LogProb) → t.0 ≡ sum → within lowest_total (pos 0) sum ≡ true → counts_fit s.n counts ≡ true → after ≡ new
+    pub updates : {after : LateSlices} (t : LogProb) → t.0 ≡ sum → (within lowest_total (pos 0) sum && counts_fit s.n counts) ≡ true → after ≡ new
         → Promise (ranged_outcome s x) new before (done (record { settled = false; total = t.0 })) after
-    updates t e l c w = rw (e, u.total_is) (promise_done (unsettled x) (unless_on (in_range s.n s.f x) 10 0 (done (unsettled x)) (ranged_is true true l c)) w)
+    updates t e h w = rw (e, u.total_is) (promise_done (unsettled x) (unless_on (in_range s.n s.f x) 10 0 (done (unsettled x)) (ranged_is ∙ h)) w)
 
--- equal parts, equal slices, shares and likelihoods
+-- equal parts, equal slices and likelihoods
 pub same_slices : {w v l m c d : List ℤ} → w ≡ v → l ≡ m → c ≡ d → late_slices w l c ≡ late_slices v m d
 same_slices p q r = cc
-
-pub same_mix : {a b x y : ℤ} → a ≡ x → b ≡ y → mix_of a b ≡ mix_of x y
-same_mix p q = cc
 
 pub same_put : (l : List ℤ) (f : ℕ) {a b x y : ℤ} → a ≡ x → b ≡ y → put_likelihoods l f a b ≡ put_likelihoods l f x y
 same_put l f p q = cc

@@ -106,10 +106,10 @@ module _ {w : List ℤ} {s : Sizes} (case : CaseIn w s) where
   pub chain_held : (f : ℕ) {left : List CallHeld} → f < s.f → left ≡ map held_call (fragment_from w s f).calls → Rising s.n 0 (map call_read left)
   chain_held f l e = rw (e, read_back) (chain_rises case f l)
 
-module _ (w : List ℤ) (n : ℕ) (counts : List ℤ) {k : ℕ} {left : List CallHeld} where
-  pub arriving_counted : (strand : ℤ) (calls : List ℤ) → left ≡ arriving_left calls 0 → k ≡ nat_of strand → counts_after (pos 1) (cutoff_at w) (read_of k left) n counts ≡ counts_arrived (cutoff_at w) n (arriving_read strand calls) counts
-  arriving_counted strand calls e z = rw (e, z, read_arriving strand calls) (arrived_is (cutoff_at w) (arriving_read strand calls) n counts)
+module _ (w : List ℤ) (n : ℕ) (counts : List ℤ) {w' : List ℤ} {k : ℕ} {left : List CallHeld} (same : w' ≡ w) where
+  pub arriving_counted : (strand : ℤ) (calls : List ℤ) → left ≡ arriving_left calls 0 → k ≡ nat_of strand → counts_after (pos 1) (cutoff_at w') (read_of k left) n counts ≡ counts_arrived (cutoff_at w) n (arriving_read strand calls) counts
+  arriving_counted strand calls e z = rw (same, e, z, read_arriving strand calls) (arrived_is (cutoff_at w) (arriving_read strand calls) n counts)
 
-  pub departing_counted : (s : Sizes) (f : ℕ) → present_at w s f ≡ true → left ≡ map held_call (fragment_from w s f).calls → k ≡ strand_at w s f
-      → counts_after (negsuc 0) (cutoff_at w) (read_of k left) n counts ≡ counts_departed (cutoff_at w) n (fragment_from w s f) counts
-  departing_counted s f p e z = rw (e, z, read_fragment w s f p) (departed_is (cutoff_at w) (fragment_from w s f) n counts)
+  pub departing_counted : (s : Sizes) (f : ℕ) → present_at w s f ≡ true → left ≡ map held_call (fragment_from w' s f).calls → k ≡ strand_at w' s f
+      → counts_after (negsuc 0) (cutoff_at w') (read_of k left) n counts ≡ counts_departed (cutoff_at w) n (fragment_from w s f) counts
+  departing_counted s f p e z = rw (e, z, same, read_fragment w s f p) (departed_is (cutoff_at w) (fragment_from w s f) n counts)

@@ -21,6 +21,7 @@ use Rattle.variants_and_fragments.proofs.Decoded.{tabulate_length, tabulate_at}
 use Rattle.variants_and_fragments.proofs.Free.{free_linked, chains_distinct, free_length}
 use Rattle.variants_and_fragments.proofs.Linked.{Linked, linked_first, linked_in, linked_next}
 use Rattle.variants_and_fragments.proofs.Pigeon.{distinct, distinct_left}
+use Rattle.late_reads.specs.declared.words.RoomLeft.{RoomLeft}
 use Rattle.late_reads.specs.Arriving.{unused_records, room, taken, calls_laid}
 use Rattle.late_reads.specs.Inner.Room.{front_of, rest_of, left_at}
 use Rattle.late_reads.proofs.Distinct.{distinct_at, distinct_by, distinct_take}
@@ -107,12 +108,12 @@ module _ {w : List ℤ} {s : Sizes} (k : CaseIn w s) where
   ]
 
   -- ---- what is left
-  pub left_start : record { free = s.free; used = s.used } ≡ left_at w s 0
+  pub left_start : (left : RoomLeft) → (left.free ≡ s.free) × (left.used ≡ s.used) → left ≡ left_at w s 0
   unfolding left_at
-  left_start =
+  left_start left e =
       let a : s.free ≡ get_or (free_chain w s) 0 0 = linked_first (free_linked k) in
       let b : s.used + (0 - length (free_chain w s)) ≡ s.used = omega arith in
-      rw (b, ← a)
+      rw (b, ← a, ← e.0, ← e.1)
 
   pub left_in : (i : ℕ) → i ≤ length (room w s) → ((left_at w s i).used ≤ s.c) × ((left_at w s i).free ≤ s.used)
   unfolding left_at

@@ -9,7 +9,7 @@ use crate::arriving::{Arrival, test_arrival};
 use crate::counts::{count, fits};
 use crate::kept::check_kept;
 use crate::ranges::total_ok;
-use crate::reads::{moved, put_likelihoods};
+use crate::reads::{likelihoods_of, moved, put_likelihoods};
 use crate::words::{lay_arrival, lay_departure};
 use likelihoods::likelihoods::ReadLikelihoods;
 use pileup::reader::ChainReader;
@@ -51,14 +51,13 @@ pub fn arrive(
     let s = case.laid.sizes;
     let own = arrival.likelihoods();
     let sum = moved(total, own.first.mix(own.second), 1);
-    if !total_ok(sum) {
-        return Err(Refusal::Short(0));
-    }
-    if !fits(case, nat_of(strand), read.iter(), counts, 1) {
+    let side = nat_of(strand);
+    let in_range = total_ok(sum) & fits(case, side, read.iter(), counts, 1);
+    if !in_range {
         return Err(Refusal::Short(0));
     }
     put_likelihoods(likelihoods, read.fragment, own);
-    count(case, nat_of(strand), read.iter(), counts, 1);
+    count(case, side, read.iter(), counts, 1);
     lay_arrival(words, s, &read);
     Ok(sum)
 }
@@ -81,20 +80,14 @@ pub fn depart(
     let case = &ready.case;
     let s = case.laid.sizes;
     let f = fragment as usize;
-    if s.f <= f {
-        return Err(Refusal::Fragment(f));
-    }
-    if !case.laid.is_present(f) {
+    if s.f <= f || !case.laid.is_present(f) {
         return Err(Refusal::Fragment(f));
     }
     let strand = case.laid.strand(f);
-    let first = LogProb(likelihoods[2 * f]);
-    let second = LogProb(likelihoods[2 * f + 1]);
-    let rest = moved(total, first.mix(second), -1);
-    if !total_ok(rest) {
-        return Err(Refusal::Short(0));
-    }
-    if !fits(case, strand, ChainReader::new(case, f), counts, -1) {
+    let own = likelihoods_of(likelihoods, f);
+    let rest = moved(total, own.first.mix(own.second), -1);
+    let in_range = total_ok(rest) & fits(case, strand, ChainReader::new(case, f), counts, -1);
+    if !in_range {
         return Err(Refusal::Short(0));
     }
     let none = ReadLikelihoods {

@@ -1,5 +1,5 @@
 // The likelihoods of an arriving read, and a read's share of the phased total.
-ghost use Rattle.std.specs.Prelude.{◌≡◌, ◌+◌, ◌*◌, ◌^◌, ◌<◌, ◌≤◌, nat_abs, ◌+ℤ◌, ◌*ℤ◌, length};
+ghost use Rattle.std.specs.Prelude.{◌≡◌, ◌+◌, ◌*◌, ◌^◌, ◌<◌, ◌≤◌, pos, nat_abs, ◌+ℤ◌, ◌*ℤ◌, length, get_or};
 ghost use Rattle.late_reads.specs.Values.{put_likelihoods, likelihood_on};
 ghost use Rattle.late_reads.specs.Arriving.{whole_calls, arriving_call, arriving_read};
 ghost use Rattle.late_reads.specs.Inner.Ready.{fixed_at, share_on};
@@ -54,6 +54,18 @@ pub fn moved(total: LogProb, share: LogProb, d: i64) -> LogProb
     ensures { result.0 ≡ total.0 +ℤ (d *ℤ share.0) }
 {
     LogProb(total.0 + d * share.0)
+}
+
+// The likelihoods of fragment f, which are in range.
+pub fn likelihoods_of(likelihoods: &[i64], f: usize) -> ReadLikelihoods
+    requires there { (f ≤ 4096) × (2 * f + 1 < length likelihoods.now) }
+    requires small { (nat_abs (get_or likelihoods.now (2 * f) (pos 0)) ≤ 2 ^ 40) × (nat_abs (get_or likelihoods.now (2 * f + 1) (pos 0)) ≤ 2 ^ 40) }
+    ensures { (result.first.0 ≡ get_or likelihoods.now (2 * f) (pos 0)) × (result.second.0 ≡ get_or likelihoods.now (2 * f + 1) (pos 0)) }
+{
+    ReadLikelihoods {
+        first: LogProb(likelihoods[2 * f]),
+        second: LogProb(likelihoods[2 * f + 1]),
+    }
 }
 
 // Sets the likelihoods of fragment f.

@@ -23,6 +23,16 @@ pub struct RoomLeft {
 }
 
 impl RoomLeft {
+    // All of them.
+    fn all(s: Sizes) -> RoomLeft
+        ensures { (result.free ≡ s.free) × (result.used ≡ s.used) }
+    {
+        RoomLeft {
+            free: s.free,
+            used: s.used,
+        }
+    }
+
     // The record that is taken next: the first free one, else the first of the unused tail.
     fn front(self) -> usize
         requires { self.used ≤ max_calls }
@@ -62,10 +72,7 @@ fn lay_calls(words: &mut [i32], s: Sizes, read: &Arrival<'_>) -> RoomLeft
     ensures value { result ≡ left_at words.old s (whole_calls read.now.calls.now) }
 {
     let m = read.count();
-    let mut left = RoomLeft {
-        free: s.free,
-        used: s.used,
-    };
+    let mut left = RoomLeft::all(s);
     for i in 0..m {
         let r = left.front();
         left = left.rest(words, s);
@@ -81,11 +88,8 @@ pub fn lay_arrival(words: &mut [i32], s: Sizes, read: &Arrival<'_>)
     requires arriving { Arriving words.old s read.now.fragment read.now.strand read.now.calls.now }
     ensures { words.new ≡ arrived_words words.old s read.now.fragment read.now.strand read.now.calls.now }
 {
-    let before = RoomLeft {
-        free: s.free,
-        used: s.used,
-    };
-    let first = if read.count() == 0 { 0 } else { before.front() };
+    let room = RoomLeft::all(s);
+    let first = if read.count() == 0 { 0 } else { room.front() };
     let left = lay_calls(words, s, read);
     put_first(words, s, read.fragment, first as i32);
     put_strand(words, s, read.fragment, read.strand);

@@ -1,21 +1,19 @@
 -- What is refused is refused by a test of the definition; past the tests the values and the words are written as it says.
-use Rattle.std.proofs.Common.{◌≡◌, sym, ap, ◌∙◌, arith, to_z-of_z}
+use Rattle.std.proofs.Common.{◌≡◌, sym, ◌∙◌, arith, to_z-of_z}
 use Rattle.std.proofs.lemmas.Result.{err_from_is_err_and}
-use Rattle.variants_and_fragments.specs.Layout.{cutoff_at}
 use Rattle.variants_and_fragments.specs.Refusals.{done}
 use Rattle.variants_and_fragments.proofs.Outcomes.{promise_refused}
 use Rattle.late_reads.specs.Arriving.{arriving_read}
 use Rattle.late_reads.specs.Values.{values, likelihood_on}
 use Rattle.late_reads.specs.LateReads.{late_input, kept_outcome}
-use Rattle.late_reads.specs.Inner.Counting.{counts_arrived, counts_fit}
 use Rattle.late_reads.specs.Inner.Ready.{fixed_at, arriving_tests}
 use Rattle.late_reads.proofs.KeptCase.{kept_past}
 use Rattle.late_reads.proofs.Moved.{total_more}
-use Rattle.late_reads.proofs.Promised.{arrive_stops, arriving_stops, arriving, arrive_refuses_total, arrive_refuses_counts, arrive_updates}
+use Rattle.late_reads.proofs.Promised.{arrive_stops, arriving_stops, arriving, arrive_refuses, arrive_updates}
 use Rattle.late_reads.proofs.Ranged.{total_small, counts_in, same_put}
 use Rattle.late_reads.proofs.ReadCalls.{arriving_held, arriving_counted}
 use Rattle.late_reads.proofs.arrive.Goals as goal
-use Rattle.late_reads.proofs.arrive.Goals.{In_ok-ready, In_ok-arrival, After-likelihoods-own, After-fits}
+use Rattle.late_reads.proofs.arrive.Goals.{In_ok-ready, In_ok-arrival, After-likelihoods-own}
 
 -- past the tests of the case and of what is lent
 ready : (c : In_ok-ready) → kept_outcome (late_input c.args.words.now c.args.bases.now c.args.phase.now c.args.haplotypes.now (values c.args.likelihoods.now c.args.counts.now c.args.total.0)) ≡ done c.in_ok-ready.ready.case.laid.sizes
@@ -48,12 +46,14 @@ moved-sum-requires c =
     let k = kept_past _ _ (ready (goal.at.moved-sum-requires c).In_ok-ready) in
     (total_small k, omega (arith, c.mix.ensures.bound, c.likelihoods-own.ensures.first_value.1, c.likelihoods-own.ensures.second_value.1), omega arith)
 
-pub returns-then-not-total_ok : goal.returns-then-not-total_ok
-returns-then-not-total_ok c =
-    let at = goal.at.returns-then-not-total_ok c in
+pub returns-then-not-in_range : goal.returns-then-not-in_range
+returns-then-not-in_range c =
+    let at = goal.at.returns-then-not-in_range c in
     let own = at.After-likelihoods-own in
+    let n = c.in_ok-ready.ready.case.laid.sizes.n in
     let e = total_more c.args.total.0 c.mix.ensures.value (first_is own) (second_is own) c.moved-sum.ensures in
-    arrive_refuses_total _ _ _ _ _ (ready at.In_ok-ready) _ (tested at.In_ok-arrival) (rw e at (sym c.total_ok.ensures ∙ c.if-not-total_ok.true))
+    let counts = arriving_counted c.args.words.now n c.args.counts.now c.in_ok-ready.ensures.lent.0 c.args.strand c.args.calls.now c.iter.ensures (rw (to_z-of_z c.ranges.strand) at c.nat_of-side.ensures) in
+    arrive_refuses _ _ _ _ _ (ready at.In_ok-ready) _ (tested at.In_ok-arrival) (rw (c.total_ok.ensures, c.fits.ensures, e, counts) at c.if-not-in_range.true)
 
 pub fits-requires-clause-rises : goal.fits-requires-clause-rises
 fits-requires-clause-rises c =
@@ -65,20 +65,6 @@ pub fits-requires-clause-lent : goal.fits-requires-clause-lent
 fits-requires-clause-lent c =
     let k = kept_past _ _ (ready (goal.at.fits-requires-clause-lent c).In_ok-ready) in
     record { long = k.counts_long; ranged = counts_in k; one = omega arith }
-
--- the code's test of the counts
-counts_tested : (c : After-fits) → c.fits.result ≡ counts_fit c.in_ok-ready.ready.case.laid.sizes.n (counts_arrived (cutoff_at c.args.words.now) c.in_ok-ready.ready.case.laid.sizes.n (arriving_read c.args.strand c.args.calls.now) c.args.counts.now)
-counts_tested c =
-    let n = c.in_ok-ready.ready.case.laid.sizes.n in
-    c.fits.ensures
-    ∙ ap (counts_fit n) (rw c.in_ok-ready.ensures.lent.0 (arriving_counted c.args.words.now n c.args.counts.now c.args.strand c.args.calls.now c.iter.ensures (rw (to_z-of_z c.ranges.strand) at c.nat_of.ensures)))
-
-pub returns-then-not-fits : goal.returns-then-not-fits
-returns-then-not-fits c =
-    let at = goal.at.returns-then-not-fits c in
-    let own = at.After-likelihoods-own in
-    let e = total_more c.args.total.0 c.mix.ensures.value (first_is own) (second_is own) c.moved-sum.ensures in
-    arrive_refuses_counts _ _ _ _ _ (ready at.In_ok-ready) _ (tested at.In_ok-arrival) (rw e at (sym c.total_ok.ensures ∙ c.if-not-total_ok.false)) (sym (counts_tested at.After-fits) ∙ c.if-not-fits.true)
 
 pub put_likelihoods-requires : goal.put_likelihoods-requires
 put_likelihoods-requires c =
@@ -104,7 +90,9 @@ returns c =
     let own = at.After-likelihoods-own in
     let n = c.in_ok-ready.ready.case.laid.sizes.n in
     let e = total_more c.args.total.0 c.mix.ensures.value (first_is own) (second_is own) c.moved-sum.ensures in
-    arrive_updates _ _ _ _ _ (ready at.In_ok-ready) _ (tested at.In_ok-arrival) c.moved-sum.result e (rw e at (sym c.total_ok.ensures ∙ c.if-not-total_ok.false)) (sym (counts_tested at.After-fits) ∙ c.if-not-fits.false)
+    let side = rw (to_z-of_z c.ranges.strand) at c.nat_of-side.ensures in
+    let counts = arriving_counted c.args.words.now n c.args.counts.now c.in_ok-ready.ensures.lent.0 c.args.strand c.args.calls.now c.iter.ensures side in
+    arrive_updates _ _ _ _ _ (ready at.In_ok-ready) _ (tested at.In_ok-arrival) c.moved-sum.result e (rw (c.total_ok.ensures, c.fits.ensures, e, counts) at c.if-not-in_range.false)
     (rw (to_z-of_z c.ranges.strand) at c.lay_arrival.ensures)
     (c.put_likelihoods.ensures ∙ same_put c.args.likelihoods.now c.args.fragment (first_is own) (second_is own))
-    (c.count.ensures ∙ rw c.in_ok-ready.ensures.lent.0 (arriving_counted c.args.words.now n c.args.counts.now c.args.strand c.args.calls.now c.iter-2.ensures (rw (to_z-of_z c.ranges.strand) at c.nat_of-2.ensures)))
+    (c.count.ensures ∙ arriving_counted c.args.words.now n c.args.counts.now c.in_ok-ready.ensures.lent.0 c.args.strand c.args.calls.now c.iter-2.ensures side)

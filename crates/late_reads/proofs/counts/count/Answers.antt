@@ -1,8 +1,6 @@
 -- One more call is counted, until none is left.
-use Rattle.std.proofs.Common.{◌≡◌, [], ◌∷◌, refl, arith, to_z-of_z}
-use Rattle.variants_and_fragments.specs.Layout.{cutoff_at}
-use Rattle.late_reads.specs.Inner.Counting.{read_of}
-use Rattle.late_reads.proofs.CountRuns.{add_start, add_end, add_countable, add_on, counted_so}
+use Rattle.std.proofs.Common.{refl, arith, to_z-of_z}
+use Rattle.late_reads.proofs.CountRuns.{add_start, add_end, add_countable, add_on}
 use Rattle.late_reads.proofs.counts.count.Goals as goal
 
 pub loop-call-init : goal.loop-call-init
@@ -10,18 +8,13 @@ loop-call-init g c = rw (to_z-of_z c.ranges.d, c.into_iter-call-iterator.ensures
 
 pub count_call-requires : goal.count_call-requires
 count_call-requires g c =
-    let step : g.C.Calls.left c.loop-call.call-iterator ≡ c.in-Some.call ∷ g.C.Calls.left c.next.new.self = g.met.C.Calls.gives_first _ _ _ c.in-Some.ensures.steps in
-    let e = counted_so (cutoff_at c.args.case.now.laid.words.now) (read_of c.args.strand (g.C.Calls.left c.args.calls)) c.counted.ensures (grind arith) refl in
-    rw (to_z-of_z c.ranges.d) (add_countable (rw (to_z-of_z c.ranges.d, step) at c.loop-call.invariant) e c.requires.lent c.args.case.now.laid.sized.n_top)
+    rw (to_z-of_z c.ranges.d)
+    (add_countable (rw (to_z-of_z c.ranges.d) at c.loop-call.invariant) (g.met.C.Calls.gives_first _ _ _ c.in-Some.ensures.steps) c.counted.ensures (grind arith) refl c.requires.lent c.args.case.now.laid.sized.n_top)
 
 pub loop-call-preserved : goal.loop-call-preserved
 loop-call-preserved g c =
-    let step : g.C.Calls.left c.loop-call.call-iterator ≡ c.in-Some.call ∷ g.C.Calls.left c.next.new.self = g.met.C.Calls.gives_first _ _ _ c.in-Some.ensures.steps in
-    let e = counted_so (cutoff_at c.args.case.now.laid.words.now) (read_of c.args.strand (g.C.Calls.left c.args.calls)) c.counted.ensures (grind arith) refl in
     rw (to_z-of_z c.ranges.d)
-    (add_on (rw (to_z-of_z c.ranges.d, step) at c.loop-call.invariant) e _ (rw (to_z-of_z c.ranges.d) at c.count_call.ensures))
+    (add_on (rw (to_z-of_z c.ranges.d) at c.loop-call.invariant) (g.met.C.Calls.gives_first _ _ _ c.in-Some.ensures.steps) c.counted.ensures (grind arith) refl _ (rw (to_z-of_z c.ranges.d) at c.count_call.ensures))
 
 pub returns : goal.returns
-returns g c =
-    let step : g.C.Calls.left c.loop-call.call-iterator ≡ [] = (g.met.C.Calls.gives_first _ _ _ c.in-None.ensures.steps).0 in
-    add_end (rw (to_z-of_z c.ranges.d, step) at c.loop-call.invariant)
+returns g c = add_end (rw (to_z-of_z c.ranges.d) at c.loop-call.invariant) (g.met.C.Calls.gives_first _ _ _ c.in-None.ensures.steps).0

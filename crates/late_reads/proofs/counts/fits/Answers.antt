@@ -1,8 +1,6 @@
 -- One more call fits, until none is left.
-use Rattle.std.proofs.Common.{◌≡◌, [], ◌∷◌, refl, arith, ◌∙◌, sym, to_z-of_z}
-use Rattle.variants_and_fragments.specs.Layout.{cutoff_at}
-use Rattle.late_reads.specs.Inner.Counting.{read_of}
-use Rattle.late_reads.proofs.CountRuns.{fit_start, fit_end, fit_countable, fit_stop, fit_on, counted_so}
+use Rattle.std.proofs.Common.{refl, arith, ◌∙◌, sym, to_z-of_z}
+use Rattle.late_reads.proofs.CountRuns.{fit_start, fit_end, fit_countable, fit_stop, fit_on}
 use Rattle.late_reads.proofs.counts.fits.Goals as goal
 
 pub loop-call-init : goal.loop-call-init
@@ -10,24 +8,19 @@ loop-call-init g c = rw (to_z-of_z c.ranges.d, c.into_iter-call-iterator.ensures
 
 pub call_fits-requires : goal.call_fits-requires
 call_fits-requires g c =
-    let step : g.C.Calls.left c.loop-call.call-iterator ≡ c.in-Some.call ∷ g.C.Calls.left c.next.new.self = g.met.C.Calls.gives_first _ _ _ c.in-Some.ensures.steps in
-    let e = counted_so (cutoff_at c.args.case.now.laid.words.now) (read_of c.args.strand (g.C.Calls.left c.args.calls)) c.counted.ensures (grind arith) refl in
-    rw (to_z-of_z c.ranges.d) (fit_countable (rw (to_z-of_z c.ranges.d, step) at c.loop-call.invariant) e c.requires.lent c.args.case.now.laid.sized.n_top)
+    rw (to_z-of_z c.ranges.d)
+    (fit_countable (rw (to_z-of_z c.ranges.d) at c.loop-call.invariant) (g.met.C.Calls.gives_first _ _ _ c.in-Some.ensures.steps) c.counted.ensures (grind arith) refl c.requires.lent c.args.case.now.laid.sized.n_top)
 
 pub returns-then-not-call_fits : goal.returns-then-not-call_fits
 returns-then-not-call_fits g c =
-    let step : g.C.Calls.left c.loop-call.call-iterator ≡ c.in-Some.call ∷ g.C.Calls.left c.next.new.self = g.met.C.Calls.gives_first _ _ _ c.in-Some.ensures.steps in
-    let e = counted_so (cutoff_at c.args.case.now.laid.words.now) (read_of c.args.strand (g.C.Calls.left c.args.calls)) c.counted.ensures (grind arith) refl in
-    fit_stop (rw (to_z-of_z c.ranges.d, step) at c.loop-call.invariant) e (sym (rw (to_z-of_z c.ranges.d) at c.call_fits.ensures) ∙ c.if-not-call_fits.true)
+    fit_stop (rw (to_z-of_z c.ranges.d) at c.loop-call.invariant) (g.met.C.Calls.gives_first _ _ _ c.in-Some.ensures.steps) c.counted.ensures (grind arith) refl
+    (sym (rw (to_z-of_z c.ranges.d) at c.call_fits.ensures) ∙ c.if-not-call_fits.true)
 
 pub loop-call-preserved : goal.loop-call-preserved
 loop-call-preserved g c =
-    let step : g.C.Calls.left c.loop-call.call-iterator ≡ c.in-Some.call ∷ g.C.Calls.left c.next.new.self = g.met.C.Calls.gives_first _ _ _ c.in-Some.ensures.steps in
-    let e = counted_so (cutoff_at c.args.case.now.laid.words.now) (read_of c.args.strand (g.C.Calls.left c.args.calls)) c.counted.ensures (grind arith) refl in
     rw (to_z-of_z c.ranges.d)
-    (fit_on (rw (to_z-of_z c.ranges.d, step) at c.loop-call.invariant) e (sym (rw (to_z-of_z c.ranges.d) at c.call_fits.ensures) ∙ c.if-not-call_fits.false))
+    (fit_on (rw (to_z-of_z c.ranges.d) at c.loop-call.invariant) (g.met.C.Calls.gives_first _ _ _ c.in-Some.ensures.steps) c.counted.ensures (grind arith) refl
+    (sym (rw (to_z-of_z c.ranges.d) at c.call_fits.ensures) ∙ c.if-not-call_fits.false))
 
 pub returns : goal.returns
-returns g c =
-    let step : g.C.Calls.left c.loop-call.call-iterator ≡ [] = (g.met.C.Calls.gives_first _ _ _ c.in-None.ensures.steps).0 in
-    fit_end (rw (to_z-of_z c.ranges.d, step) at c.loop-call.invariant)
+returns g c = fit_end (rw (to_z-of_z c.ranges.d) at c.loop-call.invariant) (g.met.C.Calls.gives_first _ _ _ c.in-None.ensures.steps).0

@@ -17,7 +17,7 @@ first_is c =
       | then-count-eq0 w ↦ w.first-is ∙ sym (taken_past c.args.words.now c.args.s m 0 (omega (arith, w.if-count-eq0.true, c.count.ensures)))
       | else-count-eq0 w ↦
           w.first-is ∙ w.front-first.ensures
-          ∙ ap front_of (left_start c.requires.case_in)
+          ∙ ap front_of (left_start c.requires.case_in _ c.all-room.ensures)
           ∙ taken_front c.requires.case_in m c.requires.arriving.fits 0 (omega (arith, w.if-count-eq0.false, c.count.ensures))
     ]
 

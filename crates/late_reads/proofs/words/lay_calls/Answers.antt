@@ -14,7 +14,7 @@ use Rattle.late_reads.proofs.words.lay_calls.Goals.{In-loop-i, After-front-r, Af
 
 pub loop-i-init : goal.loop-i-init
 unfolding calls_laid
-loop-i-init c = record { left_is = left_start c.requires.case_in; laid = refl }
+loop-i-init c = record { left_is = left_start c.requires.case_in _ c.all-left.ensures; laid = refl }
 
 more : (c : In-loop-i) → c.loop-i.i < whole_calls c.args.read.now.calls.now
 more c = omega (arith, c.loop-i-test.true, c.count-m.ensures)
