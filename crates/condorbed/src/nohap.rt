@@ -19,7 +19,9 @@ pub fn answer(
     let variants = reader.front(&mut variants)?;
     let quals = reader.front(&mut quals)?;
     let gqs = reader.front(&mut gqs)?;
-    let answer = no_haplotypes::call_genotypes_no_haplotypes(words, bases, rates, variants, quals, gqs);
+    let answer = no_haplotypes::call_genotypes_no_haplotypes(
+        words, bases, rates, variants, quals, gqs,
+    );
     done_or_refused(output, answer);
     output.line(variants);
     output.line(quals);

@@ -21,7 +21,9 @@ pub fn answer(
     let haplotypes = reader.front(&mut haplotypes)?;
     let phased = reader.front(&mut phased)?;
     let names = reader.front(&mut names)?;
-    let answer = haplotype_assembly::given_phase(words, bases, phase, sets, haplotypes, phased, names);
+    let answer = haplotype_assembly::given_phase(
+        words, bases, phase, sets, haplotypes, phased, names,
+    );
     done_or_refused(output, answer);
     output.line(haplotypes);
     output.line(phased);

@@ -1,6 +1,5 @@
 pub mod Packing
 pub mod Groups
-pub mod Onward
 pub mod ChainReads
 pub mod Keys
 pub mod Collecting

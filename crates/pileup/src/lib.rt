@@ -5,4 +5,3 @@ pub mod piles;
 pub mod reader;
 pub mod row;
 pub mod rows;
-pub mod scratch;
