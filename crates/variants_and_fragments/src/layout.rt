@@ -9,7 +9,7 @@ ghost use Rattle.variants_and_fragments.specs.Inner.Chain.{record_of, first_reco
 ghost use Rattle.variants_and_fragments.specs.Inner.Alleles.{VariantsIn};
 ghost use Rattle.variants_and_fragments.specs.Case.{direction};
 
-use crate::{CallWords, Sizes};
+use crate::{CallWords, Laid, Sizes};
 
 // What a word that passes no range reads as.
 pub const NONE: usize = 4294967296;
@@ -109,24 +109,7 @@ pub fn is_quality(z: i32) -> bool
     (LOWEST_QUALITY <= z) & (z <= 0)
 }
 
-// Word i, which is not negative, so below 2^31.
-pub fn low_at(words: &[i32], i: usize) -> usize
-    requires i_in_bounds { i < length words.now }
-    requires i_value { le_z (pos 0) (word words.now i) ≡ true }
-    ensures { (result ≡ nat_at words.now i) × (result < 2147483648) }
-{
-    nat_of(words[i])
-}
-
-// Word i as it stands.
-pub fn word_at(words: &[i32], i: usize) -> i32
-    requires { i < length words.now }
-    ensures { result ≡ word words.now i }
-{
-    words[i]
-}
-
-// ---- the head
+// ---- where the head, a variant, a fragment and a call stand
 
 // What the head says: N, F, C, how many records are used, the first free one or 0, and the cutoff.
 pub fn read_sizes(words: &[i32]) -> Sizes
@@ -139,7 +122,7 @@ pub fn read_sizes(words: &[i32]) -> Sizes
         c: nat_at(words, CALLS),
         used: nat_at(words, USED),
         free: nat_at(words, FREE),
-        cutoff: word_at(words, CUTOFF),
+        cutoff: words[CUTOFF],
     }
 }
 
@@ -148,15 +131,7 @@ pub fn cutoff_ok(words: &[i32]) -> bool
     requires { head_words ≤ length words.now }
     ensures { result ≡ within lowest_quality (pos 0) (cutoff_at words.now) }
 {
-    is_quality(word_at(words, CUTOFF))
-}
-
-// The cutoff.
-pub fn cutoff_of(words: &[i32], s: Sizes) -> i32
-    requires { Sized words.now s }
-    ensures { result ≡ cutoff_at words.now }
-{
-    word_at(words, CUTOFF)
+    is_quality(words[CUTOFF])
 }
 
 // How many words a case of these sizes has.
@@ -167,8 +142,6 @@ pub fn total_words(s: Sizes) -> usize
     HEAD_WORDS + VARIANT_WORDS * s.n + FRAGMENT_WORDS * s.f + CALL_WORDS * s.c
 }
 
-// ---- a variant
-
 // Where variant v's record starts.
 pub fn variant_at(v: usize) -> usize
     requires { v ≤ max_variants }
@@ -176,85 +149,6 @@ pub fn variant_at(v: usize) -> usize
 {
     HEAD_WORDS + VARIANT_WORDS * v
 }
-
-// Field k of variant v, as a number.
-fn variant_field(words: &[i32], s: Sizes, v: usize, k: usize) -> usize
-    requires { Sized words.now s × (v < s.n) × (k < variant_words) }
-    ensures { result ≡ nat_at words.now (variant_at v + k) }
-{
-    nat_at(words, variant_at(v) + k)
-}
-
-// Field k of variant v, as its word has it.
-fn variant_word(words: &[i32], s: Sizes, v: usize, k: usize) -> i32
-    requires { Sized words.now s × (v < s.n) × (k < variant_words) }
-    ensures { result ≡ variant_word words.now v k }
-{
-    word_at(words, variant_at(v) + k)
-}
-
-// Variant v's position, as its word has it.
-pub fn pos0_word(words: &[i32], s: Sizes, v: usize) -> i32
-    requires { Sized words.now s × (v < s.n) }
-    ensures { result ≡ variant_word words.now v pos0_field }
-{
-    variant_word(words, s, v, POS0)
-}
-
-// Variant v's depth, as its word has it.
-pub fn depth_word(words: &[i32], s: Sizes, v: usize) -> i32
-    requires { Sized words.now s × (v < s.n) }
-    ensures { result ≡ variant_word words.now v depth_field }
-{
-    variant_word(words, s, v, DEPTH)
-}
-
-// The position of a variant v that is checked.
-pub fn pos0_of(words: &[i32], s: Sizes, v: usize) -> usize
-    requires sized { Sized words.now s }
-    requires variants_in { VariantsIn words.now s }
-    requires v_lt_n { v < s.n }
-    ensures { (result ≡ pos0_at words.now v) × (result < 2147483648) }
-{
-    low_at(words, variant_at(v) + POS0)
-}
-
-// The depth of a variant v that is checked.
-pub fn depth_of(words: &[i32], s: Sizes, v: usize) -> usize
-    requires sized { Sized words.now s }
-    requires variants_in { VariantsIn words.now s }
-    requires v_lt_n { v < s.n }
-    ensures { (result ≡ depth_at words.now v) × (result < 2147483648) }
-{
-    low_at(words, variant_at(v) + DEPTH)
-}
-
-// Allele i of variant v's genotype, i being 0 or 1.
-pub fn genotype_of(words: &[i32], s: Sizes, v: usize, i: usize) -> usize
-    requires { Sized words.now s × (v < s.n) × (i < 2) }
-    ensures { result ≡ genotype_at words.now v i }
-{
-    variant_field(words, s, v, GENOTYPE + i)
-}
-
-// Variant v's number of alleles.
-pub fn allele_count(words: &[i32], s: Sizes, v: usize) -> usize
-    requires sized { Sized words.now s }
-    requires v_lt_n { v < s.n }
-    ensures { result ≡ allele_count_at words.now v }
-{
-    variant_field(words, s, v, ALLELE_COUNT)
-}
-
-// The length of allele j of variant v.
-pub fn allele_length(words: &[i32], s: Sizes, v: usize, j: usize) -> usize
-    requires { Sized words.now s × (v < s.n) × (j < 3) }
-    ensures { result ≡ length_at words.now v j }
-{
-    variant_field(words, s, v, LENGTHS + j)
-}
-
-// ---- a fragment
 
 // Where fragment f's record starts.
 pub fn fragment_at(s: Sizes, f: usize) -> usize
@@ -264,40 +158,15 @@ pub fn fragment_at(s: Sizes, f: usize) -> usize
     HEAD_WORDS + VARIANT_WORDS * s.n + FRAGMENT_WORDS * f
 }
 
-// Field k of fragment f, as a number.
-fn fragment_field(words: &[i32], s: Sizes, f: usize, k: usize) -> usize
-    requires { Sized words.now s × (f < s.f) × (k < fragment_words) }
-    ensures { result ≡ nat_at words.now (fragment_at s f + k) }
+// Where call r's record starts.
+pub fn call_at(s: Sizes, r: usize) -> usize
+    requires { (s.n ≤ max_variants) × ((s.f ≤ max_fragments) × ((1 ≤ r) × (r ≤ max_calls))) }
+    ensures { result ≡ call_at s r }
 {
-    nat_at(words, fragment_at(s, f) + k)
+    HEAD_WORDS + VARIANT_WORDS * s.n + FRAGMENT_WORDS * s.f + CALL_WORDS * (r - 1)
 }
 
-// Fragment f's first call, as its word has it.
-fn first_value(words: &[i32], s: Sizes, f: usize) -> i32
-    requires { Sized words.now s × (f < s.f) }
-    ensures { result ≡ fragment_word words.now s f first_field }
-{
-    word_at(words, fragment_at(s, f) + FIRST)
-}
-
-// Fragment f is present: its first call is not negative.
-pub fn is_present(words: &[i32], s: Sizes, f: usize) -> bool
-    requires sized { Sized words.now s }
-    requires f_lt_f { f < s.f }
-    ensures { result ≡ present_at words.now s f }
-{
-    0 <= first_value(words, s, f)
-}
-
-// Fragment f's first call is in −1..used.
-pub fn first_ok(words: &[i32], s: Sizes, f: usize) -> bool
-    requires sized { Sized words.now s }
-    requires f_lt_f { f < s.f }
-    ensures { result ≡ within (negsuc 0) (pos s.used) (fragment_word words.now s f first_field) }
-{
-    let z = first_value(words, s, f);
-    (ABSENT <= z) & (z <= s.used as i32)
-}
+// ---- readings of a word
 
 // What a word names as a record, and 0 where that is none of those used.
 pub fn record_of(s: Sizes, t: usize) -> usize
@@ -310,33 +179,6 @@ pub fn record_of(s: Sizes, t: usize) -> usize
     t
 }
 
-// Fragment f's first call as a number: 0, a record, used or not, or NONE.
-fn first_word(words: &[i32], s: Sizes, f: usize) -> usize
-    requires sized { Sized words.now s }
-    requires f_lt_f { f < s.f }
-    ensures { result ≡ first_call_at words.now s f }
-{
-    fragment_field(words, s, f, FIRST)
-}
-
-// The first record of fragment f's chain, or 0 where its word names none.
-pub fn first_call(words: &[i32], s: Sizes, f: usize) -> usize
-    requires sized { Sized words.now s }
-    requires f_lt_f { f < s.f }
-    ensures { result ≡ first_record_at words.now s f }
-{
-    record_of(s, first_word(words, s, f))
-}
-
-// Fragment f's strand.
-pub fn strand_of(words: &[i32], s: Sizes, f: usize) -> usize
-    requires sized { Sized words.now s }
-    requires f_lt_f { f < s.f }
-    ensures { result ≡ strand_at words.now s f }
-{
-    fragment_field(words, s, f, STRAND)
-}
-
 // The direction of a strand, muted or not: 0 forward, 1 reverse.
 pub fn direction_of(strand: usize) -> usize
     ensures { result ≡ direction strand }
@@ -344,116 +186,183 @@ pub fn direction_of(strand: usize) -> usize
     strand % 2
 }
 
-// ---- a call
+// ---- the readings of a case's words
 
-// Where call r's record starts.
-pub fn call_at(s: Sizes, r: usize) -> usize
-    requires { (s.n ≤ max_variants) × ((s.f ≤ max_fragments) × ((1 ≤ r) × (r ≤ max_calls))) }
-    ensures { result ≡ call_at s r }
-{
-    HEAD_WORDS + VARIANT_WORDS * s.n + FRAGMENT_WORDS * s.f + CALL_WORDS * (r - 1)
-}
+impl Laid<'_> {
+    // The cutoff.
+    pub fn cutoff(&self) -> i32
+        ensures { result ≡ cutoff_at self.now.words.now }
+    {
+        self.words[CUTOFF]
+    }
 
-// Field k of call r, as a number.
-fn call_field(words: &[i32], s: Sizes, r: usize, k: usize) -> usize
-    requires { Sized words.now s × (1 ≤ r) × (r ≤ s.c) × (k < call_words) }
-    ensures { result ≡ nat_at words.now (call_at s r + k) }
-{
-    nat_at(words, call_at(s, r) + k)
-}
+    // Field k of variant v, as its word has it.
+    fn variant_word(&self, v: usize, k: usize) -> i32
+        requires { (v < self.now.sizes.n) × (k < variant_words) }
+        ensures { result ≡ variant_word self.now.words.now v k }
+    {
+        self.words[variant_at(v) + k]
+    }
 
-// The variant of call r.
-pub fn call_variant(words: &[i32], s: Sizes, r: usize) -> usize
-    requires sized { Sized words.now s }
-    requires le_r { (1 ≤ r) × (r ≤ s.c) }
-    ensures { result ≡ call_variant_at words.now s r }
-{
-    call_field(words, s, r, VARIANT)
-}
+    // Variant v's position, as its word has it.
+    pub fn pos0_word(&self, v: usize) -> i32
+        requires { v < self.now.sizes.n }
+        ensures { result ≡ variant_word self.now.words.now v pos0_field }
+    {
+        self.variant_word(v, POS0)
+    }
 
-// The allele that record r shows.
-pub fn called_allele(words: &[i32], s: Sizes, r: usize) -> usize
-    requires sized { Sized words.now s }
-    requires le_r { (1 ≤ r) × (r ≤ s.c) }
-    ensures { result ≡ called_allele_at words.now s r }
-{
-    call_field(words, s, r, ALLELE)
-}
+    // Variant v's depth, as its word has it.
+    pub fn depth_word(&self, v: usize) -> i32
+        requires { v < self.now.sizes.n }
+        ensures { result ≡ variant_word self.now.words.now v depth_field }
+    {
+        self.variant_word(v, DEPTH)
+    }
 
-// Field k of call r, as its word has it.
-fn call_word(words: &[i32], s: Sizes, r: usize, k: usize) -> i32
-    requires { Sized words.now s × (1 ≤ r) × (r ≤ s.c) × (k < call_words) }
-    ensures { result ≡ call_word words.now s r k }
-{
-    word_at(words, call_at(s, r) + k)
-}
+    // Allele i of variant v's genotype, i being 0 or 1.
+    pub fn genotype(&self, v: usize, i: usize) -> usize
+        requires { (v < self.now.sizes.n) × (i < 2) }
+        ensures { result ≡ genotype_at self.now.words.now v i }
+    {
+        nat_of(self.variant_word(v, GENOTYPE + i))
+    }
 
-// The first four words of record r.
-pub fn call_words(words: &[i32], s: Sizes, r: usize) -> CallWords
-    requires sized { Sized words.now s }
-    requires le_r { (1 ≤ r) × (r ≤ s.c) }
-    ensures { result ≡ call_words_at words.now s r }
-{
-    CallWords {
-        variant: call_word(words, s, r, VARIANT),
-        allele: call_word(words, s, r, ALLELE),
-        qual: call_word(words, s, r, QUAL),
-        one_minus_qual: call_word(words, s, r, ONE_MINUS_QUAL),
+    // Variant v's number of alleles.
+    pub fn allele_count(&self, v: usize) -> usize
+        requires { v < self.now.sizes.n }
+        ensures { result ≡ allele_count_at self.now.words.now v }
+    {
+        nat_of(self.variant_word(v, ALLELE_COUNT))
+    }
+
+    // The length of allele j of variant v, 0 where it has none.
+    pub fn allele_length(&self, v: usize, j: usize) -> usize
+        requires { (v < self.now.sizes.n) × (j < 3) }
+        ensures { result ≡ length_at self.now.words.now v j }
+    {
+        nat_of(self.variant_word(v, LENGTHS + j))
+    }
+
+    // Field k of fragment f, as its word has it.
+    fn fragment_word(&self, f: usize, k: usize) -> i32
+        requires { (f < self.now.sizes.f) × (k < fragment_words) }
+        ensures { result ≡ fragment_word self.now.words.now self.now.sizes f k }
+    {
+        self.words[fragment_at(self.sizes, f) + k]
+    }
+
+    // Fragment f is present: its first call is not negative.
+    pub fn is_present(&self, f: usize) -> bool
+        requires { f < self.now.sizes.f }
+        ensures { result ≡ present_at self.now.words.now self.now.sizes f }
+    {
+        0 <= self.fragment_word(f, FIRST)
+    }
+
+    // Fragment f's first call is in −1..used.
+    pub fn first_ok(&self, f: usize) -> bool
+        requires { f < self.now.sizes.f }
+        ensures { result ≡ within (negsuc 0) (pos self.now.sizes.used) (fragment_word self.now.words.now self.now.sizes f first_field) }
+    {
+        let z = self.fragment_word(f, FIRST);
+        (ABSENT <= z) & (z <= self.sizes.used as i32)
+    }
+
+    // The first record of fragment f's chain, or 0 where its word names none.
+    pub fn first_call(&self, f: usize) -> usize
+        requires { f < self.now.sizes.f }
+        ensures { result ≡ first_record_at self.now.words.now self.now.sizes f }
+    {
+        record_of(self.sizes, nat_of(self.fragment_word(f, FIRST)))
+    }
+
+    // Fragment f's strand.
+    pub fn strand(&self, f: usize) -> usize
+        requires { f < self.now.sizes.f }
+        ensures { result ≡ strand_at self.now.words.now self.now.sizes f }
+    {
+        nat_of(self.fragment_word(f, STRAND))
+    }
+
+    // Field k of call r, as its word has it.
+    fn call_word(&self, r: usize, k: usize) -> i32
+        requires { (1 ≤ r) × (r ≤ self.now.sizes.c) × (k < call_words) }
+        ensures { result ≡ call_word self.now.words.now self.now.sizes r k }
+    {
+        self.words[call_at(self.sizes, r) + k]
+    }
+
+    // The variant of call r.
+    pub fn call_variant(&self, r: usize) -> usize
+        requires { (1 ≤ r) × (r ≤ self.now.sizes.c) }
+        ensures { result ≡ call_variant_at self.now.words.now self.now.sizes r }
+    {
+        nat_of(self.call_word(r, VARIANT))
+    }
+
+    // The allele that record r shows.
+    pub fn called_allele(&self, r: usize) -> usize
+        requires { (1 ≤ r) × (r ≤ self.now.sizes.c) }
+        ensures { result ≡ called_allele_at self.now.words.now self.now.sizes r }
+    {
+        nat_of(self.call_word(r, ALLELE))
+    }
+
+    // The quality of record r.
+    pub fn qual(&self, r: usize) -> i32
+        requires { (1 ≤ r) × (r ≤ self.now.sizes.c) }
+        ensures { result ≡ qual_at self.now.words.now self.now.sizes r }
+    {
+        self.call_word(r, QUAL)
+    }
+
+    // The other quality of record r, one_minus_qual.
+    pub fn one_minus_qual(&self, r: usize) -> i32
+        requires { (1 ≤ r) × (r ≤ self.now.sizes.c) }
+        ensures { result ≡ one_minus_qual_at self.now.words.now self.now.sizes r }
+    {
+        self.call_word(r, ONE_MINUS_QUAL)
+    }
+
+    // The first four words of record r.
+    pub fn call_words(&self, r: usize) -> CallWords
+        requires { (1 ≤ r) × (r ≤ self.now.sizes.c) }
+        ensures { result ≡ call_words_at self.now.words.now self.now.sizes r }
+    {
+        CallWords {
+            variant: self.call_word(r, VARIANT),
+            allele: self.call_word(r, ALLELE),
+            qual: self.call_word(r, QUAL),
+            one_minus_qual: self.call_word(r, ONE_MINUS_QUAL),
+        }
+    }
+
+    // The next of call r as a number: 0, a record, used or not, or NONE.
+    pub fn next_call(&self, r: usize) -> usize
+        requires { (1 ≤ r) × (r ≤ self.now.sizes.c) }
+        ensures { result ≡ next_call_at self.now.words.now self.now.sizes r }
+    {
+        nat_of(self.call_word(r, NEXT))
+    }
+
+    // The record after call r in its chain, or 0 where its word names none of those used.
+    pub fn next_record(&self, r: usize) -> usize
+        requires { (1 ≤ r) × (r ≤ self.now.sizes.c) }
+        ensures { result ≡ record_of self.now.sizes (next_call_at self.now.words.now self.now.sizes r) }
+    {
+        record_of(self.sizes, self.next_call(r))
     }
 }
 
-// The quality of record r.
-pub fn qual_of(words: &[i32], s: Sizes, r: usize) -> i32
-    requires sized { Sized words.now s }
-    requires le_r { (1 ≤ r) × (r ≤ s.c) }
-    ensures { result ≡ qual_at words.now s r }
-{
-    call_word(words, s, r, QUAL)
-}
-
-// The other quality of record r, one_minus_qual.
-pub fn one_minus_qual_of(words: &[i32], s: Sizes, r: usize) -> i32
-    requires sized { Sized words.now s }
-    requires le_r { (1 ≤ r) × (r ≤ s.c) }
-    ensures { result ≡ one_minus_qual_at words.now s r }
-{
-    call_word(words, s, r, ONE_MINUS_QUAL)
-}
-
-// The next of call r as a number: 0, a record, used or not, or NONE.
-pub fn next_call(words: &[i32], s: Sizes, r: usize) -> usize
-    requires sized { Sized words.now s }
-    requires le_r { (1 ≤ r) × (r ≤ s.c) }
-    ensures { result ≡ next_call_at words.now s r }
-{
-    call_field(words, s, r, NEXT)
-}
-
-// The record after call r in its chain, or 0 where its word names none of those used.
-pub fn next_record(words: &[i32], s: Sizes, r: usize) -> usize
-    requires sized { Sized words.now s }
-    requires le_r { (1 ≤ r) × (r ≤ s.c) }
-    ensures { result ≡ record_of s (next_call_at words.now s r) }
-{
-    record_of(s, next_call(words, s, r))
-}
-
 // ---- words that arrivals and departures write
-
-// Sets word i.
-fn put_word(words: &mut [i32], i: usize, z: i32)
-    requires { i < length words.old }
-    ensures { words.new ≡ set words.old i z }
-{
-    words[i] = z;
-}
 
 // Sets a word of the head to a number of records or a record.
 fn put_head(words: &mut [i32], field: usize, x: usize)
     requires { (head_words ≤ length words.old) × (field < head_words) × (x ≤ max_calls) }
     ensures { words.new ≡ head_set words.old field (pos x) }
 {
-    put_word(words, field, x as i32);
+    words[field] = x as i32;
 }
 
 // Sets how many records are used.
@@ -478,7 +387,7 @@ pub fn put_first(words: &mut [i32], s: Sizes, f: usize, first: i32)
     requires f_lt_f { f < s.f }
     ensures { words.new ≡ fragment_set words.old s f first_field first }
 {
-    put_word(words, fragment_at(s, f) + FIRST, first);
+    words[fragment_at(s, f) + FIRST] = first;
 }
 
 // Sets fragment f's strand.
@@ -487,7 +396,7 @@ pub fn put_strand(words: &mut [i32], s: Sizes, f: usize, strand: i32)
     requires f_lt_f { f < s.f }
     ensures { words.new ≡ fragment_set words.old s f strand_field strand }
 {
-    put_word(words, fragment_at(s, f) + STRAND, strand);
+    words[fragment_at(s, f) + STRAND] = strand;
 }
 
 // Sets the record after record r in its chain, or 0.
@@ -496,7 +405,7 @@ pub fn put_next(words: &mut [i32], s: Sizes, r: usize, next: usize)
     requires le_r { (1 ≤ r) × (r ≤ s.c) × (next ≤ max_calls) }
     ensures { words.new ≡ call_set words.old s r next_field (pos next) }
 {
-    put_word(words, call_at(s, r) + NEXT, next as i32);
+    words[call_at(s, r) + NEXT] = next as i32;
 }
 
 // Sets record r: a call's four words, and the record after it in its chain, or 0.
@@ -506,9 +415,9 @@ pub fn put_call(words: &mut [i32], s: Sizes, r: usize, call: CallWords, next: us
     ensures { words.new ≡ call_put words.old s r call next }
 {
     let at = call_at(s, r);
-    put_word(words, at + VARIANT, call.variant);
-    put_word(words, at + ALLELE, call.allele);
-    put_word(words, at + QUAL, call.qual);
-    put_word(words, at + ONE_MINUS_QUAL, call.one_minus_qual);
-    put_word(words, at + NEXT, next as i32);
+    words[at + VARIANT] = call.variant;
+    words[at + ALLELE] = call.allele;
+    words[at + QUAL] = call.qual;
+    words[at + ONE_MINUS_QUAL] = call.one_minus_qual;
+    words[at + NEXT] = next as i32;
 }
