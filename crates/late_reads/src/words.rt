@@ -4,16 +4,15 @@ ghost use Rattle.variants_and_fragments.specs.Chain.{chain_of};
 ghost use Rattle.variants_and_fragments.specs.Layout.{max_calls};
 ghost use Rattle.variants_and_fragments.specs.Inner.Accepted.{CaseIn};
 ghost use Rattle.variants_and_fragments.specs.Inner.Chain.{first_record_at};
-ghost use Rattle.variants_and_fragments.specs.Inner.Layout.{Sized};
 ghost use Rattle.late_reads.specs.Arriving.{whole_calls, taken, calls_laid, arrived_words, freed_words, departed_words};
 ghost use Rattle.late_reads.specs.Inner.Ready.{Arriving};
 ghost use Rattle.late_reads.specs.Inner.Room.{front_of, rest_of, left_at};
 
 use crate::arriving::Arrival;
-use variants_and_fragments::Sizes;
 use variants_and_fragments::layout::{
-    ABSENT, first_call, next_call, put_call, put_first, put_free, put_next, put_strand, put_used,
+    ABSENT, put_call, put_first, put_free, put_next, put_strand, put_used,
 };
+use variants_and_fragments::{Laid, Sizes};
 
 // The records that are left to take: the first free one, and how many are used. Where none is free it is 0, as in the words, which no record is.
 #[derive(Clone, Copy)]
@@ -45,10 +44,9 @@ impl RoomLeft {
     }
 
     // What is left once it is taken.
-    fn rest(self, words: &[i32], s: Sizes) -> RoomLeft
-        requires sized { Sized words.now s }
-        requires in_case { (self.used ≤ max_calls) × (self.free ≤ s.c) }
-        ensures { result ≡ rest_of words.now s self }
+    fn rest(self, laid: &Laid<'_>) -> RoomLeft
+        requires { (self.used ≤ max_calls) × (self.free ≤ laid.now.sizes.c) }
+        ensures { result ≡ rest_of laid.now.words.now laid.now.sizes self }
     {
         if self.free == 0 {
             return RoomLeft {
@@ -57,7 +55,7 @@ impl RoomLeft {
             };
         }
         RoomLeft {
-            free: next_call(words, s, self.free),
+            free: laid.next_call(self.free),
             used: self.used,
         }
     }
@@ -75,7 +73,7 @@ fn lay_calls(words: &mut [i32], s: Sizes, read: &Arrival<'_>) -> RoomLeft
     let mut left = RoomLeft::all(s);
     for i in 0..m {
         let r = left.front();
-        left = left.rest(words, s);
+        left = left.rest(&Laid { words, sizes: s });
         let next = if i + 1 == m { 0 } else { left.front() };
         put_call(words, s, r, read.call_words(i), next);
     }
@@ -98,14 +96,14 @@ pub fn lay_arrival(words: &mut [i32], s: Sizes, read: &Arrival<'_>)
 }
 
 // The last record of fragment f's chain, which is not empty. At the loop's head last is the chain's k-th record.
-fn last_record(words: &[i32], s: Sizes, f: usize) -> usize
-    requires case_in { CaseIn words.now s }
-    requires f_lt_f { (f < s.f) × (1 ≤ first_record_at words.now s f) }
-    ensures { result ≡ get_or (chain_of words.now s f) (length (chain_of words.now s f) - 1) 0 }
+fn last_record(laid: &Laid<'_>, f: usize) -> usize
+    requires case_in { CaseIn laid.now.words.now laid.now.sizes }
+    requires f_lt_f { (f < laid.now.sizes.f) × (1 ≤ first_record_at laid.now.words.now laid.now.sizes f) }
+    ensures { result ≡ get_or (chain_of laid.now.words.now laid.now.sizes f) (length (chain_of laid.now.words.now laid.now.sizes f) - 1) 0 }
 {
-    let mut last = first_call(words, s, f);
-    for k in 1..s.c {
-        let next = next_call(words, s, last);
+    let mut last = laid.first_call(f);
+    for k in 1..laid.sizes.c {
+        let next = laid.next_call(last);
         if next == 0 {
             return last;
         }
@@ -120,11 +118,12 @@ fn free_records(words: &mut [i32], s: Sizes, f: usize)
     requires f_lt_f { f < s.f }
     ensures { words.new ≡ freed_words words.old s (chain_of words.old s f) }
 {
-    let first = first_call(words, s, f);
+    let laid = Laid { words, sizes: s };
+    let first = laid.first_call(f);
     if first == 0 {
         return;
     }
-    let last = last_record(words, s, f);
+    let last = last_record(&laid, f);
     put_next(words, s, last, s.free);
     put_free(words, first);
 }

@@ -12,7 +12,7 @@ use crate::Sizes;
 pub struct Laid<'a> {
     pub words: &'a [i32],
     pub sizes: Sizes,
-    ghost sized: { Sized words.now sizes },
+    pub ghost sized: { Sized words.now sizes },
 }
 
 // Words that are laid out and whose variant records are right.

@@ -64,7 +64,7 @@ pub front-r-requires : goal.front-r-requires
 front-r-requires c = (left_top (goal.at.front-r-requires c).In-loop-i).0
 
 pub rest-left-requires : goal.rest-left-requires
-rest-left-requires c = let a = (goal.at.rest-left-requires c).In-loop-i in record { sized = sized a; in_case = left_top a }
+rest-left-requires c = left_top (goal.at.rest-left-requires c).In-loop-i
 
 pub front-next-requires : goal.front-next-requires
 front-next-requires c =
