@@ -3,7 +3,8 @@ ghost use Rattle.call_genotypes.specs.Inner.Piles.{PileThere, PileIs};
 
 use pileup::piles::group_start;
 
-// Each variant's number of alleles, its flag, 1 where it is phased, its nine priors, and the piles with where each variant's ends.
+// Each variant's number of alleles, its flag, 1 where it is phased, its nine priors, and the piles with where each variant's ends. A flag is a
+// byte, as `given_phase` writes it for C.
 #[derive(Clone, Copy)]
 pub struct SweepReads<'a> {
     pub ks: &'a [u8],

@@ -72,7 +72,7 @@ fn mixes_of(d: i64, g: i64) -> Mixes
     }
 }
 
-// How far o is above q.
+// How far o is above q. No `Sub`: it would have no range to offer, and is no LogProb.
 fn gap(q: LogProb, o: LogProb) -> i64
     requires { DownTo 262144 q.0 × DownTo 262144 o.0 }
     ensures { (result ≡ o.0 -ℤ q.0) × (nat_abs result ≤ 262144) }

@@ -41,7 +41,7 @@ fn read_parts<'a>(
     })
 }
 
-// The answer to an arrival, whose case is read.
+// The answer to an arrival, whose case is read. The arrays are named here and in `depart`, since no function can hand out slices of its own.
 pub fn arrive(
     reader: &mut Reader,
     output: &mut Writer,

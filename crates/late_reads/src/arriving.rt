@@ -91,7 +91,8 @@ impl<'a> Arrival<'a> {
         Ok(())
     }
 
-    // 5: the variants of the whole calls rise; the place of a fault is the first call whose does not.
+    // 5: the variants of the whole calls rise; the place of a fault is the first call whose does not. A loop of its own: one for both, over a
+    // test and a refusal, is longer than the two.
     fn check_rises(&self) -> Result<(), Refusal>
         ensures { outcome_of result ≡ each 5 (arriving_rises self.now.calls.now) 0 (whole_calls self.now.calls.now) (done tt) }
     {

@@ -52,6 +52,7 @@ pub fn arrive(
     let own = arrival.likelihoods();
     let sum = moved(total, own.first.mix(own.second), 1);
     let side = nat_of(strand);
+    // `&`, here and in `depart`: with `||` the borrow checker refuses the function
     let in_range = total_ok(sum) & fits(case, side, read.iter(), counts, 1);
     if !in_range {
         return Err(Refusal::Short(0));

@@ -24,7 +24,7 @@ pub struct DensityParameters {
     pub gq: PHREDProb,
 }
 
-// The number of a filter.
+// The number of a filter. A function and no `From`, which would be a second name: promises cite this one.
 pub fn filter_value(f: VarFilter) -> u8
     ensures { result ≡ filter_value f }
 {

@@ -11,7 +11,8 @@ ghost use Rattle.variants_and_fragments.specs.Case.{direction};
 
 use crate::{CallWords, Laid, Sizes};
 
-// What a word that passes no range reads as.
+// What a word that passes no range reads as. A number and no Option, as 0 is for no record: so it is in the words, and a walk would make an
+// Option of each word and take it apart at once.
 pub const NONE: usize = 4294967296;
 
 // Words of the head and of each record.
@@ -356,6 +357,7 @@ impl Laid<'_> {
 }
 
 // ---- words that arrivals and departures write
+// They take the words and the sizes: of a struct with both, each contract would have to say too that the words lent are the same.
 
 // Sets a word of the head to a number of records or a record.
 fn put_head(words: &mut [i32], field: usize, x: usize)
