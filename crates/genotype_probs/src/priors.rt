@@ -18,8 +18,8 @@ pub struct VariantAlleles<'a> {
     pub case: &'a Case<'a>,
     pub v: usize,
     pub at: usize,
-    ghost inside: { v < case.now.laid.sizes.n },
-    ghost starts: { at ≡ alleles_start case.now.laid.words.now v },
+    pub ghost inside: { v < case.now.laid.sizes.n },
+    pub ghost starts: { at ≡ alleles_start case.now.laid.words.now v },
 }
 
 impl<'a> VariantAlleles<'a> {

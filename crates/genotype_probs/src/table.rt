@@ -114,8 +114,8 @@ fn reference_diploid(rates: AcceptedRates) -> LogProb
 #[derive(Drop)]
 pub struct PriorTable {
     pub rates: AcceptedRates,
-    entries: [i64; 144],
-    ghost made: { entries ≡ prior_table rates.rates },
+    pub entries: [i64; 144],
+    pub ghost made: { entries ≡ prior_table rates.rates },
 }
 
 impl PriorTable {

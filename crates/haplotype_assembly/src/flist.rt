@@ -58,7 +58,7 @@ pub struct Flist<'a> {
     pub rows: &'a [u64],
     pub ends: &'a [usize],
     pub single: bool,
-    ghost lines_given: { LinesGiven case.laid.sizes rows.now ends.now },
+    pub ghost lines_given: { LinesGiven case.laid.sizes rows.now ends.now },
 }
 
 impl<'a> Flist<'a> {

@@ -126,7 +126,7 @@ pub struct PhasedCase<'a> {
     pub case: Case<'a>,
     pub phase: &'a [u8],
     pub sets: &'a [i32],
-    ghost faultless: { Faultless case.laid.sizes.n phase.now sets.now },
+    pub ghost faultless: { Faultless case.laid.sizes.n phase.now sets.now },
 }
 
 impl PhasedCase<'_> {

@@ -10,7 +10,7 @@ pub struct Scan<'a> {
     pub case: Case<'a>,
     pub quals: &'a [f64],
     pub density: DensityParameters,
-    ghost quals_in: { case.laid.sizes.n ≤ length quals.now },
+    pub ghost quals_in: { case.laid.sizes.n ≤ length quals.now },
 }
 
 impl Scan<'_> {

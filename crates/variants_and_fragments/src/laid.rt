@@ -19,7 +19,7 @@ pub struct Laid<'a> {
 #[derive(Clone, Copy)]
 pub struct WithVariants<'a> {
     pub laid: Laid<'a>,
-    ghost variants_in: { VariantsIn laid.words.now laid.sizes },
+    pub ghost variants_in: { VariantsIn laid.words.now laid.sizes },
 }
 
 // A case that the check accepted, with its allele bytes.
@@ -27,8 +27,8 @@ pub struct WithVariants<'a> {
 pub struct Case<'a> {
     pub laid: Laid<'a>,
     pub bases: &'a [u8],
-    ghost case_in: { CaseIn laid.words.now laid.sizes },
-    ghost bases_in: { BasesIn laid.words.now laid.sizes bases.now },
+    pub ghost case_in: { CaseIn laid.words.now laid.sizes },
+    pub ghost bases_in: { BasesIn laid.words.now laid.sizes bases.now },
 }
 
 impl Case<'_> {
