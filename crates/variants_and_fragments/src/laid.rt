@@ -22,6 +22,13 @@ pub struct WithVariants<'a> {
     pub ghost variants_in: { VariantsIn laid.words.now laid.sizes },
 }
 
+// Words that the check accepts, whatever allele bytes come with them.
+#[derive(Clone, Copy)]
+pub struct CaseWords<'a> {
+    pub laid: Laid<'a>,
+    pub ghost case_in: { CaseIn laid.words.now laid.sizes },
+}
+
 // A case that the check accepted, with its allele bytes.
 #[derive(Clone, Copy)]
 pub struct Case<'a> {
@@ -31,14 +38,7 @@ pub struct Case<'a> {
     pub ghost bases_in: { BasesIn laid.words.now laid.sizes bases.now },
 }
 
-impl Case<'_> {
-    // The cutoff.
-    pub fn cutoff(&self) -> i32
-        ensures { result ≡ cutoff_at self.now.laid.words.now }
-    {
-        self.laid.cutoff()
-    }
-
+impl WithVariants<'_> {
     // The position of variant v.
     pub fn pos0(&self, v: usize) -> usize
         requires { v < self.now.laid.sizes.n }
@@ -54,9 +54,34 @@ impl Case<'_> {
     {
         self.laid.depth_word(v) as usize
     }
+}
+
+impl<'a> CaseWords<'a> {
+    // The cutoff.
+    pub fn cutoff(&self) -> i32
+        ensures { result ≡ cutoff_at self.now.laid.words.now }
+    {
+        self.laid.cutoff()
+    }
+
+    // What is known of them once the variant records are checked.
+    pub fn with_variants(&self) -> WithVariants<'a>
+        ensures { result.laid ≡ self.now.laid }
+    {
+        WithVariants { laid: self.laid }
+    }
+}
+
+impl<'a> Case<'a> {
+    // Its words alone.
+    pub fn accepted_words(&self) -> CaseWords<'a>
+        ensures { result.laid ≡ self.now.laid }
+    {
+        CaseWords { laid: self.laid }
+    }
 
     // What is known of it once its variant records are checked.
-    pub fn with_variants(&self) -> WithVariants<'_>
+    pub fn with_variants(&self) -> WithVariants<'a>
         ensures { result.laid ≡ self.now.laid }
     {
         WithVariants { laid: self.laid }

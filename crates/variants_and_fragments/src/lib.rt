@@ -8,7 +8,7 @@ use crate::alleles::check_alleles;
 use crate::chains::check_chains;
 use crate::head::read_head;
 use crate::variants::check_variants;
-pub use laid::{Case, Laid, WithVariants};
+pub use laid::{Case, CaseWords, Laid, WithVariants};
 pub use refusals::{earlier, long_enough, short_of};
 
 pub mod alleles;
