@@ -33,20 +33,20 @@ impl Refusal {
         ensures { result ≡ refusals.place self }
     {
         match self {
-            Refusal::Head(p) => p,
-            Refusal::Variant(p) => p,
-            Refusal::Alleles(p) => p,
-            Refusal::Call(p) => p,
-            Refusal::Chain(p) => p,
-            Refusal::Rates(p) => p,
-            Refusal::Phase(p) => p,
-            Refusal::Orders(p) => p,
-            Refusal::Limit(p) => p,
-            Refusal::Short(p) => p,
-            Refusal::DensityQual(p) => p,
-            Refusal::Normalize(p) => p,
-            Refusal::Fragment(p) => p,
-            Refusal::Room(p) => p,
+            Refusal::Head(p)
+            | Refusal::Variant(p)
+            | Refusal::Alleles(p)
+            | Refusal::Call(p)
+            | Refusal::Chain(p)
+            | Refusal::Rates(p)
+            | Refusal::Phase(p)
+            | Refusal::Orders(p)
+            | Refusal::Limit(p)
+            | Refusal::Short(p)
+            | Refusal::DensityQual(p)
+            | Refusal::Normalize(p)
+            | Refusal::Fragment(p)
+            | Refusal::Room(p) => p,
         }
     }
 }
