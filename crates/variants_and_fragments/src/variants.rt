@@ -74,10 +74,8 @@ pub fn check_variants<'a>(laid: &Laid<'a>, haplotypes: &[u8]) -> Result<WithVari
     ensures outcome { answered (λ _. tt) result ≡ variants_outcome laid.now.words.now haplotypes.now laid.now.sizes }
     ensures same { IfOk result (λ known. known.laid ≡ laid.now) }
 {
-    for v in 0..laid.sizes.n {
-        if !variant_ok(laid, haplotypes, v) {
-            return Err(Refusal::Variant(v));
-        }
+    match (0..laid.sizes.n).find(|v| !variant_ok(laid, haplotypes, *v)) {
+        Some(v) => Err(Refusal::Variant(v)),
+        None => Ok(WithVariants { laid: *laid }),
     }
-    Ok(WithVariants { laid: *laid })
 }
