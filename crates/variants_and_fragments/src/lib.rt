@@ -8,12 +8,14 @@ use crate::alleles::check_alleles;
 use crate::chains::check_chains;
 use crate::head::read_head;
 use crate::variants::check_variants;
+pub use faults::first_fault;
 pub use laid::{Case, CaseWords, Laid, WithVariants};
 pub use refusals::long_enough;
 
 pub mod alleles;
 pub mod calls;
 mod chains;
+mod faults;
 mod head;
 pub mod laid;
 pub mod layout;
