@@ -5,7 +5,7 @@ ghost use Rattle.variants_and_fragments.specs.Decode.{call_from, fragment_from};
 ghost use Rattle.pileup.specs.Inner.Reader.{held_call};
 
 use std::marker::Model;
-use variants_and_fragments::{Case, Laid};
+use variants_and_fragments::{CaseWords, Laid};
 
 // A call of a fragment.
 #[derive(Clone, Copy)]
@@ -39,7 +39,7 @@ impl<'a> Model for ChainReader<'a> {
 
 impl<'a> ChainReader<'a> {
     // The reader of fragment f's calls.
-    pub fn new(case: &Case<'a>, f: usize) -> ChainReader<'a>
+    pub fn new(case: &CaseWords<'a>, f: usize) -> ChainReader<'a>
         requires { f < case.now.laid.sizes.f }
         ensures { result ≡ map held_call (fragment_from case.now.laid.words.now case.now.laid.sizes f).calls }
     {

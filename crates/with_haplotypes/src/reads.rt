@@ -6,6 +6,7 @@ ghost use Rattle.with_haplotypes.specs.Inner.Steps.{Admitted, RunGiven};
 
 use call_genotypes::run::Plan;
 use genotype_probs::AcceptedRates;
+use pileup::grouped::Groups;
 use variants_and_fragments::Case;
 
 // What an accepted round reads: a case, rates, phase bytes, orders, and how many sweeps by how many orders.
@@ -28,14 +29,12 @@ pub struct RunReads<'a> {
     pub ghost given: { RunGiven round.case.laid.words.now round.case.bases.now round.rates.rates round.case.laid.sizes round.plan ks.now ph.now round.orders.now (phased_flags (decode round.case.laid.words.now round.case.bases.now) round.phase.now) },
 }
 
-// A run with its usable calls as rows and as piles, where those of each fragment and variant end, and the priors. That they are those of the
+// A run with its usable calls by fragment and by variant, and the priors. That they are those of the
 // run's case is asked by `sweep` alone, and is no ghost field: antt finds no proof that `All`, a type of the logic, is a proposition.
 #[derive(Clone, Copy)]
 pub struct PreparedRun<'a> {
     pub reads: RunReads<'a>,
-    pub rows: &'a [u64],
-    pub row_ends: &'a [usize],
-    pub piles: &'a [u64],
-    pub pile_ends: &'a [usize],
+    pub rows: Groups<'a>,
+    pub piles: Groups<'a>,
     pub pri: &'a [i64],
 }

@@ -1,6 +1,6 @@
 -- 01, sections 4 and 6: a usable call as the code holds it, one word, and the words of groups of calls.
 -- Assumes nothing.
-use Rattle.std.specs.Prelude.{◌≡◌, Bool, List, map, ℕ, zero, suc, ◌+◌, ◌*◌, ◌-◌, ◌/◌, ◌%◌, ◌≤◌, ◌<◌, ℤ, pos, neg_ℤ, ◌-ℤ◌, length, get_or}
+use Rattle.std.specs.Prelude.{◌≡◌, Bool, List, map, ℕ, zero, suc, ◌+◌, ◌*◌, ◌-◌, ◌/◌, ◌%◌, ◌≤◌, ◌<◌, ℤ, pos, neg_ℤ, ◌-ℤ◌, length, get_or, take, drop}
 use Rattle.std.proofs.Math.Seq.{slice}
 use Rattle.variants_and_fragments.specs.Inner.Words.{debt_of}
 use Rattle.variants_and_fragments.specs.Inner.Sums.{DownTo}
@@ -79,6 +79,16 @@ pub record RowsIn (n f : ℕ) (words : List ℕ) (a e : ℕ) : Type 0 where
 unfoldable pub group_start : List ℕ → ℕ → ℕ
 group_start ends zero = 0
 group_start ends (suc g) = get_or ends g 0
+
+-- the words of group g
+abbrev pub group_words : List ℕ → List ℕ → ℕ → List ℕ
+group_words ends words g = take (get_or ends g 0 - group_start ends g) (drop (group_start ends g) words)
+
+-- they are there
+pub record GroupThere (ends words : List ℕ) (g : ℕ) : Type 0 where
+  pub g_in : g < length ends
+  pub rises : group_start ends g ≤ get_or ends g 0
+  pub long : get_or ends g 0 ≤ length words
 
 -- the words hold m groups of rows, each row one of f fragments and at one of n variants
 pub record Grouped (n f m : ℕ) (group : ℕ → List Row) (ends words : List ℕ) : Type 0 where
