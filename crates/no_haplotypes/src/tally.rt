@@ -6,7 +6,7 @@ ghost use Rattle.no_haplotypes.specs.Inner.Tally.{SumsIn, CallAdded, Tallied, pa
 use crate::calls::Calls;
 use pileup::row::Row;
 use steps::LogProb;
-use variants_and_fragments::Case;
+use variants_and_fragments::CaseWords;
 use variants_and_fragments::layout::direction_of;
 
 // The sum of qual; what allele x gains on it in place x where both alleles of a pair match, and in place 3 + x where one does; and the calls that
@@ -20,7 +20,7 @@ pub struct Tally {
 
 impl Tally {
     // Adds one call.
-    fn add(&mut self, case: &Case<'_>, row: Row)
+    fn add(&mut self, case: &CaseWords<'_>, row: Row)
         requires row_in { RowIn case.now.laid.sizes.n case.now.laid.sizes.f (row_from row) }
         requires sums_in { SumsIn self.old }
         ensures { CallAdded case.now.laid.words.now case.now.laid.sizes (row_from row) self.old self.new }
