@@ -9,13 +9,19 @@ use steps::LogProb;
 use variants_and_fragments::CaseWords;
 use variants_and_fragments::layout::direction_of;
 
-// The sum of qual; what allele x gains on it in place x where both alleles of a pair match, and in place 3 + x where one does; and the calls that
-// show it, forward in place x and reverse in place 3 + x.
+// What an allele gains on the sum of qual where both alleles of a pair match it, and where one does.
+#[derive(Clone, Copy)]
+pub struct Gain {
+    pub both: i64,
+    pub one: i64,
+}
+
+// The sum of qual, what each allele gains on it, and the calls that show the allele, forward and reverse.
 #[derive(Clone, Copy)]
 pub struct Tally {
     pub total: LogProb,
-    pub gains: [i64; 6],
-    pub counts: [usize; 6],
+    pub gains: [Gain; 3],
+    pub counts: [[usize; 3]; 2],
 }
 
 impl Tally {
@@ -27,13 +33,13 @@ impl Tally {
     {
         let x = row.allele;
         let q = row.qual.0;
-        let both = row.one_minus_qual.0 - q;
-        let one = row.qual.mix(row.one_minus_qual).0 - q;
+        let mixed = row.qual.mix(row.one_minus_qual).0;
         let strand = direction_of(case.laid.strand(row.fragment));
         self.total.0 += q;
-        self.gains[x] += both;
-        self.gains[3 + x] += one;
-        self.counts[3 * strand + x] += 1;
+        self.counts[strand][x] += 1;
+        let gain = &mut self.gains[x];
+        gain.both += row.one_minus_qual.0 - q;
+        gain.one += mixed - q;
     }
 
     // Adds up a variant's calls.
@@ -42,8 +48,8 @@ impl Tally {
     {
         let mut tally = Tally {
             total: LogProb(0),
-            gains: [0; 6],
-            counts: [0; 6],
+            gains: [Gain { both: 0, one: 0 }; 3],
+            counts: [[0; 3]; 2],
         };
         for word in calls.usable {
             tally.add(&calls.case, Row::unpack(*word));
@@ -70,9 +76,9 @@ impl Summed<'_> {
         let total = self.tally.total.0;
         let gains = &self.tally.gains;
         if i == j {
-            return LogProb(total + gains[i]);
+            return LogProb(total + gains[i].both);
         }
-        LogProb(total + gains[3 + i] + gains[3 + j])
+        LogProb(total + gains[i].one + gains[j].one)
     }
 
     // Adds what the calls add to each of the k × k priors of the variant.
