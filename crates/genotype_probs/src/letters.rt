@@ -2,7 +2,6 @@
 ghost use Rattle.std.specs.Prelude.{◌≡◌, ◌<◌, length};
 ghost use Rattle.genotype_probs.specs.Letters.{base_of, base_number, letter_number, transition_of};
 ghost use Rattle.genotype_probs.specs.Priors.{first_letter, stop_at, compared};
-ghost use Rattle.genotype_probs.specs.Inner.PriorTable.{numbered_base, numbered_letter};
 
 // A base of an allele.
 #[derive(Clone, Copy, PartialEq, Eq, Debug)]
@@ -28,29 +27,43 @@ pub struct Compared {
     pub letter: Letter,
 }
 
-impl Base {
-    // Its number, in the order A C G T.
-    #[tactic(auto, using(crate::proofs::Numbers::base_low), unfolding(crate::specs::Letters::base_number))]
-    pub fn number(self) -> usize
-        ensures value { result ≡ base_number self }
-        ensures bound { result < 4 }
-    {
-        self as usize
-    }
+// All bases and all letters, each at its number.
+pub const BASES: [Base; 4] = [Base::A, Base::C, Base::G, Base::T];
 
-    // The base of a number.
-    #[tactic(auto, unfolding(crate::specs::Inner::PriorTable::numbered_base))]
-    pub fn numbered(n: usize) -> Self
-        ensures { result ≡ numbered_base n }
-    {
-        match n {
-            0 => Base::A,
-            1 => Base::C,
-            2 => Base::G,
-            _ => Base::T,
+pub const LETTERS: [Letter; 6] = [
+    Letter::Base(Base::A),
+    Letter::Base(Base::C),
+    Letter::Base(Base::G),
+    Letter::Base(Base::T),
+    Letter::D,
+    Letter::I,
+];
+
+// The number of a base, in the order A C G T.
+impl From<Base> for usize {
+    ghost from_gives = { λ base n. (n ≡ base_number base) × (n < 4) };
+
+    #[tactic(auto, using(crate::proofs::Numbers::base_low), unfolding(crate::specs::Letters::base_number))]
+    fn from(base: Base) -> usize {
+        base as usize
+    }
+}
+
+// The number of a letter, in the order A C G T D I.
+impl From<Letter> for usize {
+    ghost from_gives = { λ letter n. (n ≡ letter_number letter) × (n < 6) };
+
+    #[tactic(auto, unfolding(crate::specs::Letters::letter_number))]
+    fn from(letter: Letter) -> usize {
+        match letter {
+            Letter::Base(base) => usize::from(base),
+            Letter::D => 4,
+            Letter::I => 5,
         }
     }
+}
 
+impl Base {
     // The base of an allele byte. Bases come in any order, so no jump is to be made of the tests.
     #[tactic(auto, unfolding(crate::specs::Letters::base_of))]
     pub fn of(byte: u8) -> Self
@@ -71,33 +84,6 @@ impl Base {
             Base::G => Base::A,
             Base::C => Base::T,
             Base::T => Base::C,
-        }
-    }
-}
-
-impl Letter {
-    // Its number, in the order A C G T D I.
-    #[tactic(auto, unfolding(crate::specs::Letters::letter_number))]
-    pub fn number(self) -> usize
-        ensures value { result ≡ letter_number self }
-        ensures bound { result < 6 }
-    {
-        match self {
-            Letter::Base(base) => base.number(),
-            Letter::D => 4,
-            Letter::I => 5,
-        }
-    }
-
-    // The letter of a number.
-    #[tactic(auto, using(crate::proofs::Numbers::letter_is_base), unfolding(crate::specs::Inner::PriorTable::numbered_letter))]
-    pub fn numbered(n: usize) -> Self
-        ensures { result ≡ numbered_letter n }
-    {
-        match n {
-            0..=3 => Letter::Base(Base::numbered(n)),
-            4 => Letter::D,
-            _ => Letter::I,
         }
     }
 }
