@@ -12,6 +12,13 @@ pub enum Base {
     T,
 }
 
+// An allele that is present: it has a base.
+#[derive(Clone, Copy)]
+pub struct Allele<'a> {
+    pub bases: &'a [u8],
+    pub ghost present: { 0 < length bases.now },
+}
+
 // What an allele is beside the reference: a base, or longer (I) or shorter (D).
 #[derive(Clone, Copy, PartialEq, Eq, Debug)]
 pub enum Letter {
@@ -90,14 +97,13 @@ impl Base {
 
 // The letter that an allele has before any comparison.
 #[tactic(auto, unfolding(crate::specs::Priors::first_letter))]
-pub fn first_letter(reference: &[u8], allele: &[u8]) -> Letter
-    requires { 0 < length allele.now }
-    ensures { result ≡ first_letter reference.now allele.now }
+pub fn first_letter(reference: &[u8], allele: Allele<'_>) -> Letter
+    ensures { result ≡ first_letter reference.now allele.entry.bases.now }
 {
-    if allele.len() == reference.len() {
-        return Letter::Base(Base::of(allele[0]));
+    if allele.bases.len() == reference.len() {
+        return Letter::Base(Base::of(allele.bases[0]));
     }
-    if reference.len() < allele.len() {
+    if reference.len() < allele.bases.len() {
         return Letter::I;
     }
     Letter::D
@@ -105,16 +111,16 @@ pub fn first_letter(reference: &[u8], allele: &[u8]) -> Letter
 
 // Where the comparison of an allele with a reference of its length stops: at the first base that differs, or at the last. Document 01 asks for a
 // loop that yields its index by break, which a `for` cannot, so it counts i itself.
-pub fn stop_at(reference: &[u8], allele: &[u8]) -> usize
-    requires { (0 < length allele.now) × (length allele.now ≡ length reference.now) }
-    ensures { (result < length allele.now) × (result ≡ stop_at reference.now allele.now) }
+pub fn stop_at(reference: &[u8], allele: Allele<'_>) -> usize
+    requires { length allele.bases.now ≡ length reference.now }
+    ensures { (result < length allele.entry.bases.now) × (result ≡ stop_at reference.now allele.entry.bases.now) }
 {
     let mut i: usize = 0;
     let at = loop {
-        if reference[i] != allele[i] {
+        if reference[i] != allele.bases[i] {
             break i;
         }
-        if i + 1 == allele.len() {
+        if i + 1 == allele.bases.len() {
             break i;
         }
         i += 1;
@@ -123,9 +129,8 @@ pub fn stop_at(reference: &[u8], allele: &[u8]) -> usize
 }
 
 // The reference base and the allele's letter, from the current reference base.
-pub fn compare(reference: &[u8], allele: &[u8], base: Base) -> Compared
-    requires { 0 < length allele.now }
-    ensures { result ≡ compared reference.now allele.now base }
+pub fn compare(reference: &[u8], allele: Allele<'_>, base: Base) -> Compared
+    ensures { result ≡ compared reference.now allele.entry.bases.now base }
 {
     let letter = first_letter(reference, allele);
     if letter != Letter::Base(base) {
@@ -134,6 +139,6 @@ pub fn compare(reference: &[u8], allele: &[u8], base: Base) -> Compared
     let i = stop_at(reference, allele);
     Compared {
         base: Base::of(reference[i]),
-        letter: Letter::Base(Base::of(allele[i])),
+        letter: Letter::Base(Base::of(allele.bases[i])),
     }
 }
