@@ -60,8 +60,8 @@ impl Calls<'_> {
             calls: *self,
             tally: Tally::of(self),
         };
-        let k = self.case.laid.allele_count(self.v);
-        summed.score(post, k);
+        let k = self.allele_count();
+        summed.score(post);
         normalize(post, k);
         let table = Table { post, k };
         let p = table.max_genotype(false);

@@ -1,5 +1,6 @@
 // The calls of a variant, and the piles that they are read from.
-ghost use Rattle.std.specs.Prelude.{◌≡◌, List, ℕ, ◌<◌};
+ghost use Rattle.std.specs.Prelude.{◌≡◌, List, ℕ, ◌<◌, ◌≤◌};
+ghost use Rattle.variants_and_fragments.specs.Layout.{allele_count_at};
 ghost use Rattle.variants_and_fragments.specs.Decode.{decode};
 ghost use Rattle.no_haplotypes.specs.NoHaplotypes.{depth_after};
 ghost use Rattle.no_haplotypes.specs.Inner.Piles.{CallsHeld, Piled};
@@ -18,6 +19,15 @@ pub struct Calls<'a> {
 }
 
 impl Calls<'_> {
+    // The number of the variant's alleles.
+    pub fn allele_count(&self) -> usize
+        ensures value { result ≡ allele_count_at self.now.case.laid.words.now self.now.v }
+        ensures low { 1 ≤ result }
+        ensures high { result ≤ 3 }
+    {
+        self.case.laid.allele_count(self.v)
+    }
+
     // The larger of the variant's depth in the case and the number of its calls, usable and ambiguous.
     pub fn depth_after(&self) -> usize
         ensures { ((b : List ℕ) → result ≡ depth_after (decode self.now.case.laid.words.now b) self.now.v) × (result < 2147483648) }

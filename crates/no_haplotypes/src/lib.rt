@@ -19,7 +19,8 @@ mod answer;
 mod calls;
 mod tally;
 
-// Calls all variants: each variant's nine priors become its posteriors.
+// Calls all variants: each variant's nine priors become its posteriors. The caller lends `variants`, `quals` and `gqs` apart: a struct of the three
+// would hold them by `&mut`, and each contract would have to say that each loan is the same one.
 fn call_variants(
     piles: &Piles<'_>,
     post: &mut [i64],

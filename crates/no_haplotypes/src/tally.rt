@@ -1,7 +1,8 @@
 // What one pass over a variant's calls adds up: the qualities, what each allele gains on them, and the calls by strand and allele.
 ghost use Rattle.std.specs.Prelude.{◌≡◌, ◌*◌, ◌/◌, ◌%◌, ◌<◌, ◌≤◌, ◌^◌, ℕ, pos, nat_abs, ◌+ℤ◌, map, get_or};
 ghost use Rattle.pileup.specs.Inner.Packed.{RowIn, row_from, unpacked};
-ghost use Rattle.no_haplotypes.specs.Inner.Tally.{SumsIn, CallAdded, Tallied, pair_gain, NinePriors};
+ghost use Rattle.no_haplotypes.specs.Inner.Tally.{SumsIn, CallAdded, Tallied, pair_gain, NinePriors, Scored};
+ghost use Rattle.variants_and_fragments.specs.Layout.{allele_count_at};
 
 use crate::calls::Calls;
 use pileup::row::Row;
@@ -25,7 +26,7 @@ pub struct Tally {
 }
 
 impl Tally {
-    // Adds one call.
+    // Adds one call. The strand's direction, 0 or 1, is the place of its counts: an enum would be turned into that place again.
     fn add(&mut self, case: &CaseWords<'_>, row: Row)
         requires row_in { RowIn case.now.laid.sizes.n case.now.laid.sizes.f (row_from row) }
         requires sums_in { SumsIn self.old }
@@ -81,11 +82,12 @@ impl Summed<'_> {
         LogProb(total + gains[i].one + gains[j].one)
     }
 
-    // Adds what the calls add to each of the k × k priors of the variant.
-    pub fn score(&self, post: &mut [i64], k: usize)
-        requires { (1 ≤ k) × (k ≤ 3) × NinePriors post.old }
-        ensures { (p : ℕ) → p < k * k → get_or post.new p (pos 0) ≡ get_or post.old p (pos 0) +ℤ pair_gain self.now.tally (p / k) (p % k) }
+    // Adds what the calls add to each prior of the variant.
+    pub fn score(&self, post: &mut [i64])
+        requires { NinePriors post.old }
+        ensures { Scored self.now.tally (allele_count_at self.now.calls.case.laid.words.now self.now.calls.v) post.old post.new }
     {
+        let k = self.calls.allele_count();
         for p in 0..k * k {
             post[p] += self.pair_gain(p / k, p % k).0;
         }

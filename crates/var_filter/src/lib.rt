@@ -24,7 +24,7 @@ pub struct DensityParameters {
     pub gq: PHREDProb,
 }
 
-// The number of a filter. A function and no `From`, which would be a second name: promises cite this one.
+// The number of a filter. A function: VarFilter is another crate's, so `From<VarFilter> for u8` could stand only there, as a second name for this.
 pub fn filter_value(f: VarFilter) -> u8
     ensures { result ≡ filter_value f }
 {

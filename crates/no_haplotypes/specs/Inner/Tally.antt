@@ -86,6 +86,10 @@ pub record NinePriors (priors : List ℤ) : Type 0 where
   pub size : length priors ≡ 9
   pub small : (p : ℕ) → p < 9 → nat_abs (get_or priors p (pos 0)) ≤ 2 ^ 34
 
+-- what the calls add to each of its k × k priors, added
+abbrev pub Scored : Tally → ℕ → List ℤ → List ℤ → Type 0
+Scored t k priors scores = (p : ℕ) → p < k * k → get_or scores p (pos 0) ≡ get_or priors p (pos 0) +ℤ pair_gain t (p / k) (p % k)
+
 -- place p of a variant's scores, from its priors and the rows at it
 unfoldable pub scored_from : List ℤ → ℕ → List Row → ℕ → ℤ
 scored_from priors k rows p =
