@@ -1,10 +1,8 @@
--- The entries of the table, by the numbers of a base and two letters: what the code makes them from.
+-- The entries of the table, by a base and two letters: what the code makes them from.
 -- Assumes nothing.
-use mathlib.Core.Path.{◌≡◌, refl, sym}
+use mathlib.Core.Path.{◌≡◌, refl, sym, ap}
 use mathlib.Core.Logic.{◌⊎◌, ⊎_elim}
 use mathlib.Core.Bool.{Bool, true, false, cond}
-use Prim.Native.Nat.{ℕ, ◌/◌, ◌%◌, ◌<◌}
-use native.Mathlib.Omega.{arith}
 use borrow.Author.Tests.{eq-eqb, ne_eqb}
 use lib.Dec.{eqb}
 use lib.IntN.{ℤ, ◌+ℤ◌}
@@ -12,8 +10,8 @@ use Rattle.genotype_probs.specs.declared.Rates.{Rates}
 use Rattle.genotype_probs.specs.Rates.{hom_snv_rate, het_snv_rate, hom_indel_rate, het_indel_rate, ts_rate, tv_rate, rate_sum}
 use Rattle.genotype_probs.specs.Letters.{Base, Letter, base, D, I, base_number, letter_number, same_letter, transition_of, Change, same, transition, transversion, indel, change}
 use Rattle.genotype_probs.specs.Priors.{ln_half, ln_quarter, one_minus_exp, haploid, homozygous, diploid}
-use Rattle.genotype_probs.specs.Inner.PriorTable.{numbered_base, numbered_letter, letter_value, table_entry}
-use Rattle.genotype_probs.proofs.Numbers.{base_one, letter_back}
+use Rattle.genotype_probs.specs.Inner.PriorTable.{letter_value}
+use Rattle.genotype_probs.proofs.Numbers.{base_one, letter_one}
 
 -- ---- what a base is beside the reference base
 module _ (ref : Base) where
@@ -58,19 +56,13 @@ module _ (rates : Rates) where
   homozygous_is transversion = refl
   homozygous_is indel = refl
 
-  -- an entry's two letters are the same where their numbers are
-  same_letters : (x y : ℕ) → x < 6 → y < 6 → same_letter (numbered_letter x) (numbered_letter y) ≡ eqb x y
-  unfolding same_letter
-  same_letters x y h l = rw (letter_back x h, letter_back y l)
-
   -- the entry of one letter twice
-  pub entry_same : (i : ℕ) → i / 6 % 6 ≡ i % 6 → letter_value rates (one_minus_exp (rate_sum rates)) (hom_snv_rate rates) (hom_indel_rate rates) (change (numbered_base (i / 36)) (numbered_letter (i / 6 % 6))) ≡ table_entry rates i
-  unfolding table_entry diploid
-  entry_same i e =
-      rw (same_letters (i / 6 % 6) (i % 6) (omega arith) (omega arith), eq-eqb (i / 6 % 6) (i % 6) e)
-      (sym (homozygous_is (change (numbered_base (i / 36)) (numbered_letter (i / 6 % 6)))))
+  module _ (ref : Base) (first second : Letter) where
+    pub entry_same : first ≡ second → letter_value rates (one_minus_exp (rate_sum rates)) (hom_snv_rate rates) (hom_indel_rate rates) (change ref first) ≡ diploid rates ref first second
+    unfolding diploid same_letter
+    entry_same e = rw (eq-eqb (letter_number first) (letter_number second) (ap letter_number e)) (sym (homozygous_is (change ref first)))
 
-  -- the entry of two letters
-  pub entry_two : (i : ℕ) → (i / 6 % 6 ≡ i % 6 → ⊥) → haploid rates (change (numbered_base (i / 36)) (numbered_letter (i / 6 % 6))) +ℤ haploid rates (change (numbered_base (i / 36)) (numbered_letter (i % 6))) ≡ table_entry rates i
-  unfolding table_entry diploid
-  entry_two i n = rw (same_letters (i / 6 % 6) (i % 6) (omega arith) (omega arith), ne_eqb (i / 6 % 6) (i % 6) n)
+    -- the entry of two letters
+    pub entry_two : (first ≡ second → ⊥) → haploid rates (change ref first) +ℤ haploid rates (change ref second) ≡ diploid rates ref first second
+    unfolding diploid same_letter
+    entry_two n = rw (ne_eqb (letter_number first) (letter_number second) (λ e. n (letter_one first second e)))

@@ -15,7 +15,7 @@ use Rattle.genotype_probs.proofs.Numbers.{base_low, letter_low, base_there, lett
 
 module _ (rates : Rates) where
   -- the entry of two letters
-  entry_is : (ref : Base) (first second : Letter) → get_or (prior_table rates) (36 * base_number ref + 6 * letter_number first + letter_number second) (pos 0) ≡ diploid rates ref first second
+  pub entry_is : (ref : Base) (first second : Letter) → get_or (prior_table rates) (36 * base_number ref + 6 * letter_number first + letter_number second) (pos 0) ≡ diploid rates ref first second
   unfolding prior_table table_entry
   entry_is ref first second =
       let b = base_low ref in

@@ -1,4 +1,4 @@
-pub mod Pairs
+pub mod Filled
 pub mod NinePlaces
 pub mod Numbers
 pub mod Comparisons

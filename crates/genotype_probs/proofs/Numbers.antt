@@ -3,6 +3,8 @@
 use mathlib.Core.Path.{◌≡◌, refl, sym, ap, ◌∙◌}
 use Prim.Native.Nat.{ℕ, zero, suc, ◌<◌}
 use native.Mathlib.Omega.{arith}
+use mathlib.Core.List.{[], ◌∷◌}
+use lib.ListN.{get_or}
 use Rattle.genotype_probs.specs.Letters.{Base, A, C, G, T, Letter, base, D, I, base_number, letter_number}
 use Rattle.genotype_probs.specs.Inner.PriorTable.{numbered_base, numbered_letter}
 
@@ -34,6 +36,25 @@ letter_there (base G) = refl
 letter_there (base T) = refl
 letter_there D = refl
 letter_there I = refl
+
+-- the bases and the letters stand in the code's lists at their numbers
+pub base_listed : (i : ℕ) (d : Base) → i < 4 → base_number (get_or (A ∷ C ∷ G ∷ T ∷ []) i d) ≡ i
+unfolding base_number
+base_listed zero d h = refl
+base_listed (suc zero) d h = refl
+base_listed (suc (suc zero)) d h = refl
+base_listed (suc (suc (suc zero))) d h = refl
+base_listed (suc (suc (suc (suc n)))) d h = absurd (omega arith)
+
+pub letter_listed : (i : ℕ) (d : Letter) → i < 6 → letter_number (get_or (base A ∷ base C ∷ base G ∷ base T ∷ D ∷ I ∷ []) i d) ≡ i
+unfolding letter_number base_number
+letter_listed zero d h = refl
+letter_listed (suc zero) d h = refl
+letter_listed (suc (suc zero)) d h = refl
+letter_listed (suc (suc (suc zero))) d h = refl
+letter_listed (suc (suc (suc (suc zero)))) d h = refl
+letter_listed (suc (suc (suc (suc (suc zero))))) d h = refl
+letter_listed (suc (suc (suc (suc (suc (suc n)))))) d h = absurd (omega arith)
 
 -- a number has one base, and one letter
 pub base_one : (a b : Base) → base_number a ≡ base_number b → a ≡ b

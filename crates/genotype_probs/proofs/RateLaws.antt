@@ -21,9 +21,9 @@ use Rattle.steps.proofs.Marks.{of_small, log_injective}
 use Rattle.steps.proofs.Sums.{sum_steps}
 use Rattle.steps.proofs.OneMinus.{search_least, lowest_of, of_below, down_le}
 use Rattle.variants_and_fragments.specs.First.{first_fail}
-use Rattle.variants_and_fragments.specs.Refusals.{Outcome, refused, done, each}
+use Rattle.variants_and_fragments.specs.Refusals.{Outcome, done, each}
 use Rattle.variants_and_fragments.proofs.First.{first_all, first_end, first_le}
-use Rattle.variants_and_fragments.proofs.Outcomes.{each_on, each_at, each_past}
+use Rattle.variants_and_fragments.proofs.Outcomes.{each_past}
 use Rattle.steps.specs.declared.LogProb.{LogProb}
 use Rattle.genotype_probs.specs.declared.Rates.{Rates}
 use Rattle.variants_and_fragments.specs.Words.{within}
@@ -76,14 +76,6 @@ fault_top rates = first_le (rate_test rates) 7
 
 -- ---- number 6: where the rates are accepted, and where not
 module _ {X : Type 0} (rates : Rates) (rest : Outcome X) where
-  pub rates_on : rates_fault rates ≡ 7 → rest ≡ each 6 (rate_test rates) 0 7 rest
-  unfolding rates_fault first_fail
-  rates_on e = each_on 6 (rate_test rates) 0 7 rest (omega (arith, e))
-
-  pub rates_at : rates_fault rates < 7 → refused 6 (rates_fault rates) ≡ each 6 (rate_test rates) 0 7 rest
-  unfolding rates_fault first_fail
-  rates_at h = each_at 6 (rate_test rates) 0 7 rest h
-
   pub rates_past : (x : X) → each 6 (rate_test rates) 0 7 rest ≡ done x → (rates_fault rates ≡ 7) × (rest ≡ done x)
   unfolding rates_fault first_fail
   rates_past x e = let p = each_past 6 (rate_test rates) 0 7 rest x e in (omega (arith, p.0, fault_top rates), p.1)

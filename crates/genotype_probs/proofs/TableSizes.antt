@@ -1,4 +1,4 @@
--- How small the first entry of a table at a place is, and a normalised table.
+-- How small a table's entries are as the machine reads them, and a normalised table.
 -- Assumes nothing.
 use mathlib.Core.Path.{◌≡◌, refl, ap, ◌∙◌}
 use mathlib.Core.Bool.{Bool, true, false, cond}
@@ -8,7 +8,7 @@ use native.Mathlib.Omega.{arith}
 use borrow.Author.Tests.{ltb-true}
 use lib.Dec.{ltb}
 use lib.IntN.{ℤ, pos, nat_abs, ◌-ℤ◌}
-use lib.ListN.{length, get_or}
+use lib.ListN.{get_or}
 use mir.Syntax.{w64}
 use mir.Val.{to_z, of_z}
 use Rattle.steps.specs.Logs.{steps}
@@ -18,7 +18,7 @@ use Rattle.steps.proofs.Signed.{minus_abs, read_small}
 use Rattle.steps.proofs.Sums.{sum_size}
 use Rattle.variants_and_fragments.specs.Decode.{tabulate_from, tabulate}
 use Rattle.genotype_probs.specs.Posteriors.{sum_of, entry_at, row_sum, table_sum, normalized}
-use Rattle.genotype_probs.specs.Inner.Posteriors.{TableIn, TableAt}
+use Rattle.genotype_probs.specs.Inner.Posteriors.{TableIn}
 use Rattle.genotype_probs.proofs.TableSums.{place_in}
 
 -- the first place is one of the k × k
@@ -28,12 +28,6 @@ first_in {tab} {k} t = omega (arith, place_in 0 0 k t.k_low t.k_low)
 -- an entry as the machine reads it is no mark
 pub read_finite : (z : ℤ) → nat_abs z ≤ 2 ^ 40 → log_of (to_z w64 (of_z w64 z)) ≡ steps z
 read_finite z h = ap log_of (read_small w64 z (omega arith)) ∙ of_small z (omega arith)
-
--- the first entry of a table at a place
-pub first_small : {post : List ℤ} {at k : ℕ} → TableAt post at k → (at < length post) × (nat_abs (get_or post at (pos 0)) ≤ 2 ^ 40)
-first_small {post} {at} {k} t =
-    let e : at + 0 ≡ at = omega arith in
-    (omega (arith, t.inside), rw e at (t.small 0 (omega (arith, place_in 0 0 k t.k_low t.k_low))))
 
 pub by_cond : {n : ℕ} (t : Bool) (z : ℤ) → (t ≡ true → nat_abs z ≤ n) → nat_abs (cond t z (pos 0)) ≤ n
 by_cond true z h = h refl

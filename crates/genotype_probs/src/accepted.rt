@@ -20,8 +20,7 @@ pub struct AcceptedRates {
 fn rate_ok(rate: LogProb) -> bool
     ensures { result ≡ rate_ok rate.0 }
 {
-    let z = rate.0;
-    (-262144 <= z) & (z <= -1)
+    (-262144..=-1).contains(&rate.0)
 }
 
 impl Rates {

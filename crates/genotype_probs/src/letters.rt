@@ -2,7 +2,6 @@
 ghost use Rattle.std.specs.Prelude.{◌≡◌, ◌<◌, length};
 ghost use Rattle.genotype_probs.specs.Letters.{base_of, base_number, letter_number, transition_of};
 ghost use Rattle.genotype_probs.specs.Priors.{first_letter, stop_at, compared};
-ghost use Rattle.genotype_probs.specs.Inner.PriorTable.{numbered_base, numbered_letter};
 
 // A base of an allele.
 #[derive(Clone, Copy, PartialEq, Eq, Debug)]
@@ -11,6 +10,13 @@ pub enum Base {
     C,
     G,
     T,
+}
+
+// An allele that is present: it has a base.
+#[derive(Clone, Copy)]
+pub struct Allele<'a> {
+    pub bases: &'a [u8],
+    pub ghost present: { 0 < length bases.now },
 }
 
 // What an allele is beside the reference: a base, or longer (I) or shorter (D).
@@ -28,29 +34,43 @@ pub struct Compared {
     pub letter: Letter,
 }
 
-impl Base {
-    // Its number, in the order A C G T.
-    #[tactic(auto, using(crate::proofs::Numbers::base_low), unfolding(crate::specs::Letters::base_number))]
-    pub fn number(self) -> usize
-        ensures value { result ≡ base_number self }
-        ensures bound { result < 4 }
-    {
-        self as usize
-    }
+// All bases and all letters, each at its number.
+pub const BASES: [Base; 4] = [Base::A, Base::C, Base::G, Base::T];
 
-    // The base of a number.
-    #[tactic(auto, unfolding(crate::specs::Inner::PriorTable::numbered_base))]
-    pub fn numbered(n: usize) -> Self
-        ensures { result ≡ numbered_base n }
-    {
-        match n {
-            0 => Base::A,
-            1 => Base::C,
-            2 => Base::G,
-            _ => Base::T,
+pub const LETTERS: [Letter; 6] = [
+    Letter::Base(Base::A),
+    Letter::Base(Base::C),
+    Letter::Base(Base::G),
+    Letter::Base(Base::T),
+    Letter::D,
+    Letter::I,
+];
+
+// The number of a base, in the order A C G T.
+impl From<Base> for usize {
+    ghost from_gives = { λ base n. (n ≡ base_number base) × (n < 4) };
+
+    #[tactic(auto, using(crate::proofs::Numbers::base_low), unfolding(crate::specs::Letters::base_number))]
+    fn from(base: Base) -> usize {
+        base as usize
+    }
+}
+
+// The number of a letter, in the order A C G T D I.
+impl From<Letter> for usize {
+    ghost from_gives = { λ letter n. (n ≡ letter_number letter) × (n < 6) };
+
+    #[tactic(auto, unfolding(crate::specs::Letters::letter_number))]
+    fn from(letter: Letter) -> usize {
+        match letter {
+            Letter::Base(base) => usize::from(base),
+            Letter::D => 4,
+            Letter::I => 5,
         }
     }
+}
 
+impl Base {
     // The base of an allele byte. Bases come in any order, so no jump is to be made of the tests.
     #[tactic(auto, unfolding(crate::specs::Letters::base_of))]
     pub fn of(byte: u8) -> Self
@@ -75,43 +95,15 @@ impl Base {
     }
 }
 
-impl Letter {
-    // Its number, in the order A C G T D I.
-    #[tactic(auto, unfolding(crate::specs::Letters::letter_number))]
-    pub fn number(self) -> usize
-        ensures value { result ≡ letter_number self }
-        ensures bound { result < 6 }
-    {
-        match self {
-            Letter::Base(base) => base.number(),
-            Letter::D => 4,
-            Letter::I => 5,
-        }
-    }
-
-    // The letter of a number.
-    #[tactic(auto, using(crate::proofs::Numbers::letter_is_base), unfolding(crate::specs::Inner::PriorTable::numbered_letter))]
-    pub fn numbered(n: usize) -> Self
-        ensures { result ≡ numbered_letter n }
-    {
-        match n {
-            0..=3 => Letter::Base(Base::numbered(n)),
-            4 => Letter::D,
-            _ => Letter::I,
-        }
-    }
-}
-
 // The letter that an allele has before any comparison.
 #[tactic(auto, unfolding(crate::specs::Priors::first_letter))]
-pub fn first_letter(reference: &[u8], allele: &[u8]) -> Letter
-    requires { 0 < length allele.now }
-    ensures { result ≡ first_letter reference.now allele.now }
+pub fn first_letter(reference: &[u8], allele: Allele<'_>) -> Letter
+    ensures { result ≡ first_letter reference.now allele.entry.bases.now }
 {
-    if allele.len() == reference.len() {
-        return Letter::Base(Base::of(allele[0]));
+    if allele.bases.len() == reference.len() {
+        return Letter::Base(Base::of(allele.bases[0]));
     }
-    if reference.len() < allele.len() {
+    if reference.len() < allele.bases.len() {
         return Letter::I;
     }
     Letter::D
@@ -119,16 +111,16 @@ pub fn first_letter(reference: &[u8], allele: &[u8]) -> Letter
 
 // Where the comparison of an allele with a reference of its length stops: at the first base that differs, or at the last. Document 01 asks for a
 // loop that yields its index by break, which a `for` cannot, so it counts i itself.
-pub fn stop_at(reference: &[u8], allele: &[u8]) -> usize
-    requires { (0 < length allele.now) × (length allele.now ≡ length reference.now) }
-    ensures { (result < length allele.now) × (result ≡ stop_at reference.now allele.now) }
+pub fn stop_at(reference: &[u8], allele: Allele<'_>) -> usize
+    requires { length allele.bases.now ≡ length reference.now }
+    ensures { (result < length allele.entry.bases.now) × (result ≡ stop_at reference.now allele.entry.bases.now) }
 {
     let mut i: usize = 0;
     let at = loop {
-        if reference[i] != allele[i] {
+        if reference[i] != allele.bases[i] {
             break i;
         }
-        if i + 1 == allele.len() {
+        if i + 1 == allele.bases.len() {
             break i;
         }
         i += 1;
@@ -137,9 +129,8 @@ pub fn stop_at(reference: &[u8], allele: &[u8]) -> usize
 }
 
 // The reference base and the allele's letter, from the current reference base.
-pub fn compare(reference: &[u8], allele: &[u8], base: Base) -> Compared
-    requires { 0 < length allele.now }
-    ensures { result ≡ compared reference.now allele.now base }
+pub fn compare(reference: &[u8], allele: Allele<'_>, base: Base) -> Compared
+    ensures { result ≡ compared reference.now allele.entry.bases.now base }
 {
     let letter = first_letter(reference, allele);
     if letter != Letter::Base(base) {
@@ -148,6 +139,6 @@ pub fn compare(reference: &[u8], allele: &[u8], base: Base) -> Compared
     let i = stop_at(reference, allele);
     Compared {
         base: Base::of(reference[i]),
-        letter: Letter::Base(Base::of(allele[i])),
+        letter: Letter::Base(Base::of(allele.bases[i])),
     }
 }

@@ -31,6 +31,8 @@ pub struct Table<'a> {
     pub ghost table_in: { TableIn post.now k },
 }
 
+// A place p is a number below k × k of the table that it is handed to, and no type of its own: that would hold a table, and each call would have
+// to say that it is this one.
 impl Table<'_> {
     // Entry (i, j).
     fn entry(&self, i: usize, j: usize) -> LogProb
@@ -74,7 +76,8 @@ impl Table<'_> {
         x.ln_add_exp(self.entry(j, i))
     }
 
-    // The row-major number of the genotype that is kept: the first maximum.
+    // The row-major number of the genotype that is kept: the first maximum. It makes its values as it goes, where call_genotypes' `first_max` is
+    // given a slice of them: one function for both would take a closure whose contract says what `post_of` says.
     pub fn max_genotype(&self, phased: bool) -> usize
         ensures value { result ≡ max_genotype phased self.now.post.now self.now.k }
         ensures inside { result < self.now.k * self.now.k }

@@ -7,7 +7,7 @@ ghost use Rattle.variants_and_fragments.specs.Written.{written};
 ghost use Rattle.genotype_probs.specs.Priors.{all_priors, prior_at};
 ghost use Rattle.genotype_probs.specs.Inner.PriorTable.{prior_table, lookup};
 
-use crate::letters::{Base, compare};
+use crate::letters::{Allele, Base, compare};
 use crate::table::PriorTable;
 use steps::LogProb;
 use variants_and_fragments::Case;
@@ -43,24 +43,30 @@ impl<'a> VariantAlleles<'a> {
     }
 
     // The bases of allele j.
-    pub fn allele(&self, j: usize) -> &'a [u8]
+    pub fn allele(&self, j: usize) -> Allele<'a>
         requires { j < allele_count_at self.now.case.now.laid.words.now self.now.v }
-        ensures { (result.now ≡ allele_at self.now.case.now.laid.words.now self.now.case.now.bases.now self.now.v j) × (0 < length result.now) }
+        ensures { result.bases.now ≡ allele_at self.now.case.now.laid.words.now self.now.case.now.bases.now self.now.v j }
     {
         let start = self.start(j);
         let end = start + self.case.laid.allele_length(self.v, j);
-        &self.case.bases[start..end]
+        Allele {
+            bases: &self.case.bases[start..end],
+        }
     }
 }
 
 // The prior of two alleles beside the reference. The second comparison starts from the reference base that the first one left.
-pub fn get_prior(table: &PriorTable, reference: &[u8], first: &[u8], second: &[u8]) -> LogProb
-    requires { (0 < length reference.now) × (0 < length first.now) × (0 < length second.now) }
-    ensures { result.0 ≡ lookup (prior_table table.now.rates.rates) reference.now first.now second.now }
+pub fn get_prior(
+    table: &PriorTable,
+    reference: Allele<'_>,
+    first: Allele<'_>,
+    second: Allele<'_>,
+) -> LogProb
+    ensures { result.0 ≡ lookup (prior_table table.now.rates.rates) reference.entry.bases.now first.entry.bases.now second.entry.bases.now }
 {
-    let base = Base::of(reference[0]);
-    let one = compare(reference, first, base);
-    let two = compare(reference, second, one.base);
+    let base = Base::of(reference.bases[0]);
+    let one = compare(reference.bases, first, base);
+    let two = compare(reference.bases, second, one.base);
     table.value(two.base, one.letter, two.letter)
 }
 

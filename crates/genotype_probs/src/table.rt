@@ -1,12 +1,12 @@
-// The 4 by 36 table of priors that is made from accepted rates.
+// The table of priors that is made from accepted rates: 36 pairs of letters for each reference base.
 ghost use Rattle.std.specs.Prelude.{◌≡◌, true, cond, ◌<◌, ◌≤◌, ◌^◌, eqb, pos, nat_abs, ◌+ℤ◌};
 ghost use Rattle.std.specs.Int.Signed.{lt_z};
 ghost use Rattle.genotype_probs.specs.Rates.{het_snv_rate, het_indel_rate, ts_rate, tv_rate, rate_sum};
 ghost use Rattle.genotype_probs.specs.Letters.{base_number, letter_number, transition_of, change};
-ghost use Rattle.genotype_probs.specs.Priors.{ln_half, ln_quarter, one_minus_exp};
-ghost use Rattle.genotype_probs.specs.Inner.PriorTable.{letter_value, table_entry, prior_table, table_value};
+ghost use Rattle.genotype_probs.specs.Priors.{ln_half, ln_quarter, one_minus_exp, diploid};
+ghost use Rattle.genotype_probs.specs.Inner.PriorTable.{letter_value, RowMade, RowsMade, TableMade, prior_table, table_value};
 
-use crate::letters::{Base, Letter};
+use crate::letters::{BASES, Base, LETTERS, Letter};
 use crate::{AcceptedRates, Rates};
 use steps::{LogProb, Prob};
 
@@ -36,20 +36,13 @@ pub fn ln_half() -> LogProb
     LogProb::from_prob(Prob::half())
 }
 
-// ln(0.25)
+// The value of D or I, from the rate of an indel: ln(0.5) and ln(0.25) are added.
 #[tactic(auto, using(steps::proofs::Probs::ln_quarter_lem))]
-fn ln_quarter() -> LogProb
-    ensures { result.0 ≡ ln_quarter }
-{
-    LogProb::from_prob(Prob::quarter())
-}
-
-// The value of D or I, from the rate of an indel.
 fn indel_value(indel: LogProb) -> LogProb
     requires { nat_abs indel.0 ≤ 262144 }
     ensures { result.0 ≡ indel.0 +ℤ ln_half +ℤ ln_quarter }
 {
-    LogProb(indel.0 + ln_half().0 + ln_quarter().0)
+    LogProb(indel.0 + ln_half().0 + LogProb::from_prob(Prob::quarter()).0)
 }
 
 // The value of one letter, where that of the reference base, the rate of another base and the rate of an indel are given.
@@ -75,72 +68,123 @@ fn letter_value(
     }
 }
 
-// Entry i of the table, where the haploid and the diploid value of the reference base are given.
-fn table_entry(rates: AcceptedRates, haploid: LogProb, diploid: LogProb, i: usize) -> LogProb
-    requires inside { i < 144 }
-    requires haploid_value { haploid.0 ≡ one_minus_exp (het_snv_rate rates.rates +ℤ het_indel_rate rates.rates) }
-    requires diploid_value { diploid.0 ≡ one_minus_exp (rate_sum rates.rates) }
-    ensures { result.0 ≡ table_entry rates.rates i }
-{
-    let six = rates.rates;
-    let base = Base::numbered(i / 36);
-    let x = i / 6 % 6;
-    let y = i % 6;
-    let first = Letter::numbered(x);
-    if x == y {
-        return letter_value(rates, diploid, six.hom_snv, six.hom_indel, base, first);
+// The entries of a reference base and a first letter, by the second.
+#[derive(Clone, Copy)]
+pub struct Row {
+    pub entries: [LogProb; 6],
+}
+
+// The entries of a reference base, by the first letter.
+#[derive(Clone, Copy)]
+pub struct Rows {
+    pub rows: [Row; 6],
+}
+
+// What the table is made from: accepted rates, and the haploid and the diploid value of the reference base.
+#[derive(Clone, Copy)]
+struct Values {
+    rates: AcceptedRates,
+    haploid: LogProb,
+    diploid: LogProb,
+    ghost haploid_is: { haploid.0 ≡ one_minus_exp (het_snv_rate rates.rates +ℤ het_indel_rate rates.rates) },
+    ghost diploid_is: { diploid.0 ≡ one_minus_exp (rate_sum rates.rates) },
+}
+
+impl Values {
+    fn of(rates: AcceptedRates) -> Self
+        ensures { result.rates ≡ rates }
+    {
+        let six = rates.rates;
+        Values {
+            rates,
+            haploid: one_minus_exp(LogProb(six.het_snv.0 + six.het_indel.0)),
+            diploid: one_minus_exp(six.rate_sum()),
+        }
     }
-    let a = letter_value(rates, haploid, six.het_snv, six.het_indel, base, first);
-    let second = Letter::numbered(y);
-    let b = letter_value(rates, haploid, six.het_snv, six.het_indel, base, second);
-    LogProb(a.0 + b.0)
+
+    // The entry of a reference base and two letters.
+    fn entry(&self, base: Base, first: Letter, second: Letter) -> LogProb
+        ensures { result.0 ≡ diploid self.now.rates.rates base first second }
+    {
+        let rates = self.rates;
+        let six = rates.rates;
+        if first == second {
+            return letter_value(rates, self.diploid, six.hom_snv, six.hom_indel, base, first);
+        }
+        let a = letter_value(rates, self.haploid, six.het_snv, six.het_indel, base, first);
+        let b = letter_value(
+            rates,
+            self.haploid,
+            six.het_snv,
+            six.het_indel,
+            base,
+            second,
+        );
+        LogProb(a.0 + b.0)
+    }
+
+    // The entries of a reference base and a first letter, by the second.
+    fn row(&self, base: Base, first: Letter) -> Row
+        ensures { RowMade self.now.rates.rates base first result }
+    {
+        let mut row = Row {
+            entries: [LogProb(0); 6],
+        };
+        for second in LETTERS {
+            row.entries[usize::from(second)] = self.entry(base, first, second);
+        }
+        row
+    }
+
+    // The entries of a reference base, by both letters.
+    fn rows(&self, base: Base) -> Rows
+        ensures { RowsMade self.now.rates.rates base result }
+    {
+        let mut rows = Rows {
+            rows: [Row {
+                entries: [LogProb(0); 6],
+            }; 6],
+        };
+        for first in LETTERS {
+            rows.rows[usize::from(first)] = self.row(base, first);
+        }
+        rows
+    }
 }
 
-// The haploid value of the reference base.
-fn reference_haploid(rates: AcceptedRates) -> LogProb
-    ensures { result.0 ≡ one_minus_exp (het_snv_rate rates.rates +ℤ het_indel_rate rates.rates) }
-{
-    one_minus_exp(LogProb(rates.rates.het_snv.0 + rates.rates.het_indel.0))
-}
-
-// The value of the pair of reference bases.
-fn reference_diploid(rates: AcceptedRates) -> LogProb
-    ensures { result.0 ≡ one_minus_exp (rate_sum rates.rates) }
-{
-    one_minus_exp(rates.rates.rate_sum())
-}
-
-// The table of accepted rates.
+// The table of accepted rates, by reference base, first letter and second letter.
 #[derive(Drop)]
 pub struct PriorTable {
     pub rates: AcceptedRates,
-    pub entries: [i64; 144],
-    pub ghost made: { entries ≡ prior_table rates.rates },
+    pub bases: [Rows; 4],
+    pub ghost made: { TableMade rates.rates bases },
 }
 
 impl PriorTable {
     pub fn new(rates: AcceptedRates) -> Self
         ensures { result.rates ≡ rates }
     {
-        let haploid = reference_haploid(rates);
-        let diploid = reference_diploid(rates);
-        let mut entries = [0i64; 144];
-        for i in 0..144 {
-            entries[i] = table_entry(rates, haploid, diploid, i).0;
+        let values = Values::of(rates);
+        let mut bases = [Rows {
+            rows: [Row {
+                entries: [LogProb(0); 6],
+            }; 6],
+        }; 4];
+        for base in BASES {
+            bases[usize::from(base)] = values.rows(base);
         }
-        PriorTable { rates, entries }
+        PriorTable { rates, bases }
     }
 
     // The prior of two letters at a reference base: −4096 where they differ.
     pub(crate) fn value(&self, base: Base, first: Letter, second: Letter) -> LogProb
         ensures { result.0 ≡ table_value (prior_table self.now.rates.rates) (base_number base) (letter_number first) (letter_number second) }
     {
-        let x = first.number();
-        let y = second.number();
-        let entry = self.entries[36 * base.number() + 6 * x + y];
-        if x == y {
-            return LogProb(entry);
+        let row = self.bases[usize::from(base)].rows[usize::from(first)];
+        let entry = row.entries[usize::from(second)];
+        if first == second {
+            return entry;
         }
-        LogProb(entry + ln_half().0)
+        LogProb(entry.0 + ln_half().0)
     }
 }

@@ -1,6 +1,6 @@
 -- One variant called: the words that the counts over its calls make, its depth, and its answer from its posteriors.
 -- Assumes nothing.
-use Rattle.std.proofs.Common.{◌≡◌, cond, ◌&&◌, List, map, ℕ, ◌+◌, ◌*◌, ◌<◌, eqb, ltb, ℤ, pos, length, get_or, max, refl, ap, ◌∙◌, arith, lt-ltb, le-ltb}
+use Rattle.std.proofs.Common.{◌≡◌, cond, ◌&&◌, List, map, ℕ, ◌+◌, ◌<◌, eqb, ltb, ℤ, pos, length, get_or, max, refl, ap, ◌∙◌, arith, lt-ltb, le-ltb}
 use Rattle.std.proofs.lemmas.List.{length-map}
 use Rattle.steps.proofs.Signed.{cases}
 use Rattle.variants_and_fragments.specs.declared.Sizes.{Sizes}
@@ -18,12 +18,12 @@ use Rattle.pileup.specs.Inner.Packed.{unpacked}
 use Rattle.no_haplotypes.specs.declared.tally.Tally.{Tally}
 use Rattle.no_haplotypes.specs.NoHaplotypes.{row_strand, called_from, strand_calls, calls_at, depth_after, answer_from}
 use Rattle.no_haplotypes.specs.Inner.Piles.{CallsHeld}
-use Rattle.no_haplotypes.specs.Inner.Tally.{shown_on, Tallied, scored_from, posteriors_from}
+use Rattle.no_haplotypes.specs.Inner.Tally.{shown_on, count_of, Tallied, scored_from, posteriors_from}
 use Rattle.no_haplotypes.specs.Inner.Calling.{answer_values, made_from}
 use Rattle.no_haplotypes.proofs.CountLaws.{only_same, all_calls, forward_reverse}
 use Rattle.no_haplotypes.proofs.TallyLaws.{all_in}
 
-listed : (g : Genotype) (counts : List ℕ) (ambiguous depth : ℕ) → map pos (answer_values g counts ambiguous depth) ≡ tabulate 13 (λ p. pos (get_or (answer_values g counts ambiguous depth) p 0))
+listed : (g : Genotype) (counts : List (List ℕ)) (ambiguous depth : ℕ) → map pos (answer_values g counts ambiguous depth) ≡ tabulate 13 (λ p. pos (get_or (answer_values g counts ambiguous depth) p 0))
 unfolding answer_values tabulate_from
 listed g counts ambiguous depth = refl
 
@@ -51,19 +51,19 @@ module _ {w : List ℤ} {s : Sizes} {v : ℕ} {words : List ℕ} {ambiguous : �
   depth_is = rw (calls_is, dp_is accepted b v held.variant_in) (larger (depth_at w v) (calls_at (decode w b) v))
 
   module _ {t : Tally} (made : Tallied w s rows t) where
-    counted : (strand x : ℕ) → strand < 2 → x < 3 → get_or t.counts (3 * strand + x) 0 ≡ strand_calls (decode w b) v strand x
+    counted : (strand x : ℕ) → strand < 2 → x < 3 → count_of t.counts strand x ≡ strand_calls (decode w b) v strand x
     counted strand x l h = made.counts_are strand x l h ∙ shown_same strand x
 
     word_is : (g : Genotype) (post : List ℤ) (k : ℕ) → g ≡ genotype_of k (called_from post k) → (p : ℕ) → pos (get_or (answer_values g t.counts ambiguous (depth_after (decode w b) v)) p 0) ≡ answer_from post k (decode w b) v p
     unfolding answer_values answer_from
     word_is g post k q p =
         let sum = forward_reverse (decode w b) v in
-        let f0 : get_or t.counts 0 0 ≡ strand_calls (decode w b) v 0 0 = counted 0 0 (omega arith) (omega arith) in
-        let f1 : get_or t.counts 1 0 ≡ strand_calls (decode w b) v 0 1 = counted 0 1 (omega arith) (omega arith) in
-        let f2 : get_or t.counts 2 0 ≡ strand_calls (decode w b) v 0 2 = counted 0 2 (omega arith) (omega arith) in
-        let r0 : get_or t.counts 3 0 ≡ strand_calls (decode w b) v 1 0 = counted 1 0 (omega arith) (omega arith) in
-        let r1 : get_or t.counts 4 0 ≡ strand_calls (decode w b) v 1 1 = counted 1 1 (omega arith) (omega arith) in
-        let r2 : get_or t.counts 5 0 ≡ strand_calls (decode w b) v 1 2 = counted 1 2 (omega arith) (omega arith) in
+        let f0 : count_of t.counts 0 0 ≡ strand_calls (decode w b) v 0 0 = counted 0 0 (omega arith) (omega arith) in
+        let f1 : count_of t.counts 0 1 ≡ strand_calls (decode w b) v 0 1 = counted 0 1 (omega arith) (omega arith) in
+        let f2 : count_of t.counts 0 2 ≡ strand_calls (decode w b) v 0 2 = counted 0 2 (omega arith) (omega arith) in
+        let r0 : count_of t.counts 1 0 ≡ strand_calls (decode w b) v 1 0 = counted 1 0 (omega arith) (omega arith) in
+        let r1 : count_of t.counts 1 1 ≡ strand_calls (decode w b) v 1 1 = counted 1 1 (omega arith) (omega arith) in
+        let r2 : count_of t.counts 1 2 ≡ strand_calls (decode w b) v 1 2 = counted 1 2 (omega arith) (omega arith) in
         cc (held.ambiguous_is b, sum 0, sum 1, sum 2, ap (λ (x : Genotype). x.0) q, ap (λ (x : Genotype). x.1) q)
 
     pub words_are : (g : Genotype) (post : List ℤ) (k : ℕ) → g ≡ genotype_of k (called_from post k) → map pos (answer_values g t.counts ambiguous (depth_after (decode w b) v)) ≡ tabulate 13 (answer_from post k (decode w b) v)

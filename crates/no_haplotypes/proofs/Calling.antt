@@ -18,7 +18,7 @@ use Rattle.variants_and_fragments.proofs.Sums.{count_to_on, count_to_grows}
 use Rattle.variants_and_fragments.proofs.Visits.{visits_top}
 use Rattle.variants_and_fragments.proofs.Written.{written_at, written_length, written_same}
 use Rattle.pileup.specs.Inner.Collected.{collected}
-use Rattle.pileup.specs.Inner.Packed.{RowIn, unpacked, group_start, Grouped}
+use Rattle.pileup.specs.Inner.Packed.{RowIn, unpacked, group_start, group_words, Grouped}
 use Rattle.pileup.specs.Inner.Piles.{CallsPiled}
 use Rattle.pileup.proofs.CaseRows.{piles_are, ambiguous_collected}
 use Rattle.pileup.proofs.Groups.{unpack_all}
@@ -30,7 +30,7 @@ use Rattle.genotype_probs.proofs.PriorSizes.{prior_small}
 use Rattle.genotype_probs.proofs.TableSizes.{by_cond}
 use Rattle.genotype_probs.proofs.TableSums.{tabulate_cong}
 use Rattle.no_haplotypes.specs.NoHaplotypes.{pair_score, score_at, posteriors, variant_answer, answer_at, qual_at, gq_at}
-use Rattle.no_haplotypes.specs.Inner.Piles.{pile_words, CallsHeld, Piled}
+use Rattle.no_haplotypes.specs.Inner.Piles.{CallsHeld, Piled}
 use Rattle.no_haplotypes.specs.Inner.Tally.{scored_from, posteriors_from}
 use Rattle.no_haplotypes.specs.Inner.Calling.{made_at, PriorsIn, VariantsCalled, AcceptedCalled}
 
@@ -41,7 +41,7 @@ module _ {w : List ℤ} {s : Sizes} (k : CaseIn w s) {rows row_ends ambiguous en
 
   module _ (v : ℕ) (h : v < s.n) where
     abbrev lent : List ℕ
-    lent = pile_words ends piles v
+    lent = group_words ends piles v
 
     rows_lent : (b : List ℕ) → map unpacked lent ≡ pile_of (decode w b) v
     rows_lent b =

@@ -1,6 +1,6 @@
 -- The posteriors of a variant from its nine priors and what its calls add up to: what the places hold after scoring, and after normalising.
 -- Assumes nothing.
-use Rattle.std.proofs.Common.{◌≡◌, Bool, true, false, cond, List, ℕ, ◌+◌, ◌*◌, ◌/◌, ◌%◌, ◌^◌, ◌≤◌, ◌<◌, eqb, ℤ, pos, nat_abs, ◌+ℤ◌, length, get_or, refl, sym, ap, ◌∙◌, arith, lt-ltb}
+use Rattle.std.proofs.Common.{◌≡◌, Bool, true, false, cond, List, ℕ, ◌*◌, ◌/◌, ◌%◌, ◌^◌, ◌≤◌, ◌<◌, eqb, ℤ, pos, nat_abs, ◌+ℤ◌, length, get_or, refl, sym, ap, ◌∙◌, arith, lt-ltb}
 use lib.IntN.{+ℤ_idr}
 use Rattle.steps.proofs.Signed.{add_abs}
 use Rattle.variants_and_fragments.specs.declared.Sizes.{Sizes}
@@ -23,7 +23,7 @@ pair_small false a b c d h i j k = omega (arith, add_abs (a +ℤ c) d, add_abs a
 pub gain_small : {t : Tally} → SumsIn t → (i j : ℕ) → i < 3 → j < 3 → nat_abs (pair_gain t i j) ≤ 3 * 2 ^ 34
 unfolding pair_gain
 gain_small {t} sums i j h l =
-    pair_small (eqb i j) t.total.0 _ _ _ sums.total_small (sums.gains_small i (omega arith)) (sums.gains_small (3 + i) (omega arith)) (sums.gains_small (3 + j) (omega arith))
+    pair_small (eqb i j) t.total.0 _ _ _ sums.total_small (sums.both_small i h) (sums.one_small i h) (sums.one_small j l)
 
 -- ---- scored
 module _ {priors : List ℤ} (scored : List ℤ) {k : ℕ} {t : Tally} (low : 1 ≤ k) (top : k ≤ 3) (nine_in : NinePriors priors) (sums : SumsIn t) (size : length scored ≡ 9) (e : (p : ℕ) → p < k * k → get_or scored p (pos 0) ≡ get_or priors p (pos 0) +ℤ pair_gain t (p / k) (p % k)) where

@@ -1,12 +1,12 @@
 -- What one pass over a variant's calls adds up: one more row at a time, and how small it is.
 -- Assumes nothing.
-use Rattle.std.proofs.Common.{◌≡◌, false, cond, List, [], ◌∷◌, ◌++◌, map, ℕ, zero, suc, ◌+◌, ◌*◌, ◌-◌, ◌/◌, ◌%◌, ◌^◌, ◌≤◌, ◌<◌, eqb, ℤ, pos, nat_abs, ◌+ℤ◌, length, get_or, set, take, replicate, refl, sym, ap, ◌∙◌, arith, eq-eqb, ne_eqb, length-set, length-take}
+use Rattle.std.proofs.Common.{◌≡◌, false, List, [], ◌∷◌, ◌++◌, map, ℕ, zero, suc, ◌+◌, ◌*◌, ◌^◌, ◌≤◌, ◌<◌, eqb, ℤ, pos, nat_abs, ◌+ℤ◌, length, get_or, set, take, replicate, refl, sym, ap, ◌∙◌, arith, eq-eqb, ne_eqb, length-set, length-take}
 use Rattle.std.proofs.lemmas.List.{length-map, get_or-map, take-map, take_more, map-append, get_or-set_same, get_or-set_other}
 use native.Mathlib.Decide.{ℕ_discrete}
 use lib.IntN.{+ℤ_idr}
 use lib.ListN.{get_or-replicate}
 use Rattle.steps.proofs.AddExp.{add_size}
-use Rattle.steps.proofs.Signed.{add_abs, minus_abs, cases}
+use Rattle.steps.proofs.Signed.{add_abs, minus_abs}
 use Rattle.steps.specs.Logs.{mix_of}
 use Rattle.variants_and_fragments.specs.declared.Sizes.{Sizes}
 use Rattle.variants_and_fragments.specs.Case.{Call, direction}
@@ -21,9 +21,10 @@ use Rattle.pileup.specs.Inner.Packed.{RowIn, unpacked}
 use Rattle.genotype_probs.specs.Priors.{ln_half}
 use Rattle.genotype_probs.proofs.ListLaws.{sum_last}
 use Rattle.genotype_probs.proofs.TableSizes.{by_cond}
+use Rattle.no_haplotypes.specs.declared.tally.Gain.{Gain}
 use Rattle.no_haplotypes.specs.declared.tally.Tally.{Tally}
 use Rattle.no_haplotypes.specs.Inner.Piles.{CallsHeld}
-use Rattle.no_haplotypes.specs.Inner.Tally.{row_qual, both_gain, one_gain, gain_at, shown_on, count_place, SumsIn, added, CallAdded, Tallied}
+use Rattle.no_haplotypes.specs.Inner.Tally.{row_qual, both_gain, one_gain, gain_at, shown_on, no_gain, gain_of, gain_with, count_of, counted, SumsIn, CallAdded, Tallied}
 use Rattle.no_haplotypes.proofs.CountLaws.{only_count}
 
 -- ---- the rows, one more at a time
@@ -31,92 +32,101 @@ pub rows_more : (words : List ℕ) (i : ℕ) → i < length words → map unpack
 rows_more words i h = rw (take_more words i 0 h, map-append) refl
 
 -- ---- one more row added
--- what stands at y after z is added in place x
-added_at : (sums : List ℤ) (x : ℕ) (z : ℤ) (y : ℕ) → x < length sums → get_or (added sums x z) y (pos 0) ≡ get_or sums y (pos 0) +ℤ cond (eqb x y) z (pos 0)
-added_at sums x z y h = elim (ℕ_discrete x y) [
-  | yes e ↦ rw (← e, eq-eqb x x refl) (get_or-set_same sums x (get_or sums x (pos 0) +ℤ z) (pos 0) h)
-  | no n ↦ rw (ne_eqb x y n, +ℤ_idr) (get_or-set_other sums x y (get_or sums x (pos 0) +ℤ z) (pos 0) (λ e. n (sym e)))
-]
+abbrev no_counts : List ℕ
+no_counts = replicate 3 0
 
-three_more : (x y : ℕ) → eqb (3 + x) (3 + y) ≡ eqb x y
-three_more x y = elim (ℕ_discrete x y) [
-  | yes e ↦ rw (eq-eqb x y e, eq-eqb (3 + x) (3 + y) (omega arith))
-  | no n ↦ rw (ne_eqb x y n, ne_eqb (3 + x) (3 + y) (λ e. n (omega arith)))
-]
-
-pub tallied_start : {w : List ℤ} {s : Sizes} {t : Tally} → t.total.0 ≡ pos 0 → t.gains ≡ replicate 6 (pos 0) → t.counts ≡ replicate 6 0 → Tallied w s [] t
+pub tallied_start : {w : List ℤ} {s : Sizes} {t : Tally} → t.total.0 ≡ pos 0 → t.gains ≡ replicate 3 no_gain → t.counts ≡ replicate 2 no_counts → Tallied w s [] t
 unfolding sum_over
 tallied_start {w} {s} {t} total gains counts = record {
   gains_long = rw gains;
   counts_long = rw counts;
+  strands_long = λ strand l. rw (counts, get_or-replicate 2 strand no_counts [] l);
   total_is = total;
-  both_are = λ x h. rw gains (get_or-replicate 6 x (pos 0) (pos 0) (omega arith));
-  one_are = λ x h. rw gains (get_or-replicate 6 (3 + x) (pos 0) (pos 0) (omega arith));
-  counts_are = λ strand x l h. rw (counts, only_none (shown_on w s strand x)) (get_or-replicate {A = ℕ} 6 (3 * strand + x) 0 0 (omega arith));
+  both_are = λ x h. rw (gains, get_or-replicate 3 x no_gain no_gain h);
+  one_are = λ x h. rw (gains, get_or-replicate 3 x no_gain no_gain h);
+  counts_are = λ strand x l h. rw (counts, get_or-replicate 2 strand no_counts [] l, only_none (shown_on w s strand x)) (get_or-replicate {A = ℕ} 3 x 0 0 h);
 }
 
 module _ {w : List ℤ} {s : Sizes} {rows : List Row} {t : Tally} (made : Tallied w s rows t) (row : Row) (top : row.call.allele < 3) where
-  abbrev gains : List ℤ
+  abbrev gains : List Gain
   gains = t.gains
 
-  abbrev counts : List ℕ
+  abbrev counts : List (List ℕ)
   counts = t.counts
 
   abbrev x : ℕ
   x = row.call.allele
 
-  abbrev both : ℤ
-  both = both_gain row.call
+  abbrev gain : Gain
+  gain = gain_with (gain_of t x) row.call
 
-  abbrev one : ℤ
-  one = one_gain row.call
+  -- what an allele has gained with it
+  gain_same : get_or (set gains x gain) x no_gain ≡ gain
+  gain_same = let l = made.gains_long in get_or-set_same gains x gain no_gain (omega arith)
 
-  -- both gains of its allele
-  gains_at : (y : ℕ) → get_or (added (added gains x both) (3 + x) one) y (pos 0) ≡ get_or gains y (pos 0) +ℤ cond (eqb x y) both (pos 0) +ℤ cond (eqb (3 + x) y) one (pos 0)
-  gains_at y =
-      let l = made.gains_long in
-      let m = length-set gains x (get_or gains x (pos 0) +ℤ both) in
-      added_at (added gains x both) (3 + x) one y (omega arith) ∙ ap (λ (z : ℤ). z +ℤ cond (eqb (3 + x) y) one (pos 0)) (added_at gains x both y (omega arith))
-
-  both_on : (y : ℕ) → y < 3 → get_or (added (added gains x both) (3 + x) one) y (pos 0) ≡ sum_over (rows ++ (row ∷ [])) (gain_at both_gain y)
+  both_on : (y : ℕ) → y < 3 → (get_or (set gains x gain) y no_gain).both ≡ sum_over (rows ++ (row ∷ [])) (gain_at both_gain y)
   unfolding gain_at
-  both_on y h = gains_at y ∙ rw (ne_eqb (3 + x) y (λ e. omega arith), +ℤ_idr, sum_last rows row (gain_at both_gain y), made.both_are y h)
-
-  one_on : (y : ℕ) → y < 3 → get_or (added (added gains x both) (3 + x) one) (3 + y) (pos 0) ≡ sum_over (rows ++ (row ∷ [])) (gain_at one_gain y)
-  unfolding gain_at
-  one_on y h = gains_at (3 + y) ∙ rw (ne_eqb x (3 + y) (λ e. omega arith), +ℤ_idr, three_more x y, sum_last rows row (gain_at one_gain y), made.one_are y h)
-
-  -- the count of its strand and allele
-  abbrev place : ℕ
-  place = count_place w s row
-
-  not_shown : (strand y : ℕ) → (direction (strand_at w s row.fragment) ≡ strand → row.call.allele ≡ y → ⊥) → shown_on w s strand y row ≡ false
-  not_shown strand y n = elim (ℕ_discrete (direction (strand_at w s row.fragment)) strand) [
-    | yes e ↦ rw (eq-eqb (direction (strand_at w s row.fragment)) strand e, ne_eqb row.call.allele y (n e))
-    | no e ↦ rw (ne_eqb (direction (strand_at w s row.fragment)) strand e)
+  both_on y h = elim (ℕ_discrete x y) [
+    | yes e ↦ rw (← e, gain_same, sum_last rows row (gain_at both_gain x), made.both_are x top, eq-eqb x x refl) refl
+    | no n ↦ rw (get_or-set_other gains x y gain no_gain (λ e. n (sym e)), sum_last rows row (gain_at both_gain y), made.both_are y h, ne_eqb x y n, +ℤ_idr) refl
   ]
 
-  counts_on : (strand y : ℕ) → strand < 2 → y < 3 → get_or (set counts place (get_or counts place 0 + 1)) (3 * strand + y) 0 ≡ length (only (shown_on w s strand y) (rows ++ (row ∷ [])))
-  counts_on strand y l h =
+  one_on : (y : ℕ) → y < 3 → (get_or (set gains x gain) y no_gain).one ≡ sum_over (rows ++ (row ∷ [])) (gain_at one_gain y)
+  unfolding gain_at
+  one_on y h = elim (ℕ_discrete x y) [
+    | yes e ↦ rw (← e, gain_same, sum_last rows row (gain_at one_gain x), made.one_are x top, eq-eqb x x refl) refl
+    | no n ↦ rw (get_or-set_other gains x y gain no_gain (λ e. n (sym e)), sum_last rows row (gain_at one_gain y), made.one_are y h, ne_eqb x y n, +ℤ_idr) refl
+  ]
+
+  -- the counts of its strand
+  abbrev own : ℕ
+  own = direction (strand_at w s row.fragment)
+
+  abbrev own_counts : List ℕ
+  own_counts = set (get_or counts own []) x (count_of counts own x + 1)
+
+  strand_same : get_or (counted counts own x) own [] ≡ own_counts
+  strand_same = let l = made.counts_long in get_or-set_same counts own own_counts [] (omega arith)
+
+  strand_long : (strand : ℕ) → strand < 2 → length (get_or (counted counts own x) strand []) ≡ 3
+  strand_long strand l = elim (ℕ_discrete own strand) [
+    | yes e ↦ rw (← e, strand_same) (length-set (get_or counts own []) x _ ∙ made.strands_long own (omega arith))
+    | no n ↦ rw (get_or-set_other counts own strand own_counts [] (λ e. n (sym e))) (made.strands_long strand l)
+  ]
+
+  not_shown : (strand y : ℕ) → (own ≡ strand → x ≡ y → ⊥) → shown_on w s strand y row ≡ false
+  not_shown strand y n = elim (ℕ_discrete own strand) [
+    | yes e ↦ rw (eq-eqb own strand e, ne_eqb x y (n e))
+    | no e ↦ rw (ne_eqb own strand e)
+  ]
+
+  -- where it is not shown, its count stays
+  count_stays : (strand y : ℕ) → strand < 2 → y < 3 → (own ≡ strand → x ≡ y → ⊥) → count_of counts strand y ≡ length (only (shown_on w s strand y) (rows ++ (row ∷ [])))
+  count_stays strand y l h n =
       let p = shown_on w s strand y in
-      let c = made.counts_are strand y l h in
-      elim (ℕ_discrete place (3 * strand + y)) [
-        | yes e ↦
-            let f : direction (strand_at w s row.fragment) ≡ strand = omega arith in
-            let g : row.call.allele ≡ y = omega arith in
-            let m = made.counts_long in
-            rw (e, get_or-set_same counts (3 * strand + y) (get_or counts (3 * strand + y) 0 + 1) 0 (omega arith), only_count p rows (row ∷ []), only_in p row [] (rw (eq-eqb (direction (strand_at w s row.fragment)) strand f, eq-eqb row.call.allele y g)), only_none p) (omega arith)
-        | no n ↦ rw (get_or-set_other counts place (3 * strand + y) (get_or counts place 0 + 1) 0 (λ e. n (sym e)), only_count p rows (row ∷ []), only_out p row [] (not_shown strand y (λ e f. n (omega arith))), only_none p) (omega arith)
-      ]
+      rw (only_count p rows (row ∷ []), only_out p row [] (not_shown strand y n), only_none p) (omega (arith, made.counts_are strand y l h))
+
+  counts_on : (strand y : ℕ) → strand < 2 → y < 3 → count_of (counted counts own x) strand y ≡ length (only (shown_on w s strand y) (rows ++ (row ∷ [])))
+  counts_on strand y l h = elim (ℕ_discrete own strand) [
+    | yes e ↦ elim (ℕ_discrete x y) [
+      | yes f ↦
+          let p = shown_on w s own x in
+          let m = made.strands_long own (omega arith) in
+          rw (← e, ← f, strand_same, get_or-set_same (get_or counts own []) x (count_of counts own x + 1) 0 (omega arith), only_count p rows (row ∷ []), only_in p row [] (rw (eq-eqb own own refl, eq-eqb x x refl)), only_none p) (omega (arith, made.counts_are own x (omega arith) top))
+      | no n ↦ rw (← e, strand_same, get_or-set_other (get_or counts own []) x y (count_of counts own x + 1) 0 (λ f. n (sym f))) (count_stays own y (omega arith) h (λ _ f. n f))
+    ]
+    | no n ↦ rw (get_or-set_other counts own strand own_counts [] (λ e. n (sym e))) (count_stays strand y l h (λ e _. n e))
+  ]
 
   pub tallied_on : {after : Tally} → CallAdded w s row t after → Tallied w s (rows ++ (row ∷ [])) after
   tallied_on {after} a = record {
-    gains_long = ap length a.gains_are ∙ length-set (added gains x both) (3 + x) _ ∙ length-set gains x _ ∙ made.gains_long;
-    counts_long = ap length a.counts_are ∙ length-set counts place _ ∙ made.counts_long;
+    gains_long = ap length a.gains_are ∙ length-set gains x gain ∙ made.gains_long;
+    counts_long = ap length a.counts_are ∙ length-set counts own own_counts ∙ made.counts_long;
+    strands_long = λ strand l. ap (λ (m : List (List ℕ)). length (get_or m strand [])) a.counts_are ∙ strand_long strand l;
     total_is = a.total_is ∙ rw (sum_last rows row row_qual, made.total_is) refl;
-    both_are = λ y h. ap (λ (l : List ℤ). get_or l y (pos 0)) a.gains_are ∙ both_on y h;
-    one_are = λ y h. ap (λ (l : List ℤ). get_or l (3 + y) (pos 0)) a.gains_are ∙ one_on y h;
-    counts_are = λ strand y l h. ap (λ (m : List ℕ). get_or m (3 * strand + y) 0) a.counts_are ∙ counts_on strand y l h;
+    both_are = λ y h. ap (λ (l : List Gain). (get_or l y no_gain).both) a.gains_are ∙ both_on y h;
+    one_are = λ y h. ap (λ (l : List Gain). (get_or l y no_gain).one) a.gains_are ∙ one_on y h;
+    counts_are = λ strand y l h. ap (λ (m : List (List ℕ)). count_of m strand y) a.counts_are ∙ counts_on strand y l h;
   }
 
 -- ---- how small it is
@@ -157,24 +167,12 @@ module _ {w : List ℤ} {s : Sizes} {n f : ℕ} {rows : List Row} {t : Tally} (m
   unfolding gain_at
   gain_few gain h x = sum_few (gain_at gain x) (λ row i. by_cond (eqb row.call.allele x) (gain row.call) (λ _. h row i))
 
-  gain_small : (p : ℕ) → p < 6 → nat_abs (get_or t.gains p (pos 0)) ≤ 2 ^ 34
-  gain_small p h =
-      cases p 3
-      (λ y. omega (arith, ap nat_abs (made.both_are p y), gain_few both_gain (λ row i. both_small i) p))
-      (λ y. let z : 3 + (p - 3) ≡ p = omega arith in
-      omega (arith, ap nat_abs (rw z at (made.one_are (p - 3) (omega arith))), gain_few one_gain (λ row i. one_small i) (p - 3)))
-
-  count_few : (p : ℕ) → p < 6 → get_or t.counts p 0 ≤ 16384
-  count_few p h =
-      let z : 3 * (p / 3) + p % 3 ≡ p = omega arith in
-      let q = shown_on w s (p / 3) (p % 3) in
-      omega (arith, rw z at (made.counts_are (p / 3) (p % 3) (omega arith) (omega arith)), only_length q rows, few)
-
   pub sums_in : SumsIn t
   sums_in = record {
     total_small = omega (arith, ap nat_abs made.total_is, sum_few row_qual (λ row i. omega (arith, qual_small i)));
-    gains_small = gain_small;
-    counts_few = count_few;
+    both_small = λ x h. omega (arith, ap nat_abs (made.both_are x h), gain_few both_gain (λ row i. both_small i) x);
+    one_small = λ x h. omega (arith, ap nat_abs (made.one_are x h), gain_few one_gain (λ row i. one_small i) x);
+    counts_few = λ strand x l h. omega (arith, made.counts_are strand x l h, only_length (shown_on w s strand x) rows, few);
   }
 
 -- so of all calls of a variant, and of the first i

@@ -31,9 +31,7 @@ impl Summed<'_> {
     fn words(&self, g: Genotype) -> [i32; 13]
         ensures { (b : List ℕ) → result ≡ map pos (answer_values g self.now.tally.counts self.now.calls.ambiguous (depth_after (decode self.now.calls.case.laid.words.now b) self.now.calls.v)) }
     {
-        let counts = &self.tally.counts;
-        let forward = [counts[0], counts[1], counts[2]];
-        let reverse = [counts[3], counts[4], counts[5]];
+        let [forward, reverse] = self.tally.counts;
         [
             i32::from(g.0),
             i32::from(g.1),
@@ -62,8 +60,8 @@ impl Calls<'_> {
             calls: *self,
             tally: Tally::of(self),
         };
-        let k = self.case.laid.allele_count(self.v);
-        summed.score(post, k);
+        let k = self.allele_count();
+        summed.score(post);
         normalize(post, k);
         let table = Table { post, k };
         let p = table.max_genotype(false);

@@ -1,16 +1,17 @@
 // The calls of a variant, and the piles that they are read from.
-ghost use Rattle.std.specs.Prelude.{◌≡◌, List, ℕ, ◌<◌};
+ghost use Rattle.std.specs.Prelude.{◌≡◌, List, ℕ, ◌<◌, ◌≤◌};
+ghost use Rattle.variants_and_fragments.specs.Layout.{allele_count_at};
 ghost use Rattle.variants_and_fragments.specs.Decode.{decode};
 ghost use Rattle.no_haplotypes.specs.NoHaplotypes.{depth_after};
 ghost use Rattle.no_haplotypes.specs.Inner.Piles.{CallsHeld, Piled};
 
-use pileup::piles::group_start;
-use variants_and_fragments::Case;
+use pileup::grouped::Groups;
+use variants_and_fragments::CaseWords;
 
 // The calls at variant v of a case: the usable ones, each as the word of its row, and how many more are ambiguous.
 #[derive(Clone, Copy)]
 pub struct Calls<'a> {
-    pub case: Case<'a>,
+    pub case: CaseWords<'a>,
     pub v: usize,
     pub usable: &'a [u64],
     pub ambiguous: usize,
@@ -18,24 +19,33 @@ pub struct Calls<'a> {
 }
 
 impl Calls<'_> {
+    // The number of the variant's alleles.
+    pub fn allele_count(&self) -> usize
+        ensures value { result ≡ allele_count_at self.now.case.laid.words.now self.now.v }
+        ensures low { 1 ≤ result }
+        ensures high { result ≤ 3 }
+    {
+        self.case.laid.allele_count(self.v)
+    }
+
     // The larger of the variant's depth in the case and the number of its calls, usable and ambiguous.
     pub fn depth_after(&self) -> usize
         ensures { ((b : List ℕ) → result ≡ depth_after (decode self.now.case.laid.words.now b) self.now.v) × (result < 2147483648) }
     {
         self.case
+            .with_variants()
             .depth(self.v)
             .max(self.usable.len() + self.ambiguous)
     }
 }
 
-// The usable calls of a case by variant, where those of each variant end, and how many at each are ambiguous.
+// The usable calls of a case by variant, and how many at each are ambiguous.
 #[derive(Clone, Copy)]
 pub struct Piles<'a> {
-    pub case: Case<'a>,
-    pub words: &'a [u64],
-    pub ends: &'a [usize],
+    pub case: CaseWords<'a>,
+    pub by_variant: Groups<'a>,
     pub ambiguous: &'a [usize],
-    pub ghost piled: { Piled case.laid.words.now case.laid.sizes ambiguous.now ends.now words.now },
+    pub ghost piled: { Piled case.laid.words.now case.laid.sizes ambiguous.now by_variant.ends.now by_variant.words.now },
 }
 
 impl<'a> Piles<'a> {
@@ -47,7 +57,7 @@ impl<'a> Piles<'a> {
         Calls {
             case: self.case,
             v,
-            usable: &self.words[group_start(self.ends, v)..self.ends[v]],
+            usable: self.by_variant.group(v),
             ambiguous: self.ambiguous[v],
         }
     }

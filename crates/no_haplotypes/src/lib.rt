@@ -10,15 +10,17 @@ ghost use Rattle.no_haplotypes.specs.Inner.Calling.{PriorsIn, VariantsCalled, Ac
 use crate::calls::Piles;
 use genotype_probs::case_priors::make_priors;
 use genotype_probs::{AcceptedRates, Rates};
+use pileup::grouped::Groups;
 use pileup::piles::pile_calls;
 use variants_and_fragments::layout::{MAX_CALLS, MAX_FRAGMENTS, MAX_VARIANTS};
-use variants_and_fragments::{Case, Refusal, check_case, long_enough};
+use variants_and_fragments::{Case, CaseWords, Refusal, check_case, long_enough};
 
 mod answer;
 mod calls;
 mod tally;
 
-// Calls all variants: each variant's nine priors become its posteriors.
+// Calls all variants: each variant's nine priors become its posteriors. The caller lends `variants`, `quals` and `gqs` apart: a struct of the three
+// would hold them by `&mut`, and each contract would have to say that each loan is the same one.
 fn call_variants(
     piles: &Piles<'_>,
     post: &mut [i64],
@@ -40,7 +42,7 @@ fn call_variants(
 
 // The piles of a case, where each ends, and how many calls at each variant are ambiguous. The rows are scratch that is gone before the variants are
 // called.
-fn pile_up(case: &Case<'_>, ambiguous: &mut [usize], ends: &mut [usize], words: &mut [u64])
+fn pile_up(case: &CaseWords<'_>, ambiguous: &mut [usize], ends: &mut [usize], words: &mut [u64])
     requires { (case.now.laid.sizes.n ≤ length ambiguous.old) × (case.now.laid.sizes.n ≤ length ends.old) × (case.now.laid.sizes.c ≤ length words.old) }
     ensures { Piled case.now.laid.words.now case.now.laid.sizes ambiguous.new ends.new words.new }
 {
@@ -63,13 +65,16 @@ fn call_accepted(
     let mut ambiguous = [0usize; MAX_VARIANTS];
     let mut ends = [0usize; MAX_VARIANTS];
     let mut words = [0u64; MAX_CALLS];
-    pile_up(case, &mut ambiguous, &mut ends, &mut words);
+    let accepted = case.accepted_words();
+    pile_up(&accepted, &mut ambiguous, &mut ends, &mut words);
     let mut post = [0i64; 9 * MAX_VARIANTS];
     make_priors(case, rates, &mut post);
     let piles = Piles {
-        case: *case,
-        words: &words,
-        ends: &ends,
+        case: accepted,
+        by_variant: Groups {
+            words: &words,
+            ends: &ends,
+        },
         ambiguous: &ambiguous,
     };
     call_variants(&piles, &mut post, variants, quals, gqs);

@@ -1,39 +1,46 @@
 // What one pass over a variant's calls adds up: the qualities, what each allele gains on them, and the calls by strand and allele.
 ghost use Rattle.std.specs.Prelude.{◌≡◌, ◌*◌, ◌/◌, ◌%◌, ◌<◌, ◌≤◌, ◌^◌, ℕ, pos, nat_abs, ◌+ℤ◌, map, get_or};
 ghost use Rattle.pileup.specs.Inner.Packed.{RowIn, row_from, unpacked};
-ghost use Rattle.no_haplotypes.specs.Inner.Tally.{SumsIn, CallAdded, Tallied, pair_gain, NinePriors};
+ghost use Rattle.no_haplotypes.specs.Inner.Tally.{SumsIn, CallAdded, Tallied, pair_gain, NinePriors, Scored};
+ghost use Rattle.variants_and_fragments.specs.Layout.{allele_count_at};
 
 use crate::calls::Calls;
 use pileup::row::Row;
 use steps::LogProb;
-use variants_and_fragments::Case;
+use variants_and_fragments::CaseWords;
 use variants_and_fragments::layout::direction_of;
 
-// The sum of qual; what allele x gains on it in place x where both alleles of a pair match, and in place 3 + x where one does; and the calls that
-// show it, forward in place x and reverse in place 3 + x.
+// What an allele gains on the sum of qual where both alleles of a pair match it, and where one does.
+#[derive(Clone, Copy)]
+pub struct Gain {
+    pub both: i64,
+    pub one: i64,
+}
+
+// The sum of qual, what each allele gains on it, and the calls that show the allele, forward and reverse.
 #[derive(Clone, Copy)]
 pub struct Tally {
     pub total: LogProb,
-    pub gains: [i64; 6],
-    pub counts: [usize; 6],
+    pub gains: [Gain; 3],
+    pub counts: [[usize; 3]; 2],
 }
 
 impl Tally {
-    // Adds one call.
-    fn add(&mut self, case: &Case<'_>, row: Row)
+    // Adds one call. The strand's direction, 0 or 1, is the place of its counts: an enum would be turned into that place again.
+    fn add(&mut self, case: &CaseWords<'_>, row: Row)
         requires row_in { RowIn case.now.laid.sizes.n case.now.laid.sizes.f (row_from row) }
         requires sums_in { SumsIn self.old }
         ensures { CallAdded case.now.laid.words.now case.now.laid.sizes (row_from row) self.old self.new }
     {
         let x = row.allele;
         let q = row.qual.0;
-        let both = row.one_minus_qual.0 - q;
-        let one = row.qual.mix(row.one_minus_qual).0 - q;
+        let mixed = row.qual.mix(row.one_minus_qual).0;
         let strand = direction_of(case.laid.strand(row.fragment));
         self.total.0 += q;
-        self.gains[x] += both;
-        self.gains[3 + x] += one;
-        self.counts[3 * strand + x] += 1;
+        self.counts[strand][x] += 1;
+        let gain = &mut self.gains[x];
+        gain.both += row.one_minus_qual.0 - q;
+        gain.one += mixed - q;
     }
 
     // Adds up a variant's calls.
@@ -42,8 +49,8 @@ impl Tally {
     {
         let mut tally = Tally {
             total: LogProb(0),
-            gains: [0; 6],
-            counts: [0; 6],
+            gains: [Gain { both: 0, one: 0 }; 3],
+            counts: [[0; 3]; 2],
         };
         for word in calls.usable {
             tally.add(&calls.case, Row::unpack(*word));
@@ -70,16 +77,17 @@ impl Summed<'_> {
         let total = self.tally.total.0;
         let gains = &self.tally.gains;
         if i == j {
-            return LogProb(total + gains[i]);
+            return LogProb(total + gains[i].both);
         }
-        LogProb(total + gains[3 + i] + gains[3 + j])
+        LogProb(total + gains[i].one + gains[j].one)
     }
 
-    // Adds what the calls add to each of the k × k priors of the variant.
-    pub fn score(&self, post: &mut [i64], k: usize)
-        requires { (1 ≤ k) × (k ≤ 3) × NinePriors post.old }
-        ensures { (p : ℕ) → p < k * k → get_or post.new p (pos 0) ≡ get_or post.old p (pos 0) +ℤ pair_gain self.now.tally (p / k) (p % k) }
+    // Adds what the calls add to each prior of the variant.
+    pub fn score(&self, post: &mut [i64])
+        requires { NinePriors post.old }
+        ensures { Scored self.now.tally (allele_count_at self.now.calls.case.laid.words.now self.now.calls.v) post.old post.new }
     {
+        let k = self.calls.allele_count();
         for p in 0..k * k {
             post[p] += self.pair_gain(p / k, p % k).0;
         }

@@ -24,7 +24,7 @@ pub struct DensityParameters {
     pub gq: PHREDProb,
 }
 
-// The number of a filter. A function and no `From`, which would be a second name: promises cite this one.
+// The number of a filter. A function: VarFilter is another crate's, so `From<VarFilter> for u8` could stand only there, as a second name for this.
 pub fn filter_value(f: VarFilter) -> u8
     ensures { result ≡ filter_value f }
 {
@@ -50,11 +50,12 @@ pub fn write_filters(scan: &Scan<'_>, max_depth: u32, filters: &mut [u8])
     requires { scan.now.case.laid.sizes.n ≤ length filters.old }
     ensures { (b : List ℕ) → filters.new ≡ written (filter_of (decode scan.now.case.laid.words.now b) scan.now.quals.now (limits_of scan.now.density max_depth)) scan.now.case.laid.sizes.n filters.old }
 {
+    let variants = scan.case.with_variants();
     let mut window = Window::default();
     for v in 0..scan.case.laid.sizes.n {
         window.slide(scan, v);
         let dense = v < window.marked_end;
-        let deep = (max_depth as usize) < scan.case.depth(v);
+        let deep = (max_depth as usize) < variants.depth(v);
         filters[v] = filter_value(join_reasons(dense, deep));
     }
 }
@@ -77,7 +78,7 @@ pub fn var_filter(
         return Err(Refusal::DensityQual(0));
     }
     let scan = Scan {
-        case,
+        case: case.accepted_words(),
         quals,
         density,
     };

@@ -3,11 +3,11 @@ ghost use Rattle.std.specs.Prelude.{◌≡◌, ◌<◌, ◌≤◌, length};
 ghost use Rattle.var_filter.specs.Filter.{strong};
 
 use crate::DensityParameters;
-use variants_and_fragments::Case;
+use variants_and_fragments::CaseWords;
 
 #[derive(Clone, Copy)]
 pub struct Scan<'a> {
-    pub case: Case<'a>,
+    pub case: CaseWords<'a>,
     pub quals: &'a [f64],
     pub density: DensityParameters,
     pub ghost quals_in: { case.laid.sizes.n ≤ length quals.now },

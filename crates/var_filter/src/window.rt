@@ -21,9 +21,10 @@ impl Window {
         requires window_at { WindowAt scan.now v self.old }
         ensures { Extended scan.now v self.old self.new }
     {
-        let reach = scan.case.pos0(v) + scan.density.len as usize;
+        let variants = scan.case.with_variants();
+        let reach = variants.pos0(v) + scan.density.len as usize;
         for m in self.end..scan.case.laid.sizes.n {
-            if reach < scan.case.pos0(m) {
+            if reach < variants.pos0(m) {
                 return;
             }
             self.end = m + 1;

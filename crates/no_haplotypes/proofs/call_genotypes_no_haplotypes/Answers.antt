@@ -1,7 +1,6 @@
 -- Each way out is a line of the table, or the answers written.
 use Rattle.std.proofs.Common.{sym, ◌∙◌, arith}
-use Rattle.std.proofs.lemmas.Result.{err_from_is_err_and}
-use Rattle.variants_and_fragments.proofs.Outcomes.{case_stops, each_stops, each_passes, enough_fits, promise_refused, promise_done}
+use Rattle.variants_and_fragments.proofs.Outcomes.{case_stops, each_stops, each_passes, enough_fits, exit_is, promise_refused, promise_done}
 use Rattle.variants_and_fragments.proofs.Short.{short_fits}
 use Rattle.no_haplotypes.specs.NoHaplotypes.{call_genotypes_no_haplotypes_outcome}
 use Rattle.no_haplotypes.proofs.CallRefusals.{past_case, all_called}
@@ -10,21 +9,18 @@ use Rattle.no_haplotypes.proofs.call_genotypes_no_haplotypes.Goals as goal
 pub returns-in_err-case : goal.returns-in_err-case
 unfolding call_genotypes_no_haplotypes_outcome
 returns-in_err-case c =
-    let p = err_from_is_err_and c.from_residual.result c.from_residual.ensures.1 in rw (p.1, p.2)
-    (promise_refused _ (case_stops _ _ _ _ c.in_err-case.ensures.outcome))
+    rw (exit_is c.from_residual.ensures.1) (promise_refused _ (case_stops _ _ _ _ c.in_err-case.ensures.outcome))
 
 pub returns-in_err-accepted : goal.returns-in_err-accepted
 returns-in_err-accepted c =
-    let p = err_from_is_err_and c.from_residual-in_err-accepted.result c.from_residual-in_err-accepted.ensures.1 in rw (p.1, p.2)
-    (promise_refused _ (each_stops 6 _ 0 7 _ _ c.in_err-accepted.ensures.outcome ∙ past_case _ _ _ _ _ (sym c.in_ok-case.ensures.outcome)))
+    rw (exit_is c.from_residual-in_err-accepted.ensures.1) (promise_refused _ (each_stops 6 _ 0 7 _ _ c.in_err-accepted.ensures.outcome ∙ past_case _ _ _ _ _ (sym c.in_ok-case.ensures.outcome)))
 
 pub overflow_mul-n : goal.overflow_mul-n
 overflow_mul-n c = omega (arith, c.in_ok-case.case.laid.sized.n_top)
 
 pub returns-in_err-long_enough : goal.returns-in_err-long_enough
 returns-in_err-long_enough c =
-    let p = err_from_is_err_and c.from_residual-in_err-long_enough.result c.from_residual-in_err-long_enough.ensures.1 in rw (p.1, p.2)
-    (promise_refused _ (c.in_err-long_enough.ensures ∙ each_passes 6 _ 0 7 _ c.in_ok-accepted.ensures.outcome ∙ past_case _ _ _ _ _ (sym c.in_ok-case.ensures.outcome)))
+    rw (exit_is c.from_residual-in_err-long_enough.ensures.1) (promise_refused _ (c.in_err-long_enough.ensures ∙ each_passes 6 _ 0 7 _ c.in_ok-accepted.ensures.outcome ∙ past_case _ _ _ _ _ (sym c.in_ok-case.ensures.outcome)))
 
 pub call_accepted-requires : goal.call_accepted-requires
 call_accepted-requires c =

@@ -10,17 +10,17 @@ use Rattle.genotype_probs.specs.declared.Rates.{Rates}
 use Rattle.genotype_probs.specs.Posteriors.{qual_of}
 use Rattle.no_haplotypes.specs.declared.answer.Answer.{Answer}
 use Rattle.no_haplotypes.specs.NoHaplotypes.{answer_from, gq_from, answer_at, qual_at, gq_at}
-use Rattle.no_haplotypes.specs.Inner.Tally.{posteriors_from}
+use Rattle.no_haplotypes.specs.Inner.Tally.{count_of, posteriors_from}
 
 -- ---- the answer of one variant
 
 -- the 13 words, from the counts by strand and allele
-unfoldable pub answer_values : Genotype → List ℕ → ℕ → ℕ → List ℕ
+unfoldable pub answer_values : Genotype → List (List ℕ) → ℕ → ℕ → List ℕ
 answer_values g counts ambiguous depth =
     g.0 ∷ g.1
-    ∷ (get_or counts 0 0 + get_or counts 3 0) ∷ (get_or counts 1 0 + get_or counts 4 0) ∷ (get_or counts 2 0 + get_or counts 5 0)
-    ∷ get_or counts 0 0 ∷ get_or counts 1 0 ∷ get_or counts 2 0
-    ∷ get_or counts 3 0 ∷ get_or counts 4 0 ∷ get_or counts 5 0
+    ∷ (count_of counts 0 0 + count_of counts 1 0) ∷ (count_of counts 0 1 + count_of counts 1 1) ∷ (count_of counts 0 2 + count_of counts 1 2)
+    ∷ count_of counts 0 0 ∷ count_of counts 0 1 ∷ count_of counts 0 2
+    ∷ count_of counts 1 0 ∷ count_of counts 1 1 ∷ count_of counts 1 2
     ∷ ambiguous ∷ depth ∷ []
 
 -- the posteriors of v that are made from its priors

@@ -1,7 +1,7 @@
 -- 01, section 4, as the code goes about it: what one pass over a variant's calls adds up, and the scores from that. With Q the sum of qual,
 -- the score of (i, i) adds Q and the gains of i where both alleles match, that of i ≠ j adds Q and the gains of i and of j where one does.
 -- Assumes nothing.
-use Rattle.std.specs.Prelude.{◌≡◌, Bool, cond, ◌&&◌, List, ℕ, ◌+◌, ◌*◌, ◌/◌, ◌%◌, ◌^◌, ◌≤◌, ◌<◌, eqb, ltb, ℤ, pos, nat_abs, ◌+ℤ◌, ◌-ℤ◌, length, get_or, set}
+use Rattle.std.specs.Prelude.{◌≡◌, Bool, cond, ◌&&◌, List, [], ℕ, ◌+◌, ◌*◌, ◌/◌, ◌%◌, ◌^◌, ◌≤◌, ◌<◌, eqb, ltb, ℤ, pos, nat_abs, ◌+ℤ◌, ◌-ℤ◌, length, get_or, set}
 use Rattle.variants_and_fragments.specs.declared.Sizes.{Sizes}
 use Rattle.variants_and_fragments.specs.Case.{Call, direction}
 use Rattle.variants_and_fragments.specs.Decode.{tabulate}
@@ -9,6 +9,7 @@ use Rattle.variants_and_fragments.specs.Layout.{strand_at}
 use Rattle.variants_and_fragments.specs.Pileup.{Row, only}
 use Rattle.variants_and_fragments.specs.Sums.{sum_over}
 use Rattle.genotype_probs.specs.Posteriors.{normalized}
+use Rattle.no_haplotypes.specs.declared.tally.Gain.{Gain}
 use Rattle.no_haplotypes.specs.declared.tally.Tally.{Tally}
 use Rattle.no_haplotypes.specs.NoHaplotypes.{call_score}
 use Rattle.steps.specs.Logs.{mix_of}
@@ -28,49 +29,66 @@ one_gain call = mix_of call.qual call.one_minus_qual -ℤ call.qual
 unfoldable pub gain_at : (Call → ℤ) → ℕ → Row → ℤ
 gain_at gain x row = cond (eqb row.call.allele x) (gain row.call) (pos 0)
 
--- a row shows allele x on a strand, 0 forward or 1 reverse, and where it is counted
+-- a row shows allele x on a strand, 0 forward or 1 reverse
 abbrev pub shown_on : List ℤ → Sizes → ℕ → ℕ → Row → Bool
 shown_on w s strand x row = eqb (direction (strand_at w s row.fragment)) strand && eqb row.call.allele x
 
-abbrev pub count_place : List ℤ → Sizes → Row → ℕ
-count_place w s row = 3 * direction (strand_at w s row.fragment) + row.call.allele
+-- what a tally says of allele x: its gain, and the calls that show it on a strand
+abbrev pub no_gain : Gain
+no_gain = record { both = pos 0; one = pos 0 }
+
+abbrev pub gain_of : Tally → ℕ → Gain
+gain_of t x = get_or t.gains x no_gain
+
+abbrev pub count_of : List (List ℕ) → ℕ → ℕ → ℕ
+count_of counts strand x = get_or (get_or counts strand []) x 0
 
 -- no sum is near the end of its type
 pub record SumsIn (t : Tally) : Type 0 where
   pub total_small : nat_abs t.total.0 ≤ 2 ^ 34
-  pub gains_small : (p : ℕ) → p < 6 → nat_abs (get_or t.gains p (pos 0)) ≤ 2 ^ 34
-  pub counts_few : (p : ℕ) → p < 6 → get_or t.counts p 0 ≤ 16384
+  pub both_small : (x : ℕ) → x < 3 → nat_abs (gain_of t x).both ≤ 2 ^ 34
+  pub one_small : (x : ℕ) → x < 3 → nat_abs (gain_of t x).one ≤ 2 ^ 34
+  pub counts_few : (strand x : ℕ) → strand < 2 → x < 3 → count_of t.counts strand x ≤ 16384
 
--- z added in place x
-abbrev pub added : List ℤ → ℕ → ℤ → List ℤ
-added sums x z = set sums x (get_or sums x (pos 0) +ℤ z)
+-- a call's gains added
+abbrev pub gain_with : Gain → Call → Gain
+gain_with gain call = record { both = gain.both +ℤ both_gain call; one = gain.one +ℤ one_gain call }
+
+-- one more call of allele x counted on a strand
+abbrev pub counted : List (List ℕ) → ℕ → ℕ → List (List ℕ)
+counted counts strand x = set counts strand (set (get_or counts strand []) x (count_of counts strand x + 1))
 
 -- one call added
 pub record CallAdded (w : List ℤ) (s : Sizes) (row : Row) (before after : Tally) : Type 0 where
   pub total_is : after.total.0 ≡ before.total.0 +ℤ row.call.qual
-  pub gains_are : after.gains ≡ added (added before.gains row.call.allele (both_gain row.call)) (3 + row.call.allele) (one_gain row.call)
-  pub counts_are : after.counts ≡ set before.counts (count_place w s row) (get_or before.counts (count_place w s row) 0 + 1)
+  pub gains_are : after.gains ≡ set before.gains row.call.allele (gain_with (gain_of before row.call.allele) row.call)
+  pub counts_are : after.counts ≡ counted before.counts (direction (strand_at w s row.fragment)) row.call.allele
 
 -- the calls of these rows added
 pub record Tallied (w : List ℤ) (s : Sizes) (rows : List Row) (t : Tally) : Type 0 where
-  pub gains_long : length t.gains ≡ 6
-  pub counts_long : length t.counts ≡ 6
+  pub gains_long : length t.gains ≡ 3
+  pub counts_long : length t.counts ≡ 2
+  pub strands_long : (strand : ℕ) → strand < 2 → length (get_or t.counts strand []) ≡ 3
   pub total_is : t.total.0 ≡ sum_over rows row_qual
-  pub both_are : (x : ℕ) → x < 3 → get_or t.gains x (pos 0) ≡ sum_over rows (gain_at both_gain x)
-  pub one_are : (x : ℕ) → x < 3 → get_or t.gains (3 + x) (pos 0) ≡ sum_over rows (gain_at one_gain x)
-  pub counts_are : (strand x : ℕ) → strand < 2 → x < 3 → get_or t.counts (3 * strand + x) 0 ≡ length (only (shown_on w s strand x) rows)
+  pub both_are : (x : ℕ) → x < 3 → (gain_of t x).both ≡ sum_over rows (gain_at both_gain x)
+  pub one_are : (x : ℕ) → x < 3 → (gain_of t x).one ≡ sum_over rows (gain_at one_gain x)
+  pub counts_are : (strand x : ℕ) → strand < 2 → x < 3 → count_of t.counts strand x ≡ length (only (shown_on w s strand x) rows)
 
 -- ---- the scores
 
 -- what the calls add to the prior of the pair (i, j)
 unfoldable pub pair_gain : Tally → ℕ → ℕ → ℤ
 pair_gain t i j =
-    cond (eqb i j) (t.total.0 +ℤ get_or t.gains i (pos 0)) (t.total.0 +ℤ get_or t.gains (3 + i) (pos 0) +ℤ get_or t.gains (3 + j) (pos 0))
+    cond (eqb i j) (t.total.0 +ℤ (gain_of t i).both) (t.total.0 +ℤ (gain_of t i).one +ℤ (gain_of t j).one)
 
 -- the nine priors of a variant, small enough to add that
 pub record NinePriors (priors : List ℤ) : Type 0 where
   pub size : length priors ≡ 9
   pub small : (p : ℕ) → p < 9 → nat_abs (get_or priors p (pos 0)) ≤ 2 ^ 34
+
+-- what the calls add to each of its k × k priors, added
+abbrev pub Scored : Tally → ℕ → List ℤ → List ℤ → Type 0
+Scored t k priors scores = (p : ℕ) → p < k * k → get_or scores p (pos 0) ≡ get_or priors p (pos 0) +ℤ pair_gain t (p / k) (p % k)
 
 -- place p of a variant's scores, from its priors and the rows at it
 unfoldable pub scored_from : List ℤ → ℕ → List Row → ℕ → ℤ

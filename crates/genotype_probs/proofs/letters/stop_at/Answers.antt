@@ -9,7 +9,7 @@ pub returns-then-reference-i : goal.returns-then-reference-i
 unfolding stop_at
 returns-then-reference-i c =
     let i = c.loop-i.i in
-    let a = length c.args.allele.now in
+    let a = length c.args.allele.bases.now in
     let good = λ (j : ℕ) (l : j < i). eq-eqb _ _ (c.loop-i.invariant.1 j l) in
     (omega arith, cases i (a - 1) (λ h. first_at _ _ _ good h (ne_eqb _ _ c.if-reference-i.true)) (λ h. first_end _ _ _ good (omega arith)))
 

@@ -27,7 +27,7 @@ loop-j-preserved c =
     let n = c.count-k.ensures.0 in
     let v = r
     ∙ c.get_prior.ensures
-    ∙ prior_is (prior_table rates) w b x.v i j c.allele-reference.result.now c.allele-first.result.now c.allele.result.now (omega (arith, low)) (omega (arith, n, c.loop-i-test.true)) (omega (arith, n, c.loop-j-test.true)) c.allele-reference.ensures.0 c.allele-first.ensures.0 c.allele.ensures.0
+    ∙ prior_is (prior_table rates) w b x.v i j c.allele-reference.result.bases.now c.allele-first.result.bases.now c.allele.result.bases.now (omega (arith, low)) (omega (arith, n, c.loop-i-test.true)) (omega (arith, n, c.loop-j-test.true)) c.allele-reference.ensures c.allele-first.ensures c.allele.ensures
     ∙ table_holds rates (variant_from w b x.v) i j
     ∙ place_is rates w b x.v k n i j c.loop-j-test.true l in
     λ p h. elim (ℕ_discrete p (i * k + j)) [

@@ -7,4 +7,4 @@ use Rattle.genotype_probs.proofs.priors.get_prior.Goals as goal
 pub returns : goal.returns
 returns c =
     c.value.ensures
-    ∙ lookup_is (prior_table c.args.table.now.rates.rates) c.args.reference.now c.args.first.now c.args.second.now c.of-base.result c.compare-one.result c.compare-two.result c.of-base.ensures c.compare-one.ensures c.compare-two.ensures
+    ∙ lookup_is (prior_table c.args.table.now.rates.rates) c.args.reference.bases.now c.args.first.bases.now c.args.second.bases.now c.of-base.result c.compare-one.result c.compare-two.result c.of-base.ensures c.compare-one.ensures c.compare-two.ensures

@@ -18,9 +18,16 @@ slice_bounds-result-end c =
     let y = x.case.now in
     omega (arith, allele_end y.case_in y.bases.now y.bases_in x.v c.args.j x.inside c.requires, c.start-start.ensures, c.allele_length.ensures)
 
+-- the bytes that are taken are the allele's
+pub invariant_of-result : goal.invariant_of-result
+invariant_of-result c =
+    let x = c.args.self.now in
+    let y = x.case.now in
+    let e = allele_part y.laid.words.now y.bases.now x.v c.args.j c.start-start.result _ c.start-start.ensures (ap (λ n. c.start-start.result + n) c.allele_length.ensures) in
+    record { present = rw e (allele_there y.case_in y.bases.now y.bases_in x.v c.args.j x.inside c.requires) }
+
 pub returns : goal.returns
 returns c =
     let x = c.args.self.now in
     let y = x.case.now in
-    let e = allele_part y.laid.words.now y.bases.now x.v c.args.j c.start-start.result _ c.start-start.ensures (ap (λ n. c.start-start.result + n) c.allele_length.ensures) in
-    (e, rw e (allele_there y.case_in y.bases.now y.bases_in x.v c.args.j x.inside c.requires))
+    allele_part y.laid.words.now y.bases.now x.v c.args.j c.start-start.result _ c.start-start.ensures (ap (λ n. c.start-start.result + n) c.allele_length.ensures)

@@ -1,17 +1,17 @@
--- All entries are written.
-use Rattle.std.proofs.Common.{pos, sym, ◌∙◌, arith}
-use lib.Seq.{ext_get_or}
-use Rattle.variants_and_fragments.specs.Decode.{tabulate}
-use Rattle.variants_and_fragments.proofs.Decoded.{tabulate_length, tabulate_at}
-use Rattle.genotype_probs.specs.Inner.PriorTable.{table_entry, prior_table}
+-- One base's rows more are written.
+use Rattle.std.proofs.Common.{◌∙◌, arith, length-set}
+use Rattle.genotype_probs.specs.Letters.{base_number}
+use Rattle.genotype_probs.specs.Inner.PriorTable.{RowsMade, no_rows}
+use Rattle.genotype_probs.proofs.Filled.{filled_on}
+use Rattle.genotype_probs.proofs.Numbers.{base_one, base_listed, base_low}
 use Rattle.genotype_probs.proofs.table.PriorTable.new.Goals as goal
 
+pub loop-base-preserved : goal.loop-base-preserved
+loop-base-preserved c =
+    let i = c.loop-base.base-index in
+    let listed = base_listed i _ c.loop-base-test.true in
+    rw (c.from.ensures.0 ∙ listed)
+    (length-set c.loop-base.bases i _ ∙ c.loop-base.invariant.0, filled_on base_number (RowsMade c.args.rates.rates) no_rows c.loop-base.bases base_one _ c.rows.result listed (omega (arith, c.loop-base.invariant.0, c.loop-base-test.true)) (rw c.of-values.ensures at c.rows.ensures) c.loop-base.invariant.1)
+
 pub invariant_of-result : goal.invariant_of-result
-unfolding prior_table
-invariant_of-result c =
-    let g = table_entry c.args.rates.rates in
-    let n = tabulate_length 144 g in
-    record {
-      made = ext_get_or (pos 0) c.loop-i.entries (tabulate 144 g) (omega (arith, c.loop-i.invariant.0))
-          (λ k h. c.loop-i.invariant.1 k (omega (arith, c.loop-i.invariant.0)) ∙ sym (tabulate_at 144 g k (pos 0) (omega (arith, c.loop-i.invariant.0))));
-    }
+invariant_of-result c = record { made = record { bases_are = λ ref. c.loop-base.invariant.1 ref (omega (arith, base_low ref, c.loop-base-test.false)) } }
