@@ -15,7 +15,7 @@ use Rattle.variants_and_fragments.specs.Inner.Case.{All, end, also}
 use Rattle.variants_and_fragments.specs.Pileup.{Row}
 use Rattle.variants_and_fragments.proofs.Alls.{all_from}
 use Rattle.pileup.specs.declared.row.Row.{Row as RowHeld}
-use Rattle.pileup.specs.Inner.Packed.{held_row, RowIn, unpacked, row_at, rows_at, group_start}
+use Rattle.pileup.specs.Inner.Packed.{held_row, RowIn, unpacked, row_at, rows_at, group_start, group_words, GroupThere}
 use Rattle.haplotype_assembly.specs.Inner.PhaseRead.{rule_at}
 use Rattle.haplotype_assembly.specs.Inner.LinesRead.{shown_calls, shown_at, LinesGiven, call_of, ShownIn}
 
@@ -82,20 +82,17 @@ rows_slice words (suc n) a h = let l : a < length words = omega arith in rw (dro
 
 -- what a fragment's line shows, off the words of its rows
 module _ {s : Sizes} {rows ends : List ℕ} (g : LinesGiven s rows ends) (f : ℕ) (h : f < s.f) where
-  words : List ℕ
-  words = take (get_or ends f 0 - group_start ends f) (drop (group_start ends f) rows)
+  pub group_there : GroupThere ends rows f
+  group_there = record { g_in = omega (arith, g.ends_long); rises = g.rises f h; long = omega (arith, (g.rows_in f h).long) }
 
-  words_are : rows_at rows (group_start ends f) (get_or ends f 0) ≡ map unpacked words
-  unfolding words
+  words_are : rows_at rows (group_start ends f) (get_or ends f 0) ≡ map unpacked (group_words ends rows f)
   words_are = rows_slice rows (get_or ends f 0 - group_start ends f) (group_start ends f) (omega (arith, g.rises f h, (g.rows_in f h).long))
 
-  pub rows_all : All (RowIn s.n s.f) (map unpacked (take (get_or ends f 0 - group_start ends f) (drop (group_start ends f) rows)))
-  unfolding words
+  pub rows_all : All (RowIn s.n s.f) (map unpacked (group_words ends rows f))
   rows_all = rw words_are at (all_from {P = RowIn s.n s.f} (row_at rows) (group_start ends f) (get_or ends f 0 - group_start ends f) (λ k l m. (g.rows_in f h).rows_in k l (omega (arith, g.rises f h))))
 
-  pub shown_words : (w : List ℤ) → shown_calls w (map unpacked (take (get_or ends f 0 - group_start ends f) (drop (group_start ends f) rows))) ≡ shown_at w rows (group_start ends f) (get_or ends f 0)
-  unfolding words
+  pub shown_words : (w : List ℤ) → shown_calls w (map unpacked (group_words ends rows f)) ≡ shown_at w rows (group_start ends f) (get_or ends f 0)
   shown_words w = ap (shown_calls w) (sym words_are)
 
-  pub words_few : length (map unpacked (take (get_or ends f 0 - group_start ends f) (drop (group_start ends f) rows))) ≤ 16384
+  pub words_few : length (map unpacked (group_words ends rows f)) ≤ 16384
   words_few = simp (length-map, length-take) (omega (arith, (g.rows_in f h).few))

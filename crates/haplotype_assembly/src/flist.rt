@@ -6,15 +6,15 @@ ghost use Rattle.pileup.specs.Inner.Packed.{group_start};
 ghost use Rattle.haplotype_assembly.specs.Inner.LinesRead.{call_of, shown_at, ShownIn, LinesGiven};
 
 use crate::phase::phased_rule;
-use pileup::piles::group_start;
+use pileup::grouped::Groups;
 use pileup::row::Row;
 use std::marker::Model;
-use variants_and_fragments::Case;
+use variants_and_fragments::CaseWords;
 
 // A reader of rows, seen as the calls that are left to show: those at variants that meet the phased rule.
 #[derive(Drop)]
 pub struct ShownCalls<'a> {
-    case: Case<'a>,
+    case: CaseWords<'a>,
     rows: &'a [u64],
 }
 
@@ -54,25 +54,23 @@ impl<'a> Iterator for ShownCalls<'a> {
 // What the lines of a case are made from: its rows, where those of each fragment end, and whether one shown call makes a line.
 #[derive(Clone, Copy)]
 pub struct Flist<'a> {
-    pub case: Case<'a>,
-    pub rows: &'a [u64],
-    pub ends: &'a [usize],
+    pub case: CaseWords<'a>,
+    pub rows: Groups<'a>,
     pub single: bool,
-    pub ghost lines_given: { LinesGiven case.laid.sizes rows.now ends.now },
+    pub ghost lines_given: { LinesGiven case.laid.sizes rows.words.now rows.ends.now },
 }
 
 impl<'a> Flist<'a> {
     // The calls that fragment f's line shows.
     pub fn shown(&self, f: usize) -> ShownCalls<'a>
         requires { f < self.now.case.laid.sizes.f }
-        ensures calls { result ≡ shown_at self.now.case.laid.words.now self.now.rows.now (group_start self.now.ends.now f) (get_or self.now.ends.now f 0) }
+        ensures calls { result ≡ shown_at self.now.case.laid.words.now self.now.rows.words.now (group_start self.now.rows.ends.now f) (get_or self.now.rows.ends.now f 0) }
         ensures in_case { All ShownIn result }
         ensures few { length result ≤ 16384 }
     {
-        let start = group_start(self.ends, f);
         ShownCalls {
             case: self.case,
-            rows: &self.rows[start..self.ends[f]],
+            rows: self.rows.group(f),
         }
     }
 }

@@ -9,6 +9,7 @@ ghost use Rattle.haplotype_assembly.specs.FlistBuffer as buffered;
 
 use crate::flist::Flist;
 use crate::phase::{PhasedCase, check_phase, write_phase};
+use pileup::grouped::Groups;
 use pileup::rows::make_rows;
 use variants_and_fragments::layout::{MAX_CALLS, MAX_FRAGMENTS, MAX_VARIANTS};
 use variants_and_fragments::{Refusal, check_case, long_enough};
@@ -31,7 +32,7 @@ pub fn given_phase(
 ) -> Result<(), Refusal>
     ensures { GivenPhase words.now bases.now phase.now sets.now (phase_slices haplotypes.old phased.old names.old) (outcome_of result) (phase_slices haplotypes.new phased.new names.new) }
 {
-    let case = check_case(words, bases)?;
+    let case = check_case(words, bases)?.accepted_words();
     let n = case.laid.sizes.n;
     check_phase(n, phase, sets)?;
     long_enough(&[
@@ -60,15 +61,17 @@ pub fn generate_flist_buffer(
 ) -> Result<Counted, Refusal>
     ensures { FlistBuffer words.now bases.now single_reads buffer.old (buffered.outcome_of result) buffer.new }
 {
-    let case = check_case(words, bases)?;
+    let case = check_case(words, bases)?.accepted_words();
     let mut rows = [0u64; MAX_CALLS];
     let mut ends = [0usize; MAX_FRAGMENTS];
     let mut counts = [0usize; MAX_VARIANTS];
     make_rows(&case, &mut rows, &mut ends, &mut counts, &mut []);
     let flist = Flist {
         case,
-        rows: &rows,
-        ends: &ends,
+        rows: Groups {
+            words: &rows,
+            ends: &ends,
+        },
         single: single_reads,
     };
     let counted = flist.count();

@@ -121,8 +121,8 @@ impl Flist<'_> {
     // Writes fragment f's line.
     pub fn write_line(&self, f: usize, head: Head, buffer: &mut [u8], at: usize) -> usize
         requires in_case { f < self.now.case.laid.sizes.f }
-        requires in_bounds { at + length (line_with self.now.case.laid.sizes.n head (shown_fragment self.now.case.laid.words.now self.now.case.laid.sizes self.now.rows.now self.now.ends.now f).calls) ≤ length buffer.old }
-        ensures { Put buffer.old buffer.new at result (line_with self.now.case.laid.sizes.n head (shown_fragment self.now.case.laid.words.now self.now.case.laid.sizes self.now.rows.now self.now.ends.now f).calls) }
+        requires in_bounds { at + length (line_with self.now.case.laid.sizes.n head (shown_fragment self.now.case.laid.words.now self.now.case.laid.sizes self.now.rows.words.now self.now.rows.ends.now f).calls) ≤ length buffer.old }
+        ensures { Put buffer.old buffer.new at result (line_with self.now.case.laid.sizes.n head (shown_fragment self.now.case.laid.words.now self.now.case.laid.sizes self.now.rows.words.now self.now.rows.ends.now f).calls) }
     {
         let alleles = write_header(head, buffer, at);
         let space = write_alleles(self.shown(f), self.case.laid.sizes.n, buffer, alleles);
@@ -137,9 +137,9 @@ impl Flist<'_> {
     // Writes fragment f's line, where it has one, after those counted.
     pub fn write_fragment(&self, f: usize, buffer: &mut [u8], counted: Counted) -> Counted
         requires in_case { (f < self.now.case.laid.sizes.f) × (counted.lines ≤ f) }
-        requires in_bounds { counted.bytes + length (fragment_line self.now.case.laid.sizes.n self.now.single counted.lines (shown_fragment self.now.case.laid.words.now self.now.case.laid.sizes self.now.rows.now self.now.ends.now f)) ≤ length buffer.old }
-        ensures put { Put buffer.old buffer.new counted.bytes result.bytes (fragment_line self.now.case.laid.sizes.n self.now.single counted.lines (shown_fragment self.now.case.laid.words.now self.now.case.laid.sizes self.now.rows.now self.now.ends.now f)) }
-        ensures lines { result.lines ≡ counted.lines + has_one self.now.single (shown_fragment self.now.case.laid.words.now self.now.case.laid.sizes self.now.rows.now self.now.ends.now f) }
+        requires in_bounds { counted.bytes + length (fragment_line self.now.case.laid.sizes.n self.now.single counted.lines (shown_fragment self.now.case.laid.words.now self.now.case.laid.sizes self.now.rows.words.now self.now.rows.ends.now f)) ≤ length buffer.old }
+        ensures put { Put buffer.old buffer.new counted.bytes result.bytes (fragment_line self.now.case.laid.sizes.n self.now.single counted.lines (shown_fragment self.now.case.laid.words.now self.now.case.laid.sizes self.now.rows.words.now self.now.rows.ends.now f)) }
+        ensures lines { result.lines ≡ counted.lines + has_one self.now.single (shown_fragment self.now.case.laid.words.now self.now.case.laid.sizes self.now.rows.words.now self.now.rows.ends.now f) }
     {
         let tally = self.tally(f);
         if !self.has_line(tally.calls) {
@@ -159,8 +159,8 @@ impl Flist<'_> {
 
     // Writes all lines, from the start of the buffer on.
     pub fn write(&self, buffer: &mut [u8])
-        requires { length (lines_over self.now.case.laid.sizes.n self.now.single 0 (shown_fragments self.now.case.laid.words.now self.now.case.laid.sizes self.now.rows.now self.now.ends.now)) ≤ length buffer.old }
-        ensures { buffer.new ≡ sets buffer.old 0 (lines_over self.now.case.laid.sizes.n self.now.single 0 (shown_fragments self.now.case.laid.words.now self.now.case.laid.sizes self.now.rows.now self.now.ends.now)) }
+        requires { length (lines_over self.now.case.laid.sizes.n self.now.single 0 (shown_fragments self.now.case.laid.words.now self.now.case.laid.sizes self.now.rows.words.now self.now.rows.ends.now)) ≤ length buffer.old }
+        ensures { buffer.new ≡ sets buffer.old 0 (lines_over self.now.case.laid.sizes.n self.now.single 0 (shown_fragments self.now.case.laid.words.now self.now.case.laid.sizes self.now.rows.words.now self.now.rows.ends.now)) }
     {
         let mut counted = Counted { bytes: 0, lines: 0 };
         for f in 0..self.case.laid.sizes.f {

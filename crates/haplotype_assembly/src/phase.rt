@@ -7,7 +7,7 @@ ghost use Rattle.haplotype_assembly.specs.Inner.PhaseRead.{rule_at, phased_at, f
 ghost use Rattle.haplotype_assembly.specs.GivenPhase.{set_ok, phase_tests};
 
 use variants_and_fragments::layout::MAX_VARIANTS;
-use variants_and_fragments::{Case, Refusal};
+use variants_and_fragments::{CaseWords, Refusal};
 
 // A phase byte is '0' or '1'.
 fn is_phase(byte: u8) -> bool
@@ -29,7 +29,7 @@ pub fn ordered(byte: u8, a: u8, b: u8) -> (u8, u8)
 
 // The phased rule without the byte.
 #[tactic(auto, unfolding(crate::specs::Inner::PhaseRead::rule_at, crate::specs::Phase::phased_test))]
-pub fn phased_rule(case: &Case<'_>, v: usize) -> bool
+pub fn phased_rule(case: &CaseWords<'_>, v: usize) -> bool
     requires { v < case.now.laid.sizes.n }
     ensures { result ≡ rule_at case.now.laid.words.now v }
 {
@@ -43,7 +43,7 @@ pub fn phased_rule(case: &Case<'_>, v: usize) -> bool
 
 // Variant v is phased.
 #[tactic(auto, unfolding(crate::specs::Inner::PhaseRead::phased_at))]
-pub fn is_phased(case: &Case<'_>, phase: &[u8], v: usize) -> bool
+pub fn is_phased(case: &CaseWords<'_>, phase: &[u8], v: usize) -> bool
     requires { (v < case.now.laid.sizes.n) × (v < length phase.now) }
     ensures { result ≡ phased_at case.now.laid.words.now phase.now v }
 {
@@ -51,7 +51,7 @@ pub fn is_phased(case: &Case<'_>, phase: &[u8], v: usize) -> bool
 }
 
 // The start haplotypes.
-pub fn write_haplotypes(case: &Case<'_>, phase: &[u8], haplotypes: &mut [u8])
+pub fn write_haplotypes(case: &CaseWords<'_>, phase: &[u8], haplotypes: &mut [u8])
     requires { (case.now.laid.sizes.n ≤ length phase.now) × (2 * case.now.laid.sizes.n ≤ length haplotypes.old) }
     ensures { haplotypes.new ≡ written (start_at case.now.laid.words.now phase.now) (2 * case.now.laid.sizes.n) haplotypes.old }
 {
@@ -65,7 +65,7 @@ pub fn write_haplotypes(case: &Case<'_>, phase: &[u8], haplotypes: &mut [u8])
 }
 
 // The phased flags: 1 where a variant is phased, else 0.
-pub fn write_flags(case: &Case<'_>, phase: &[u8], phased: &mut [u8])
+pub fn write_flags(case: &CaseWords<'_>, phase: &[u8], phased: &mut [u8])
     requires { (case.now.laid.sizes.n ≤ length phase.now) × (case.now.laid.sizes.n ≤ length phased.old) }
     ensures { phased.new ≡ written (flags_at case.now.laid.words.now phase.now) case.now.laid.sizes.n phased.old }
 {
@@ -75,7 +75,7 @@ pub fn write_flags(case: &Case<'_>, phase: &[u8], phased: &mut [u8])
 }
 
 // The start haplotypes and the phased flags.
-pub fn write_phase(case: &Case<'_>, phase: &[u8], haplotypes: &mut [u8], phased: &mut [u8])
+pub fn write_phase(case: &CaseWords<'_>, phase: &[u8], haplotypes: &mut [u8], phased: &mut [u8])
     requires { (case.now.laid.sizes.n ≤ length phase.now) × ((2 * case.now.laid.sizes.n ≤ length haplotypes.old) × (case.now.laid.sizes.n ≤ length phased.old)) }
     ensures haplotypes_after { haplotypes.new ≡ written (start_at case.now.laid.words.now phase.now) (2 * case.now.laid.sizes.n) haplotypes.old }
     ensures phased_after { phased.new ≡ written (flags_at case.now.laid.words.now phase.now) case.now.laid.sizes.n phased.old }
@@ -123,7 +123,7 @@ pub fn check_phase(n: usize, phase: &[u8], sets: &[i32]) -> Result<(), Refusal>
 // A case with phase bytes and sets that pass number 7.
 #[derive(Clone, Copy)]
 pub struct PhasedCase<'a> {
-    pub case: Case<'a>,
+    pub case: CaseWords<'a>,
     pub phase: &'a [u8],
     pub sets: &'a [i32],
     pub ghost faultless: { Faultless case.laid.sizes.n phase.now sets.now },
@@ -146,7 +146,7 @@ impl PhasedCase<'_> {
         ensures { NamedTo self.now.case.laid.words.now self.now.sets.now self.now.case.laid.sizes.n (suc v) least.new }
     {
         if let Some(t) = self.set(v) {
-            let name = self.case.pos0(v) as u32 + 1;
+            let name = self.case.with_variants().pos0(v) as u32 + 1;
             least[t] = Some(least[t].map_or(name, |other| other.min(name)));
         }
     }

@@ -57,7 +57,7 @@ impl Flist<'_> {
     // What fragment f's calls add to its line. At its start no variant goes on with a block: n is none, as the definition of a block has it.
     pub fn tally(&self, f: usize) -> Tally
         requires { f < self.now.case.laid.sizes.f }
-        ensures { Tallied self.now.case.laid.sizes.n (shown_fragment self.now.case.laid.words.now self.now.case.laid.sizes self.now.rows.now self.now.ends.now f).calls result × SmallTally result 16384 }
+        ensures { Tallied self.now.case.laid.sizes.n (shown_fragment self.now.case.laid.words.now self.now.case.laid.sizes self.now.rows.words.now self.now.rows.ends.now f).calls result × SmallTally result 16384 }
     {
         let mut tally = Tally {
             calls: 0,
@@ -82,7 +82,7 @@ impl Flist<'_> {
     // What is counted, with fragment f's line, where it has one.
     pub fn count_fragment(&self, f: usize, counted: Counted) -> Counted
         requires { (f < self.now.case.laid.sizes.f) × ((counted.lines ≤ f) × (counted.bytes ≤ 33554432 * f)) }
-        ensures { CountedOn self.now.case.laid.sizes.n self.now.single (shown_fragment self.now.case.laid.words.now self.now.case.laid.sizes self.now.rows.now self.now.ends.now f) counted result }
+        ensures { CountedOn self.now.case.laid.sizes.n self.now.single (shown_fragment self.now.case.laid.words.now self.now.case.laid.sizes self.now.rows.words.now self.now.rows.ends.now f) counted result }
     {
         let tally = self.tally(f);
         if !self.has_line(tally.calls) {
@@ -97,7 +97,7 @@ impl Flist<'_> {
 
     // How many bytes and lines there are.
     pub fn count(&self) -> Counted
-        ensures { LinesCounted self.now.case.laid.sizes.n self.now.single (shown_fragments self.now.case.laid.words.now self.now.case.laid.sizes self.now.rows.now self.now.ends.now) result }
+        ensures { LinesCounted self.now.case.laid.sizes.n self.now.single (shown_fragments self.now.case.laid.words.now self.now.case.laid.sizes self.now.rows.words.now self.now.rows.ends.now) result }
     {
         let mut counted = Counted { bytes: 0, lines: 0 };
         for f in 0..self.case.laid.sizes.f {

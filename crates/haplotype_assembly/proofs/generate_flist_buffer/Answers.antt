@@ -8,24 +8,25 @@ use Rattle.haplotype_assembly.specs.FlistBuffer.{generate_flist_buffer_outcome}
 use Rattle.haplotype_assembly.proofs.LinesDecoded.{given, bytes_are, amount_is, buffer_written}
 use Rattle.haplotype_assembly.proofs.generate_flist_buffer.Goals as goal
 
-pub returns-in_err-case : goal.returns-in_err-case
+pub returns-in_err-check_case : goal.returns-in_err-check_case
 unfolding generate_flist_buffer_outcome
-returns-in_err-case c =
+returns-in_err-check_case c =
     let p = err_from_is_err_and c.from_residual.result c.from_residual.ensures.1 in rw (p.1, p.2)
-    (promise_refused _ (case_stops _ _ _ _ c.in_err-case.ensures.outcome))
+    (promise_refused _ (case_stops _ _ _ _ c.in_err-check_case.ensures.outcome))
 
 pub invariant_of-flist : goal.invariant_of-flist
 invariant_of-flist c =
-    let sized = c.in_ok-case.case.laid.sized in
+    let sized = c.accepted_words-case.result.laid.sized in
     record { lines_given = given _ sized.n_top sized.f_top (c.make_rows.ensures.0.grouped c.args.bases.now) }
 
 pub returns-in_err-long_enough : goal.returns-in_err-long_enough
 unfolding generate_flist_buffer_outcome
 returns-in_err-long_enough c =
-    let lent = c.in_ok-case.ensures.lent.0 in
-    let bytes = bytes_are _ _ _ (sym c.in_ok-case.ensures.outcome) _ _ (rw lent at (c.make_rows.ensures.0.grouped c.args.bases.now)) _ _ (rw lent at c.count-counted.ensures) in
+    let same = c.accepted_words-case.ensures in
+    let lent = c.in_ok-check_case.ensures.lent.0 in
+    let bytes = bytes_are _ _ _ (sym c.in_ok-check_case.ensures.outcome) _ _ (rw (same, lent) at (c.make_rows.ensures.0.grouped c.args.bases.now)) _ _ (rw (same, lent) at c.count-counted.ensures) in
     let p = err_from_is_err_and c.from_residual-in_err-long_enough.result c.from_residual-in_err-long_enough.ensures.1 in rw (p.1, p.2)
-    (promise_refused _ (enough_stops _ _ _ (rw bytes at c.in_err-long_enough.ensures) ∙ case_past _ _ _ c.in_ok-case.case c.in_ok-case.ensures.outcome))
+    (promise_refused _ (enough_stops _ _ _ (rw bytes at c.in_err-long_enough.ensures) ∙ case_past _ _ _ c.in_ok-check_case.field-0 c.in_ok-check_case.ensures.outcome))
 
 pub write-requires : goal.write-requires
 write-requires c = omega (arith, c.count-counted.ensures.bytes_are, (short_fits _ _ _ (enough_fits _ c.in_ok-long_enough.ensures)).0)
@@ -33,11 +34,12 @@ write-requires c = omega (arith, c.count-counted.ensures.bytes_are, (short_fits 
 pub returns : goal.returns
 unfolding generate_flist_buffer_outcome
 returns c =
-    let lent = c.in_ok-case.ensures.lent.0 in
-    let accepted = sym c.in_ok-case.ensures.outcome in
-    let grouped = rw lent at (c.make_rows.ensures.0.grouped c.args.bases.now) in
-    let counted = rw lent at c.count-counted.ensures in
+    let same = c.accepted_words-case.ensures in
+    let lent = c.in_ok-check_case.ensures.lent.0 in
+    let accepted = sym c.in_ok-check_case.ensures.outcome in
+    let grouped = rw (same, lent) at (c.make_rows.ensures.0.grouped c.args.bases.now) in
+    let counted = rw (same, lent) at c.count-counted.ensures in
     let enough = rw (bytes_are _ _ _ accepted _ _ grouped _ _ counted) at c.in_ok-long_enough.ensures in
     promise_done _
-    (ap done (amount_is _ _ _ accepted _ _ grouped _ _ counted) ∙ enough_passes _ _ enough ∙ case_past _ _ _ c.in_ok-case.case c.in_ok-case.ensures.outcome)
-    (rw lent at c.write.ensures ∙ buffer_written _ _ _ accepted _ _ grouped _ _ (short_fits _ _ _ (enough_fits _ enough)).0)
+    (ap done (amount_is _ _ _ accepted _ _ grouped _ _ counted) ∙ enough_passes _ _ enough ∙ case_past _ _ _ c.in_ok-check_case.field-0 c.in_ok-check_case.ensures.outcome)
+    (rw (same, lent) at c.write.ensures ∙ buffer_written _ _ _ accepted _ _ grouped _ _ (short_fits _ _ _ (enough_fits _ enough)).0)

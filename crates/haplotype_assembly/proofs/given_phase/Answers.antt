@@ -7,23 +7,26 @@ use Rattle.haplotype_assembly.specs.GivenPhase.{phase_slices, given_phase_outcom
 use Rattle.haplotype_assembly.proofs.PhaseLaws.{phase_stops, phase_passes, faultless, phase_written}
 use Rattle.haplotype_assembly.proofs.given_phase.Goals as goal
 
-pub returns-in_err-case : goal.returns-in_err-case
+pub returns-in_err-check_case : goal.returns-in_err-check_case
 unfolding given_phase_outcome
-returns-in_err-case c =
+returns-in_err-check_case c =
     let p = err_from_is_err_and c.from_residual.result c.from_residual.ensures.1 in rw (p.1, p.2)
-    (promise_refused _ (case_stops _ _ _ _ c.in_err-case.ensures.outcome))
+    (promise_refused _ (case_stops _ _ _ _ c.in_err-check_case.ensures.outcome))
 
 pub returns-in_err-check_phase : goal.returns-in_err-check_phase
 unfolding given_phase_outcome
 returns-in_err-check_phase c =
-    let p = err_from_is_err_and c.from_residual-in_err-check_phase.result c.from_residual-in_err-check_phase.ensures.1 in rw (p.1, p.2)
-    (promise_refused _ (phase_stops _ _ _ _ _ c.in_err-check_phase.ensures ∙ case_past _ _ _ c.in_ok-case.case c.in_ok-case.ensures.outcome))
+    let p = err_from_is_err_and c.from_residual-in_err-check_phase.result c.from_residual-in_err-check_phase.ensures.1 in
+    let phase = rw c.accepted_words-case.ensures at c.in_err-check_phase.ensures in
+    rw (p.1, p.2) (promise_refused _ (phase_stops _ _ _ _ _ phase ∙ case_past _ _ _ c.in_ok-check_case.field-0 c.in_ok-check_case.ensures.outcome))
 
 pub returns-in_err-long_enough : goal.returns-in_err-long_enough
 unfolding given_phase_outcome
 returns-in_err-long_enough c =
-    let p = err_from_is_err_and c.from_residual-in_err-long_enough.result c.from_residual-in_err-long_enough.ensures.1 in rw (p.1, p.2)
-    (promise_refused _ (c.in_err-long_enough.ensures ∙ phase_passes _ _ _ _ c.in_ok-check_phase.ensures ∙ case_past _ _ _ c.in_ok-case.case c.in_ok-case.ensures.outcome))
+    let p = err_from_is_err_and c.from_residual-in_err-long_enough.result c.from_residual-in_err-long_enough.ensures.1 in
+    let phase = rw c.accepted_words-case.ensures at c.in_ok-check_phase.ensures in
+    let enough = rw c.accepted_words-case.ensures at c.in_err-long_enough.ensures in
+    rw (p.1, p.2) (promise_refused _ (enough ∙ phase_passes _ _ _ _ phase ∙ case_past _ _ _ c.in_ok-check_case.field-0 c.in_ok-check_case.ensures.outcome))
 
 pub write_phase-requires : goal.write_phase-requires
 write_phase-requires c =
@@ -42,8 +45,11 @@ write_names-requires c =
 pub returns : goal.returns
 unfolding given_phase_outcome
 returns c =
-    let lent = c.in_ok-case.ensures.lent in
+    let same = c.accepted_words-case.ensures in
+    let lent = c.in_ok-check_case.ensures.lent in
+    let phase = rw same at c.in_ok-check_phase.ensures in
+    let enough = rw same at c.in_ok-long_enough.ensures in
     promise_done tt
-    (c.in_ok-long_enough.ensures ∙ phase_passes _ _ _ _ c.in_ok-check_phase.ensures ∙ case_past _ _ _ c.in_ok-case.case c.in_ok-case.ensures.outcome)
-    (phase_written _ _ _ (sym c.in_ok-case.ensures.outcome) _ _ (phase_slices c.args.haplotypes.now c.args.phased.now c.args.names.now) _ _ _
-    (rw lent.0 at c.write_phase.ensures.haplotypes_after) (rw lent.0 at c.write_phase.ensures.phased_after) (rw lent.0 at c.write_names.ensures))
+    (enough ∙ phase_passes _ _ _ _ phase ∙ case_past _ _ _ c.in_ok-check_case.field-0 c.in_ok-check_case.ensures.outcome)
+    (phase_written _ _ _ (sym c.in_ok-check_case.ensures.outcome) _ _ (phase_slices c.args.haplotypes.now c.args.phased.now c.args.names.now) _ _ _
+    (rw (same, lent.0) at c.write_phase.ensures.haplotypes_after) (rw (same, lent.0) at c.write_phase.ensures.phased_after) (rw (same, lent.0) at c.write_names.ensures))

@@ -15,5 +15,5 @@ overflow_add-result c =
 
 pub returns : goal.returns
 returns c =
-    let on = on_some _ _ (shown_fragment c.args.self.now.case.laid.words.now c.args.self.now.case.laid.sizes c.args.self.now.rows.now c.args.self.now.ends.now c.args.f) _ c.args.counted c.tally-tally.ensures.0 (sym c.has_line.ensures ∙ c.if-not-has_line.false) (omega (arith, c.args.self.now.case.laid.sized.f_top)) c.tally-tally.ensures.1 _ c.line_bytes-bytes.ensures in
+    let on = on_some _ _ (shown_fragment c.args.self.now.case.laid.words.now c.args.self.now.case.laid.sizes c.args.self.now.rows.words.now c.args.self.now.rows.ends.now c.args.f) _ c.args.counted c.tally-tally.ensures.0 (sym c.has_line.ensures ∙ c.if-not-has_line.false) (omega (arith, c.args.self.now.case.laid.sized.f_top)) c.tally-tally.ensures.1 _ c.line_bytes-bytes.ensures in
     record { bytes_are = omega (arith, on.bytes_are); lines_are = omega (arith, on.lines_are); bytes_top = omega (arith, on.bytes_top) }
