@@ -39,16 +39,16 @@ returns-then-not-in_range-clause-outcome c =
 pub invariant_of-result : goal.invariant_of-result
 invariant_of-result c = record {
   ready = record {
-    case_in = c.in_ok-case.case.case_in;
-    phase_long = c.if-phase-s.false;
-    haps_long = (short_fits _ _ _ (enough_past _ _ tt (sym c.in_ok-long_enough.ensures)).0).0;
+    case_in = c.accepted_words.result.case_in;
+    phase_long = rw c.accepted_words.ensures c.if-phase-s.false;
+    haps_long = rw c.accepted_words.ensures (short_fits _ _ _ (enough_past _ _ tt (sym c.in_ok-long_enough.ensures)).0).0;
   };
 }
 
 pub returns-clause-outcome : goal.returns-clause-outcome
 unfolding kept_outcome
 returns-clause-outcome c =
-    unless_on _ 10 0 _ (sym c.in_range.ensures ∙ c.if-not-in_range.false)
+    rw c.accepted_words.ensures (unless_on _ 10 0 _ (sym c.in_range.ensures ∙ c.if-not-in_range.false)
     ∙ enough_passes _ _ c.in_ok-long_enough.ensures
     ∙ unless_on _ 7 _ _ (eq-eqb _ _ c.if-phase-s.false)
-    ∙ check_past _ _ c.in_ok-case.case c.in_ok-case.ensures.outcome
+    ∙ check_past _ _ c.in_ok-case.case c.in_ok-case.ensures.outcome)
