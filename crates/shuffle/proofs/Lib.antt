@@ -1,4 +1,3 @@
-pub mod LowProduct
 pub mod Ascending
 pub mod Swaps
 pub mod Times

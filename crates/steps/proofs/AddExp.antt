@@ -63,12 +63,6 @@ add_least a b =
     (λ h. let x = second_parts a b h in (omega zlin, omega zlin))
     (λ h. let k : b ≤ℤ a = omega zlin in let x = first_parts a b k in (omega zlin, omega zlin))
 
-pub add_most : (a b : ℤ) → add_exp a b ≤ℤ (larger a b +ℤ pos 4096)
-unfolding add_exp
-add_most a b =
-    let l = at_most (difference a b) in
-    omega (zlin, raised (larger a b) (addend (difference a b)), raised (larger a b) 4096)
-
 -- the same from a bound of both
 pub add_below : (a b c : ℤ) → a ≤ℤ c → b ≤ℤ c → add_exp a b ≤ℤ (c +ℤ pos 4096)
 add_below a b c h k =
@@ -129,9 +123,6 @@ mono_second a b c h =
     (λ k. cases_z a c
     (λ m. let i : b ≤ℤ a = omega zlin in let x = mono_under a b a i (≤ℤ_same a) in let y = mono_over a a c m (≤ℤ_same a) in omega zlin)
     (λ m. let i : c ≤ℤ a = omega zlin in mono_under a b c h i))
-
-pub mono_first : (a b c : ℤ) → a ≤ℤ b → add_exp a c ≤ℤ add_exp b c
-mono_first a b c h = rw (add_swap a c, add_swap b c) (mono_second c a b h)
 
 -- ---- a constant added to both moves it by that constant
 diff_shift : (a b c : ℤ) → b ≤ℤ a → difference (a +ℤ c) (b +ℤ c) ≡ difference a b

@@ -4,7 +4,7 @@ use Rattle.std.proofs.Common.{◌≡◌, ℕ, suc, ◌+◌, ◌-◌, ◌^◌, �
 use Rattle.steps.specs.Logs.{Log, mark, steps, add_exp, ln_add_exp}
 use Rattle.steps.specs.Inner.Logs.{is_mark, log_of, size}
 use Rattle.steps.proofs.Signed.{cases, by_test, true_false, sfits}
-use Rattle.steps.proofs.AddExp.{add_swap, add_size}
+use Rattle.steps.proofs.AddExp.{add_size}
 
 -- ---- an i64 as a log probability
 abbrev least : ℤ
@@ -64,13 +64,6 @@ mark_bits (negsuc n) f =
     (λ h. rw (eq-eqb n 9223372036854775807 (omega arith)) (eq-eqb (2 ^ 64 - suc n) 9223372036854775808 (omega arith)))
 
 -- ---- ln_add_exp
-pub log_swap : (a b : Log) → ln_add_exp a b ≡ ln_add_exp b a
-unfolding ln_add_exp
-log_swap mark mark = refl
-log_swap mark (steps b) = refl
-log_swap (steps a) mark = refl
-log_swap (steps a) (steps b) = ap steps (add_swap a b)
-
 pub add_to_mark : (a : Log) → ln_add_exp a mark ≡ a
 unfolding ln_add_exp
 add_to_mark mark = refl

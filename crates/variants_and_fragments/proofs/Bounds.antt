@@ -12,7 +12,7 @@ use Rattle.variants_and_fragments.specs.Inner.Case.{All, end, also, GoodCase}
 use Rattle.variants_and_fragments.specs.Sums.{sum_over, count_over}
 use Rattle.variants_and_fragments.specs.Inner.Sums.{DownTo}
 use Rattle.variants_and_fragments.proofs.Alls.{all_imp}
-use Rattle.variants_and_fragments.proofs.Sums.{count_same, count_times, count_at, count_le}
+use Rattle.variants_and_fragments.proofs.Sums.{count_same, count_times, count_at}
 use Rattle.steps.proofs.Signed.{up, dn, up_pos, dn_pos, nat_abs_parts, by_sign, ≤ℤ→, →≤ℤ, le_true, true_le, parts_add, neg_up, neg_dn}
 
 -- ---- the range −n..0
@@ -74,10 +74,3 @@ module _ {case : Case} (good : GoodCase case) (part : Fragment → List Call) (f
   pub fragment_sum_top : (f : ℕ) → f < length case.fragments → (g : Call → ℤ) → All (λ call. DownTo 262144 (g call)) (part (fragment_of case f))
       → DownTo (2 ^ 32) (sum_over (part (fragment_of case f)) g)
   fragment_sum_top f h g a = down_more (262144 * length (part (fragment_of case f))) (2 ^ 32) _ (omega (arith, fragment_calls_top f h)) (calls_sum (part (fragment_of case f)) g a)
-
-  -- a sum over the calls of all fragments
-  pub case_sum_top : (g : Fragment → Call → ℤ) → All (λ fragment. All (λ call. DownTo 262144 (g fragment call)) (part fragment)) case.fragments
-      → DownTo (2 ^ 32) (sum_over case.fragments (λ fragment. sum_over (part fragment) (g fragment)))
-  case_sum_top g a =
-      let l = count_le case.fragments (λ fragment. length (part fragment)) (λ fragment. length fragment.calls) fewer in
-      down_more (262144 * count_over case.fragments (λ fragment. length (part fragment))) (2 ^ 32) _ (omega (arith, good.calls_top)) (fragments_sum case.fragments part g a)

@@ -1,7 +1,7 @@
 -- The decoded case, item by item: each variant, allele byte, fragment and call is what the words and bytes of an accepted case hold.
 -- Assumes nothing.
 use mathlib.Core.Path.{◌≡◌, refl, sym, ap, ◌∙◌, subst}
-use mathlib.Core.List.{List, [], map}
+use mathlib.Core.List.{List, []}
 use Prim.Native.Nat.{ℕ, zero, suc, ◌+◌, ◌≤◌, ◌<◌}
 use native.Mathlib.Omega.{arith}
 use native.Mathlib.Nat.{add-zero, add-suc, suc-add}
@@ -13,12 +13,12 @@ use Rattle.variants_and_fragments.specs.Case.{Variant, Fragment, allele_count, a
 use Rattle.variants_and_fragments.specs.Words.{none}
 use Rattle.variants_and_fragments.specs.Inner.Words.{debt_of}
 use Rattle.variants_and_fragments.specs.Layout.{sizes_of, pos0_at, depth_at, genotype_at, allele_count_at, length_at, cutoff_at}
-use Rattle.variants_and_fragments.specs.Chain.{strand_at, chain_of}
+use Rattle.variants_and_fragments.specs.Chain.{strand_at}
 use Rattle.variants_and_fragments.specs.Alleles.{alleles_length, alleles_start}
 use Rattle.variants_and_fragments.proofs.AlleleBytes.{off_on, off_le}
 use Rattle.variants_and_fragments.proofs.Tabulated.{table_length}
 use Rattle.variants_and_fragments.specs.Inner.Accepted.{CaseIn, BasesIn}
-use Rattle.variants_and_fragments.specs.Decode.{tabulate_from, tabulate, allele_start, allele_at, variant_from, call_from, fragment_from, decode}
+use Rattle.variants_and_fragments.specs.Decode.{tabulate_from, tabulate, allele_start, allele_at, variant_from, fragment_from, decode}
 
 from_at : {X : Type 0} (g : ℕ → X) (i n k : ℕ) (d : X) → k < n → get_or (tabulate_from g i n) k d ≡ g (i + k)
 unfolding tabulate_from
@@ -107,10 +107,6 @@ module _ {w : List ℤ} {s : Sizes} (k : CaseIn w s) (b : List ℕ) where
   pub strand_is : (f : ℕ) → f < s.f → (fragment_of (decode w b) f).strand ≡ strand_at w s f
   unfolding fragment_from
   strand_is f h = ap (λ (x : Fragment). x.strand) (fragment_here f h)
-
-  pub calls_are : (f : ℕ) → f < s.f → (fragment_of (decode w b) f).calls ≡ map (call_from w s) (chain_of w s f)
-  unfolding fragment_from
-  calls_are f h = ap (λ (x : Fragment). x.calls) (fragment_here f h)
 
   pub allele_count_is : (v : ℕ) → v < s.n → allele_count (variant_of (decode w b) v) ≡ allele_count_at w v
   unfolding variant_from

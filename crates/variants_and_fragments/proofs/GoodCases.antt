@@ -8,16 +8,14 @@ use native.Mathlib.Nat.{le_refl}
 use native.Mathlib.Omega.{arith}
 use borrow.Author.Tests.{le-leb, leb-true}
 use lib.Dec.{leb}
-use lib.IntN.{ℤ, pos}
-use lib.ListN.{length, get_or, length-append, length-map}
-use mir.Syntax.{w32}
-use mir.Val.{SFits}
+use lib.IntN.{ℤ}
+use lib.ListN.{length, length-append, length-map}
 use Rattle.variants_and_fragments.specs.declared.Sizes.{Sizes}
 use Rattle.variants_and_fragments.specs.Sums.{count_over}
 use Rattle.variants_and_fragments.specs.Case.{Case, allele_of, variant_of, fragment_of, no_fragment}
-use Rattle.variants_and_fragments.specs.Inner.Case.{no_call, rising_from, rising, GoodAllele, GoodVariant, GoodCall, GoodFragment, GoodCase, SmallNumbers}
+use Rattle.variants_and_fragments.specs.Inner.Case.{rising_from, rising, GoodAllele, GoodVariant, GoodCall, GoodFragment, GoodCase}
 use Rattle.variants_and_fragments.specs.Refusals.{done}
-use Rattle.variants_and_fragments.specs.Layout.{pos0_field, depth_field, variant_at, allele_count_at, length_at, cutoff_at, call_variant_at}
+use Rattle.variants_and_fragments.specs.Layout.{allele_count_at, length_at, cutoff_at, call_variant_at}
 use Rattle.variants_and_fragments.specs.Inner.Layout.{VariantIn}
 use Rattle.variants_and_fragments.specs.Chain.{first_call_at, next_call_at, is_record, link_ok, chain_from, chain_of, memb, good_chain}
 use Rattle.variants_and_fragments.specs.Inner.Accepted.{CallIn, FragmentIn, CaseIn, BasesIn}
@@ -28,10 +26,10 @@ use Rattle.variants_and_fragments.specs.Check.{check_case_outcome}
 use Rattle.variants_and_fragments.specs.Visits.{visit, visits_from}
 use Rattle.variants_and_fragments.specs.Decode.{tabulate_from, allele_start, call_from, fragment_from, decode}
 use Rattle.variants_and_fragments.proofs.Visits.{visits_top, chain_all}
-use Rattle.variants_and_fragments.proofs.Readings.{nat_top, quality_down}
+use Rattle.variants_and_fragments.proofs.Readings.{quality_down}
 use Rattle.variants_and_fragments.proofs.Chain.{next_rises, absent_chain}
 use Rattle.variants_and_fragments.proofs.Alls.{all_at, all_tabulate}
-use Rattle.variants_and_fragments.proofs.Decoded.{cutoff_is, variants_are, fragments_are, fragments_list, pos0_is, dp_is, genotype0_is, genotype1_is, allele_count_is, allele_end, allele_length, allele_byte}
+use Rattle.variants_and_fragments.proofs.Decoded.{cutoff_is, variants_are, fragments_are, fragments_list, pos0_is, genotype0_is, genotype1_is, allele_count_is, allele_end, allele_length, allele_byte}
 
 -- ---- along a chain
 rise_from : (w : List ℤ) (s : Sizes) (k r b : ℕ) (past : List ℕ) → good_chain (link_ok w s) past (chain_from w s k r) ≡ true → (1 ≤ r → b ≤ call_variant_at w s r) → rising_from b (map (call_from w s) (chain_from w s k r)) ≡ true
@@ -129,24 +127,11 @@ module _ {w : List ℤ} {b : List ℕ} {s : Sizes} (k : CaseIn w s) (i : BasesIn
     fragments_in = rw (fragments_list k b) (all_tabulate s.f (fragment_from w s) fragment_good);
   }
 
-  numbers_small : ((j : ℕ) → SFits w32 (get_or w j (pos 0))) → SmallNumbers (decode w b)
-  numbers_small fits = record {
-    pos0_top = λ v h. let l : v < s.n = omega (arith, variants_are k b) in rw (pos0_is k b v l) (nat_top _ (fits (variant_at v + pos0_field)) (k.variants.each v l).pos_in);
-    dp_top = λ v h. let l : v < s.n = omega (arith, variants_are k b) in rw (dp_is k b v l) (nat_top _ (fits (variant_at v + depth_field)) (k.variants.each v l).dp_in);
-  }
-
 -- what the check accepts is a good case
 pub good_case : (w : List ℤ) (b : List ℕ) (s : Sizes) → check_case_outcome w b ≡ done s → GoodCase (decode w b)
 good_case w b s h = case_good (case_in w b s h) (bases_in w b s h)
-
--- and of i32 words, each position and depth is below 2^31
-pub small_numbers : (w : List ℤ) (b : List ℕ) (s : Sizes) → check_case_outcome w b ≡ done s → ((j : ℕ) → SFits w32 (get_or w j (pos 0))) → SmallNumbers (decode w b)
-small_numbers w b s h fits = numbers_small (case_in w b s h) (bases_in w b s h) fits
 
 -- ---- a good case by index
 module _ {case : Case} (good : GoodCase case) where
   pub fragment_in : (f : ℕ) → f < length case.fragments → GoodFragment case.variants (fragment_of case f)
   fragment_in f h = all_at good.fragments_in f no_fragment h
-
-  pub call_in : (f i : ℕ) → f < length case.fragments → i < length (fragment_of case f).calls → GoodCall case.variants (get_or (fragment_of case f).calls i no_call)
-  call_in f i h l = all_at (fragment_in f h).calls_in i no_call l

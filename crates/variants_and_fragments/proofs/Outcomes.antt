@@ -10,7 +10,10 @@ use borrow.Author.Tests.{le-leb, lt-leb, leb-true, eq-eqb, ne_eqb, eqb-true}
 use lib.IntN.{ℤ}
 use Rattle.variants_and_fragments.specs.declared.Sizes.{Sizes}
 use Rattle.variants_and_fragments.specs.declared.Refusal.{Refusal}
+use Rattle.std.specs.Prelude.{Option, Some, None, MatchOption, Result, IsErrAnd}
 use Rattle.std.proofs.Common.{Ok, Err}
+use Rattle.std.proofs.lemmas.Option.{MatchOption-at_some, MatchOption-at_none}
+use Rattle.std.proofs.lemmas.Result.{err_from_is_err_and}
 use Rattle.variants_and_fragments.specs.declared.laid.Case.{Case}
 use Rattle.variants_and_fragments.specs.First.{first_fail_from}
 use Rattle.variants_and_fragments.specs.Refusals.{Outcome, refused, done, refusal, unless, each, and_then, smallest_short, long_enough, afterwards, Promise}
@@ -77,6 +80,18 @@ module _ {X : Type 0} (n : ℕ) (test : ℕ → Bool) (i k : ℕ) (rest : Outcom
   pub each_passes : ◌≡◌ {A = Outcome Unit} (done tt) (each n test i k (done tt)) → rest ≡ each n test i k rest
   unfolding each
   each_passes e = unless_passes _ _ _ rest e
+
+-- what `find` finds of the numbers from i on and below the end: the first that fails
+abbrev pub FirstFault : (ℕ → Bool) → ℕ → ℕ → Option ℕ → Type 0
+FirstFault test i end found =
+    MatchOption found ((j : ℕ) → i ≤ j → j < end → test j ≡ true) (λ r. (i ≤ r) × (r < end) × (test r ≡ false) × ((j : ℕ) → i ≤ j → j < r → test j ≡ true))
+
+module _ {X : Type 0} (n : ℕ) (test : ℕ → Bool) (i k end : ℕ) (rest : Outcome X) (e : i + k ≡ end) (found : Option ℕ) (first : FirstFault test i end found) where
+  pub fault_found : (r : ℕ) → found ≡ Some r → refused n r ≡ each n test i k rest
+  fault_found r h = let f = MatchOption-at_some _ _ r h first in each_fails n test i k rest r f.0 (omega (arith, f.1)) f.3 f.2
+
+  pub no_fault : found ≡ None → rest ≡ each n test i k rest
+  no_fault h = let f = MatchOption-at_none _ _ h first in each_holds n test i k rest (λ j lo hi. f j lo (omega arith))
 
 -- ---- 10
 module _ {X : Type 0} (slices : List (ℕ × ℕ)) (rest : Outcome X) where
@@ -160,6 +175,10 @@ module _ {Y : Type 0} (w : List ℤ) (b : List ℕ) (next : Sizes → Outcome Y)
 
   pub case_past : (case : Case) → check.outcome_of (Ok case) ≡ check_case_outcome w b → next case.laid.sizes ≡ and_then (check_case_outcome w b) next
   case_past = check_past (check_case_outcome w b) next
+
+-- ---- the exit of a `?`: what is returned is the error that the call gave
+pub exit_is : {T E : Type 0} {error : E} {result : Result T E} → IsErrAnd result (λ y. y ≡ error) → result ≡ Err error
+exit_is {T} {E} {error} {result} h = let p = err_from_is_err_and result h in p.1 ∙ ap (λ (y : E). Err y) p.2
 
 -- ---- what an operation promises
 module _ {X Slices : Type 0} {outcome : Outcome X} {new before : Slices} where

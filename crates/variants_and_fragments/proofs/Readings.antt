@@ -1,32 +1,20 @@
--- An i32 as its number. A signed local holds bits, and the machine reads the number back from them; these laws say what a test against 0 and the casts give.
+-- An i32 as its number: what its range says of the number, and a number taken from 0.
 -- Assumes nothing.
-use mathlib.Core.Path.{◌≡◌, refl, ◌∙◌}
+use mathlib.Core.Path.{◌≡◌, refl}
 use mathlib.Core.Bool.{true, false}
 use Prim.Native.Nat.{ℕ, zero, suc, ◌≤◌, ◌<◌, ◌^◌}
 use native.Mathlib.Omega.{arith}
-use borrow.Author.Tests.{le-leb, ltb-true, leb-true}
-use lib.IntN.{ℤ, pos, negsuc, neg_ℤ, nat_abs, ◌-ℤ◌, +ℤ_idl}
-use lib.Dec.{T, lit<}
-use lib.Signed.{mag, lt_z, le_z, non_neg}
+use borrow.Author.Tests.{le-leb, leb-true}
+use lib.IntN.{ℤ, pos, negsuc, neg_ℤ, ◌-ℤ◌, +ℤ_idl}
+use lib.Dec.{lit<}
+use lib.Signed.{mag, le_z}
 use mir.Syntax.{w32, w64}
-use mir.Val.{SFits, to_z, of_z}
-use mir.Facts.{to_z-of_z, to_z_pos}
+use mir.Val.{SFits, to_z}
+use mir.Facts.{to_z_pos}
 use Rattle.variants_and_fragments.specs.Words.{within, none, nat_of}
 use Rattle.variants_and_fragments.specs.Layout.{lowest_quality}
 use Rattle.variants_and_fragments.specs.Inner.Sums.{DownTo}
 use Rattle.variants_and_fragments.proofs.Bools.{both, true_false}
-
-pub up_neg : (x : ℤ) → lt_z x (pos 0) ≡ true → none ≡ nat_of x
-up_neg (pos n) h = let l : n < 0 = ltb-true n 0 h in absurd (omega arith)
-up_neg (negsuc n) h = refl
-
-pub up_non_neg : (x : ℤ) → lt_z x (pos 0) ≡ false → T (non_neg x)
-up_non_neg (pos n) h = tt
-up_non_neg (negsuc n) h = let z : ◌≡◌ {A = ℕ} 0 1 = cc in absurd (omega arith)
-
-pub up_abs : (x : ℤ) → lt_z x (pos 0) ≡ false → nat_abs x ≡ nat_of x
-up_abs (pos n) h = refl
-up_abs (negsuc n) h = absurd (up_non_neg (negsuc n) h)
 
 -- ---- what a signed range says in ℕ
 -- numbers keep the order of words that are not negative, and an i32 keeps them below 2^31
@@ -55,9 +43,6 @@ module _ (x : ℕ) (h : x ≤ 4294967296) where
 
   pub minus_fits : SFits w64 (pos 0 -ℤ to_z w64 x)
   minus_fits = rw minus_is (record { sfits = neg_mag x h })
-
-  pub minus_back : to_z w64 (of_z w64 (pos 0 -ℤ to_z w64 x)) ≡ neg_ℤ (pos x)
-  minus_back = to_z-of_z minus_fits ∙ minus_is
 
 -- a negative word is no number of a record
 pub absent_none : (z : ℤ) → le_z (pos 0) z ≡ false → nat_of z ≡ none

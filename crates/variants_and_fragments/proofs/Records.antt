@@ -59,9 +59,6 @@ head_in w h =
 pub head_sized : (w : List ℤ) → 7 ≤ head_fault w → Sized w (sizes_of w)
 head_sized w h = let i = head_in w h in record { size = i.all_in; n_top = i.n_in; f_top = i.f_in; c_top = i.c_in; used_top = i.used_in; free_top = i.free_in }
 
-pub head_long : (w : List ℤ) → 7 ≤ head_fault w → head_words ≤ length w
-head_long w h = (head_in w h).len_in
-
 -- ---- a variant
 pub all_nth : (bs : List Bool) → all_of bs ≡ true → (i : ℕ) → get_or bs i true ≡ true
 all_nth [] h i = refl

@@ -1,15 +1,15 @@
 -- The smallest count that a slice too short needs: what `earlier` gives, case by case, and what it says that none is too short.
 -- Assumes nothing.
 use mathlib.Core.Path.{◌≡◌, refl, sym, ◌∙◌}
-use mathlib.Core.List.{List, [], ◌∷◌}
-use mathlib.Core.Logic.{◌⊎◌, inl, inr, ⊎_elim}
+use mathlib.Core.List.{List, ◌∷◌}
 use Prim.Native.Nat.{ℕ, ◌≤◌, ◌<◌}
 use native.Mathlib.Omega.{arith}
 use native.Mathlib.Decide.{dec_le, ℕ_discrete}
 use borrow.Author.Tests.{le-leb, lt-leb, eq-eqb, ne_eqb}
 use Rattle.std.proofs.lemmas.Bool.Decides.{nat_tests}
 use Rattle.std.proofs.Math.ListN.{drop_of_length-le}
-use Rattle.std.proofs.Common.{◌+◌, ap, drop, get_or, length, add-one, drop-cons}
+use Rattle.std.specs.Option.{unwrap_or}
+use Rattle.std.proofs.Common.{min, Option, None, Some, ◌+◌, ap, drop, get_or, length, add-one, drop-cons}
 use Rattle.variants_and_fragments.specs.Refusals.{short_of, earlier, smallest_short}
 
 pub earlier_right : (a b : ℕ) → a ≡ 0 → b ≡ earlier a b
@@ -28,19 +28,6 @@ module _ (a b : ℕ) (da : a ≡ 0 → ⊥) (db : b ≡ 0 → ⊥) where
   pub earlier_second : b < a → b ≡ earlier a b
   unfolding earlier
   earlier_second h = rw (ne_eqb a 0 da, ne_eqb b 0 db, lt-leb a b h)
-
--- it is one of the two
-pub earlier_one : (a b : ℕ) → (earlier a b ≡ a) ⊎ (earlier a b ≡ b)
-earlier_one a b = elim (ℕ_discrete a 0) [
-  | yes e ↦ inr (sym (earlier_right a b e))
-  | no d ↦ elim (ℕ_discrete b 0) [
-    | yes e ↦ inl (sym (earlier_left a b d e))
-    | no f ↦ elim (dec_le a b) [ yes h ↦ inl (sym (earlier_first a b d f h)) | no h ↦ inr (sym (earlier_second a b d f (omega arith))) ]
-  ]
-]
-
-pub earlier_top : (m a b : ℕ) → a < m → b < m → earlier a b < m
-earlier_top m a b h l = ⊎_elim (λ e. omega arith) (λ e. omega arith) (earlier_one a b)
 
 -- none where neither is one
 pub none_earlier : (a b : ℕ) → earlier a b ≡ 0 → (a ≡ 0) × (b ≡ 0)
@@ -63,42 +50,64 @@ short_none need long e = elim (dec_le need long) [ yes l ↦ l | no l ↦ let z 
 pub earlier_none : (a : ℕ) → earlier a 0 ≡ a
 earlier_none a = elim (ℕ_discrete a 0) [ yes e ↦ sym (earlier_right a 0 e) ∙ sym e | no d ↦ sym (earlier_left a 0 d refl) ]
 
--- the last of them
-pub short_last : (x need long : ℕ) → x ≡ short_of need long → x ≡ smallest_short ((need, long) ∷ [])
-unfolding smallest_short
-short_last x need long e = e ∙ sym (earlier_none (short_of need long))
-
--- one more
-pub short_more : (x need long r : ℕ) (rest : List (ℕ × ℕ)) → x ≡ short_of need long → r ≡ smallest_short rest → earlier x r ≡ smallest_short ((need, long) ∷ rest)
-unfolding smallest_short
-short_more x need long r rest e f = rw (e, f)
-
 -- where none is too short, each is long enough
 pub short_fits : (need long : ℕ) (rest : List (ℕ × ℕ)) → smallest_short ((need, long) ∷ rest) ≡ 0 → (need ≤ long) × (smallest_short rest ≡ 0)
 unfolding smallest_short
 short_fits need long rest e = let b = none_earlier (short_of need long) (smallest_short rest) e in (short_none need long b.0, b.1)
-
--- one slice: too short, and long enough
-pub one_short : (need long : ℕ) → long < need → need ≡ smallest_short ((need, long) ∷ [])
-unfolding short_of
-one_short need long h = short_last need need long (rw (lt-leb need long h))
-
-pub one_fits : (need long : ℕ) → need ≤ long → smallest_short ((need, long) ∷ []) ≡ 0
-unfolding short_of
-one_fits need long h = sym (short_last 0 need long (rw (le-leb need long h)))
 
 -- ---- one need after the other
 pub earlier_assoc : (a b c : ℕ) → earlier (earlier a b) c ≡ earlier a (earlier b c)
 unfolding earlier
 earlier_assoc a b c = grind (arith, nat_tests)
 
--- of the slices from i on, with what was found before them
-pub short_step : (slices : List (ℕ × ℕ)) (i found one next all : ℕ) → i < length slices → earlier found (smallest_short (drop i slices)) ≡ all
-    → one ≡ short_of (get_or slices i (0, 0)).0 (get_or slices i (0, 0)).1 → next ≡ earlier found one → earlier next (smallest_short (drop (i + 1) slices)) ≡ all
-unfolding smallest_short
-short_step slices i found one next all l before is_one is_next =
-    rw (is_next, earlier_assoc, is_one, add-one) (sym (ap (λ (xs : List (ℕ × ℕ)). earlier found (smallest_short xs)) (drop-cons slices i (0, 0) l)) ∙ before)
+-- the need found so far; 0 where there is none
+unfoldable pub need_of : Option ℕ → ℕ
+need_of None = 0
+need_of (Some need) = need
 
-pub short_end : (slices : List (ℕ × ℕ)) (i found : ℕ) → length slices ≤ i → earlier found (smallest_short (drop i slices)) ≡ smallest_short slices → found ≡ smallest_short slices
+-- what is found of the slices before i
+pub record Found (slices : List (ℕ × ℕ)) (i : ℕ) (short : Option ℕ) : Type 0 where
+  pub some : (need : ℕ) → short ≡ Some need → 0 < need
+  pub kept : earlier (need_of short) (smallest_short (drop i slices)) ≡ smallest_short slices
+
+pub found_none : (slices : List (ℕ × ℕ)) → Found slices 0 None
+unfolding need_of
+found_none slices = record { some = λ need e. cc; kept = sym (earlier_right 0 _ refl) }
+
+-- one slice more
+short_step : (slices : List (ℕ × ℕ)) (i found next : ℕ) → i < length slices → earlier found (smallest_short (drop i slices)) ≡ smallest_short slices
+    → next ≡ earlier found (short_of (get_or slices i (0, 0)).0 (get_or slices i (0, 0)).1) → earlier next (smallest_short (drop (i + 1) slices)) ≡ smallest_short slices
 unfolding smallest_short
-short_end slices i found l e = sym (earlier_none found) ∙ rw (drop_of_length-le slices l) at e
+short_step slices i found next l before is_next =
+    rw (is_next, earlier_assoc, add-one) (sym (ap (λ (xs : List (ℕ × ℕ)). earlier found (smallest_short xs)) (drop-cons slices i (0, 0) l)) ∙ before)
+
+-- a slice that is too short
+next_need : (short : Option ℕ) (need : ℕ) → ((n : ℕ) → short ≡ Some n → 0 < n) → 0 < need → min (unwrap_or short need) need ≡ earlier (need_of short) need
+unfolding need_of earlier
+next_need None need some h = grind (arith, nat_tests)
+next_need (Some n) need some h = let l = some n refl in grind (arith, nat_tests)
+
+pub found_short : (slices : List (ℕ × ℕ)) (i : ℕ) (short : Option ℕ) (next : ℕ) → i < length slices → Found slices i short → (get_or slices i (0, 0)).1 < (get_or slices i (0, 0)).0
+    → next ≡ min (unwrap_or short (get_or slices i (0, 0)).0) (get_or slices i (0, 0)).0 → Found slices (i + 1) (Some next)
+unfolding need_of short_of
+found_short slices i short next l f h e =
+    let need = (get_or slices i (0, 0)).0 in
+    let low : 0 < need = omega arith in
+    let n = e ∙ next_need short need f.some low in
+    record {
+      some = λ m q. let r : next ≡ m = cc in grind (arith, nat_tests, n, r);
+      kept = short_step slices i (need_of short) next l f.kept (rw (lt-leb need (get_or slices i (0, 0)).1 h) n);
+    }
+
+-- one that is long enough
+pub found_fits : (slices : List (ℕ × ℕ)) (i : ℕ) (short : Option ℕ) → i < length slices → Found slices i short → (get_or slices i (0, 0)).0 ≤ (get_or slices i (0, 0)).1 → Found slices (i + 1) short
+unfolding short_of
+found_fits slices i short l f h = record {
+  some = f.some;
+  kept = short_step slices i (need_of short) (need_of short) l f.kept (rw (le-leb (get_or slices i (0, 0)).0 (get_or slices i (0, 0)).1 h) (sym (earlier_none (need_of short))));
+}
+
+-- at the end
+pub found_end : (slices : List (ℕ × ℕ)) (i : ℕ) (short : Option ℕ) → length slices ≤ i → Found slices i short → need_of short ≡ smallest_short slices
+unfolding smallest_short
+found_end slices i short l f = sym (earlier_none (need_of short)) ∙ rw (drop_of_length-le slices l) at f.kept

@@ -1,6 +1,6 @@
 -- A slice that is written place by place: one step more, its length, what stands where, and a part after a part.
 -- Assumes nothing.
-use mathlib.Core.Path.{◌≡◌, refl, sym, ◌∙◌}
+use mathlib.Core.Path.{◌≡◌, refl, ◌∙◌}
 use mathlib.Core.List.{List}
 use Prim.Native.Nat.{ℕ, zero, suc, ◌+◌, ◌≤◌, ◌<◌}
 use native.Mathlib.Decide.{ℕ_discrete}
@@ -8,18 +8,12 @@ use native.Mathlib.Nat.{zero-add}
 use native.Mathlib.Numerals.{add-one}
 use native.Mathlib.Omega.{arith}
 use lib.ListN.{length, get_or, set, length-set}
-use lib.Seq.{ext_get_or, get_or-set_same, get_or-set_other}
-use Rattle.variants_and_fragments.specs.Decode.{tabulate}
+use lib.Seq.{get_or-set_same, get_or-set_other}
 use Rattle.variants_and_fragments.specs.Written.{written}
 use Rattle.variants_and_fragments.specs.Inner.Written.{written_from}
-use Rattle.variants_and_fragments.proofs.Decoded.{tabulate_length, tabulate_at}
 
 -- ---- from a place on
 module _ {A : Type 0} (g : ℕ → A) (at : ℕ) where
-  pub from_on : (n : ℕ) (l o : List A) (x : A) → o ≡ written_from g at n l → x ≡ g n → set o (at + n) x ≡ written_from g at (n + 1) l
-  unfolding written_from
-  from_on n l o x e q = rw (add-one, e, q)
-
   pub from_length : (n : ℕ) (l : List A) → length (written_from g at n l) ≡ length l
   unfolding written_from
   from_length zero l = refl
@@ -79,11 +73,3 @@ written_same g h n l e = rw (written_from_lem g n l, written_from_lem h n l) (fr
 -- a part after what is written from the start
 pub from_after : {A : Type 0} (g h : ℕ → A) (at n : ℕ) (l : List A) → ((p : ℕ) → p < n → h p ≡ g (at + p)) → written_from h at n (written g at l) ≡ written g (at + n) l
 from_after g h at n l e = rw (written_from_lem g at l, written_from_lem g (at + n) l) (rw zero-add at (from_join g h 0 at n l e))
-
--- all of a list
-pub written_all : {A : Type 0} (g : ℕ → A) (n : ℕ) (l : List A) (d : A) → length l ≡ n → written g n l ≡ tabulate n g
-written_all g n l d e =
-    let a = written_length g n l in
-    let b = tabulate_length n g in
-    ext_get_or d (written g n l) (tabulate n g) (omega arith)
-    (λ i h. written_at g n l d (omega arith) i (omega arith) ∙ sym (tabulate_at n g i d (omega arith)))

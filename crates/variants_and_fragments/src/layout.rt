@@ -104,10 +104,11 @@ pub fn nat_at(words: &[i32], i: usize) -> usize
 }
 
 // A word in −262144..0, as the cutoff and both qualities are.
+#[tactic(auto, unfolding(crate::specs::Words::within))]
 pub fn is_quality(z: i32) -> bool
     ensures { result ≡ within lowest_quality (pos 0) z }
 {
-    (LOWEST_QUALITY <= z) & (z <= 0)
+    (LOWEST_QUALITY..=0).contains(&z)
 }
 
 // ---- where the head, a variant, a fragment and a call stand
@@ -267,7 +268,7 @@ impl Laid<'_> {
         ensures { result ≡ within (negsuc 0) (pos self.now.sizes.used) (fragment_word self.now.words.now self.now.sizes f first_field) }
     {
         let z = self.fragment_word(f, FIRST);
-        (ABSENT <= z) & (z <= self.sizes.used as i32)
+        (ABSENT..=self.sizes.used as i32).contains(&z)
     }
 
     // The first record of fragment f's chain, or 0 where its word names none.

@@ -9,7 +9,7 @@ use crate::chains::check_chains;
 use crate::head::read_head;
 use crate::variants::check_variants;
 pub use laid::{Case, CaseWords, Laid, WithVariants};
-pub use refusals::{earlier, long_enough, short_of};
+pub use refusals::long_enough;
 
 pub mod alleles;
 pub mod calls;

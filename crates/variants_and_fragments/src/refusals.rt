@@ -6,7 +6,7 @@ ghost use Rattle.variants_and_fragments.specs.Refusals as refusals;
 use crate::Refusal;
 
 impl Refusal {
-    // A refusal's number in document 01's table; 13 and 14 are request 1's.
+    // A refusal's number in document 01's table; 13 and 14 are request 1's. A match: a variant that holds a place has no number to cast.
     pub fn number(self) -> usize
         ensures { result ≡ refusals.number self }
     {
@@ -33,61 +33,36 @@ impl Refusal {
         ensures { result ≡ refusals.place self }
     {
         match self {
-            Refusal::Head(p) => p,
-            Refusal::Variant(p) => p,
-            Refusal::Alleles(p) => p,
-            Refusal::Call(p) => p,
-            Refusal::Chain(p) => p,
-            Refusal::Rates(p) => p,
-            Refusal::Phase(p) => p,
-            Refusal::Orders(p) => p,
-            Refusal::Limit(p) => p,
-            Refusal::Short(p) => p,
-            Refusal::DensityQual(p) => p,
-            Refusal::Normalize(p) => p,
-            Refusal::Fragment(p) => p,
-            Refusal::Room(p) => p,
+            Refusal::Head(p)
+            | Refusal::Variant(p)
+            | Refusal::Alleles(p)
+            | Refusal::Call(p)
+            | Refusal::Chain(p)
+            | Refusal::Rates(p)
+            | Refusal::Phase(p)
+            | Refusal::Orders(p)
+            | Refusal::Limit(p)
+            | Refusal::Short(p)
+            | Refusal::DensityQual(p)
+            | Refusal::Normalize(p)
+            | Refusal::Fragment(p)
+            | Refusal::Room(p) => p,
         }
     }
 }
 
-// What a slice of `long` elements needs, where that is too short; else 0.
-pub fn short_of(need: usize, long: usize) -> usize
-    ensures { result ≡ refusals.short_of need long }
-{
-    if need <= long {
-        return 0;
-    }
-    need
-}
-
-// The smaller of two numbers; 0, which is none, gives the other one.
-pub fn earlier(a: usize, b: usize) -> usize
-    ensures { result ≡ refusals.earlier a b }
-{
-    if a == 0 {
-        return b;
-    }
-    if b == 0 {
-        return a;
-    }
-    if a <= b {
-        return a;
-    }
-    b
-}
-
-// Whether each slice, given as what it needs and its length, is long enough: else refused with the smallest need of one that is not. No need of 0
-// is ever missed, so 0 is none here: an Option would have to say that its value is above 0.
+// Whether each slice, given as what it needs and its length, is long enough: else refused with the smallest need of one that is not.
 pub fn long_enough(slices: &[(usize, usize)]) -> Result<(), Refusal>
     ensures { outcome_of result ≡ refusals.long_enough slices.now (done tt) }
 {
-    let mut short = 0;
+    let mut short: Option<usize> = None;
     for (need, long) in slices {
-        short = earlier(short, short_of(*need, *long));
+        if long < need {
+            short = Some(short.unwrap_or(*need).min(*need));
+        }
     }
-    if short != 0 {
-        return Err(Refusal::Short(short));
+    match short {
+        Some(need) => Err(Refusal::Short(need)),
+        None => Ok(()),
     }
-    Ok(())
 }

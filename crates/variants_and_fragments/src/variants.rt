@@ -21,7 +21,7 @@ pub fn length_ok(j: usize, k: usize, x: usize) -> bool
     ensures { result ≡ length_test j k x }
 {
     if j < k {
-        (1 <= x) & (x <= MAX_ALLELE_LENGTH)
+        (1..=MAX_ALLELE_LENGTH).contains(&x)
     } else {
         x == 0
     }
@@ -55,7 +55,7 @@ fn record_ok(laid: &Laid<'_>, v: usize) -> bool
     (0 <= p)
         & ((q <= p)
             & ((0 <= dp)
-                & (((1 <= k) & (k <= MAX_ALLELES)) & ((a < k) & ((b < k) & (l0 & (l1 & l2)))))))
+                & ((1..=MAX_ALLELES).contains(&k) & ((a < k) & ((b < k) & (l0 & (l1 & l2)))))))
 }
 
 // Variant v's record and its haplotypes are right.
@@ -74,10 +74,8 @@ pub fn check_variants<'a>(laid: &Laid<'a>, haplotypes: &[u8]) -> Result<WithVari
     ensures outcome { answered (λ _. tt) result ≡ variants_outcome laid.now.words.now haplotypes.now laid.now.sizes }
     ensures same { IfOk result (λ known. known.laid ≡ laid.now) }
 {
-    for v in 0..laid.sizes.n {
-        if !variant_ok(laid, haplotypes, v) {
-            return Err(Refusal::Variant(v));
-        }
+    match (0..laid.sizes.n).find(|v| !variant_ok(laid, haplotypes, *v)) {
+        Some(v) => Err(Refusal::Variant(v)),
+        None => Ok(WithVariants { laid: *laid }),
     }
-    Ok(WithVariants { laid: *laid })
 }

@@ -1,12 +1,8 @@
 -- What an accepted case has: each allele, variant, call and fragment in its ranges, and rising calls. Assumes nothing.
-use Rattle.std.specs.Prelude.{◌≡◌, Bool, true, false, ◌&&◌, List, [], ◌∷◌, ℕ, suc, ◌≤◌, ◌<◌, ◌^◌, leb, pos, length, get_or}
+use Rattle.std.specs.Prelude.{◌≡◌, Bool, true, false, ◌&&◌, List, [], ◌∷◌, ℕ, suc, ◌≤◌, ◌<◌, leb, length, get_or}
 use Rattle.variants_and_fragments.specs.Alleles.{is_base}
 use Rattle.variants_and_fragments.specs.Inner.Sums.{DownTo}
 use Rattle.variants_and_fragments.specs.Case.{Variant, Call, Fragment, Case, allele_count, no_variant, variant_of, allele_of, call_count}
-
--- what stands past the end of a list of calls; nothing reads it
-abbrev pub no_call : Call
-no_call = record { variant = 0; allele = 0; qual = pos 0; one_minus_qual = pos 0 }
 
 -- variants rise strictly along calls, from b on
 unfoldable pub rising_from : ℕ → List Call → Bool
@@ -67,8 +63,3 @@ pub record GoodCase (case : Case) : Type 0 where
   -- pos0 not falling
   pub pos0_rises : (v : ℕ) → suc v < length case.variants → (variant_of case v).pos0 ≤ (variant_of case (suc v)).pos0
   pub fragments_in : All (GoodFragment case.variants) case.fragments
-
--- pos0 and dp are i32 words: below 2^31
-pub record SmallNumbers (case : Case) : Type 0 where
-  pub pos0_top : (v : ℕ) → v < length case.variants → (variant_of case v).pos0 < 2 ^ 31
-  pub dp_top : (v : ℕ) → v < length case.variants → (variant_of case v).dp < 2 ^ 31

@@ -1,5 +1,5 @@
 -- Both ends are tested.
-use Rattle.std.proofs.Common.{arith, to_z-of_z, w32, SFits, rules}
+use Rattle.std.proofs.Common.{arith, rules, w32}
 use Rattle.std.proofs.lemmas.Int.{to_z_pos}
 use Rattle.variants_and_fragments.specs.Words.{within}
 use Rattle.variants_and_fragments.proofs.laid.Laid.first_ok.Goals as goal
@@ -8,5 +8,5 @@ pub returns : goal.returns
 unfolding within
 returns c =
     let z = c.args.self.now.sized in
-    let f : SFits w32 c.fragment_word-z.result = search rules in
-    rw (to_z-of_z f, c.fragment_word-z.ensures, to_z_pos w32 c.args.self.now.sizes.used (omega (arith, z.used_top, z.c_top)))
+    let used = to_z_pos w32 c.args.self.now.sizes.used (omega (arith, z.used_top, z.c_top)) in
+    search (rules, used)
