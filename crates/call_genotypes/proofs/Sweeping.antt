@@ -25,10 +25,6 @@ below_at n [] p t l = absurd (omega arith)
 below_at n (v ∷ vs) zero t l = ltb→lt v n (and_l (ltb v n) (all_below n vs) t)
 below_at n (v ∷ vs) (suc p) t l = below_at n vs p (and_r (ltb v n) (all_below n vs) t) (omega arith)
 
--- the slices are as long as before
-abbrev pub SameLengths : SweepState → SweepState → Type 0
-SameLengths before state = (length state.hap ≡ length before.hap) × (length state.lik ≡ length before.lik) × (length state.post ≡ length before.post)
-
 pub record Sweeping (C : SweepCase) (order : List ℕ) (before state : SweepState) (flag : Bool) (p : ℕ) : Type 0 where
   pub good : GoodHaps C state.hap
   pub liks : Liks C state.hap state.lik

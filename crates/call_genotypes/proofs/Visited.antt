@@ -3,7 +3,7 @@
 use mathlib.Core.Path.{◌≡◌, refl, sym, ap, ◌∙◌}
 use mathlib.Core.Bool.{Bool, true, false, not, ◌&&◌}
 use mathlib.Core.List.{List}
-use Prim.Native.Nat.{ℕ, ◌+◌, ◌*◌, ◌<◌, ◌≤◌}
+use Prim.Native.Nat.{ℕ, ◌+◌, ◌*◌, ◌<◌}
 use native.Mathlib.Omega.{arith}
 use lib.Dec.{T, eqb, eqb→eq, eqb_refl}
 use lib.ListN.{length, get_or}
@@ -42,9 +42,6 @@ module _ {C : SweepCase} {reads : SweepReads} {before : SweepState} {v : ℕ} (S
 
   k_is : get_or reads.ks v 0 ≡ C.k v
   k_is = S.standing.held.ks_are v S.v_in
-
-  pub k_least : 1 ≤ get_or reads.ks v 0
-  k_least = rw k_is (S.standing.held.good.some_allele v S.v_in)
 
   pub movable : Movable C reads.ph reads.ends reads.piles h before.lik v
   movable = record { ks = reads.ks; pri = reads.pri; held = S.standing.held; haps = S.standing.haps; liks = S.standing.liks; v_in = S.v_in }

@@ -43,9 +43,9 @@ fn move_liks(pile: &[u64], lik: &mut [i64], side: usize, old: usize, new: usize)
 
 // Puts a pair at v, and moves the likelihoods on both haplotypes: at an unphased v they stay.
 fn put_pair(reads: &SweepReads<'_>, hap: &mut [u8], lik: &mut [i64], v: usize, new: Pair)
-    requires some { Some (λ C. Movable C reads.now.ph.now reads.now.ends.now reads.now.piles.now hap.old lik.old v) }
+    requires some { Some (λ C. Movable C reads.now.ph.now reads.now.piles.ends.now reads.now.piles.words.now hap.old lik.old v) }
     requires first_bound { (new.first < 3) × (new.second < 3) }
-    ensures { PutFrom reads.now.ph.now reads.now.ends.now reads.now.piles.now hap.old lik.old v new hap.new lik.new }
+    ensures { PutFrom reads.now.ph.now reads.now.piles.ends.now reads.now.piles.words.now hap.old lik.old v new hap.new lik.new }
 {
     let old = pair_at(hap, v);
     let at = 2 * v;

@@ -1,5 +1,5 @@
 -- What a row's call adds to a likelihood, at a flagged variant and elsewhere. Assumes nothing.
-use mathlib.Core.Path.{◌≡◌, refl, ap, ◌∙◌}
+use mathlib.Core.Path.{◌≡◌, refl, sym, ap, ◌∙◌, subst}
 use mathlib.Core.Bool.{Bool, true, false, cond}
 use mathlib.Core.List.{List}
 use Prim.Native.Nat.{ℕ, zero, suc, ◌+◌, ◌*◌, ◌-◌, ◌/◌, ◌%◌, ◌≤◌, ◌<◌}
@@ -9,16 +9,17 @@ use native.Mathlib.Numerals.{add-one}
 use borrow.Author.Tests.{eq-eqb, ne_eqb}
 use lib.Dec.{eqb}
 use lib.IntN.{ℤ, pos, nat_abs}
-use lib.ListN.{length, get_or, take, drop}
-use Rattle.std.proofs.lemmas.List.{length-drop, length-take-le, get_or-take, get_or-drop}
+use lib.ListN.{length, get_or}
 use Rattle.variants_and_fragments.specs.Case.{Call}
-use Rattle.variants_and_fragments.proofs.Sums.{sum_map}
+use Rattle.variants_and_fragments.proofs.Sums.{sum_map, sum_to_cong}
 use Rattle.pileup.specs.declared.row.Row.{Row as RowHeld}
-use Rattle.pileup.specs.Inner.Packed.{row_at, rows_at, group_start, held_row, row_from, unpacked}
+use Rattle.pileup.specs.Inner.Packed.{row_at, rows_at, group_start, group_words, GroupThere, held_row, row_from, unpacked}
 use Rattle.variants_and_fragments.specs.Sums.{sum_to}
 use Rattle.sweeps.specs.Sweeps.{allele0, call_term, likelihood}
 use Rattle.sweeps.proofs.Basics.{lik_cong}
-use Rattle.likelihoods.specs.Inner.Likelihoods.{row_call, call_at, calls_between, calls_of, likelihood_at, flagged, allele_on, call_share, CallIn, CallsIn, EndsIn}
+use Rattle.likelihoods.specs.Inner.Likelihoods.{row_call, call_at, calls_between, calls_of, likelihood_at, flagged, allele_on, call_share, CallIn, CallsIn, EndsIn, LikelihoodsAre}
+use Rattle.likelihoods.specs.declared.likelihoods.ReadLikelihoods.{ReadLikelihoods}
+use Rattle.likelihoods.proofs.GroupRows.{part_length, part_row, part_rows}
 use Rattle.likelihoods.proofs.RunningSums.{table_sum}
 use Rattle.likelihoods.proofs.SweepCases.{likelihood_sum}
 
@@ -46,16 +47,19 @@ module _ (call : Call) (hap mask : List ℕ) (h : ℕ) where
   unfolding flagged
   share_left_out n = (rw (ne_eqb (get_or mask call.variant 0) 1 n), omega arith)
 
--- a likelihood over rows a to e adds up what each adds
-abbrev pub row_share : List ℕ → List ℕ → List ℕ → ℕ → ℕ → ℕ → ℤ
-row_share rows hap mask h a j = call_share (flagged mask) (allele_on hap h) (call_at rows (a + j))
+-- a likelihood over the first n rows adds up what each adds
+abbrev pub row_share : List ℕ → List ℕ → List ℕ → ℕ → ℕ → ℤ
+row_share rows hap mask h j = call_share (flagged mask) (allele_on hap h) (call_at rows j)
 
-pub between_sum : (rows hap mask : List ℕ) (h a e : ℕ) → likelihood (flagged mask) (allele_on hap h) (calls_between rows a e) ≡ sum_to (e - a) (row_share rows hap mask h a)
+pub rows_sum : (rows hap mask : List ℕ) (h n : ℕ) → likelihood (flagged mask) (allele_on hap h) (calls_between rows 0 n) ≡ sum_to n (row_share rows hap mask h)
 unfolding calls_between
-between_sum rows hap mask h a e =
-    likelihood_sum (flagged mask) (allele_on hap h) (calls_between rows a e)
-    ∙ sum_map row_call (rows_at rows a e) (call_share (flagged mask) (allele_on hap h))
-    ∙ table_sum (row_at rows) (λ row. call_share (flagged mask) (allele_on hap h) (row_call row)) a (e - a)
+rows_sum rows hap mask h n =
+    let none : n - 0 ≡ n = omega arith in
+    likelihood_sum (flagged mask) (allele_on hap h) (calls_between rows 0 n)
+    ∙ sum_map row_call (rows_at rows 0 n) (call_share (flagged mask) (allele_on hap h))
+    ∙ table_sum (row_at rows) (λ row. call_share (flagged mask) (allele_on hap h) (row_call row)) 0 (n - 0)
+    ∙ ap (λ (m : ℕ). sum_to m (λ j. row_share rows hap mask h (0 + j))) none
+    ∙ sum_to_cong n (λ j. row_share rows hap mask h (0 + j)) (row_share rows hap mask h) (λ j l. let z : 0 + j ≡ j = omega arith in ap (row_share rows hap mask h) z)
 
 -- haplotype 0 has the first alleles
 pub on_first : (counts : ℕ → Bool) (hap : List ℕ) (cs : List Call) → likelihood counts (allele_on hap 0) cs ≡ likelihood counts (allele0 hap) cs
@@ -71,11 +75,7 @@ module _ (rows ends hap mask : List ℕ) (f : ℕ) where
   unfolding likelihood_at calls_of
   likelihood_second = let q : (2 * f + 1) / 2 ≡ f = omega arith in let r : (2 * f + 1) % 2 ≡ 1 = omega arith in rw (q, r)
 
--- where the rows of a fragment start: at the end of the one before
-pub start_zero : (ends : List ℕ) → group_start ends 0 ≡ 0
-unfolding group_start
-start_zero ends = refl
-
+-- the rows of a fragment start at the end of the one before
 pub start_next : (ends : List ℕ) (f : ℕ) → group_start ends (f + 1) ≡ get_or ends f 0
 unfolding group_start
 start_next ends f = rw (add-one f)
@@ -89,6 +89,21 @@ ends_within ends (suc n) rises f h = elim (ℕ_discrete f n) [
   | no e ↦ omega (arith, ends_within ends n (λ g k. rises g (omega arith)) f (omega arith), rises n (omega arith))
 ]
 
+-- ---- row j of a read's
+module _ {rows hap mask : List ℕ} (k : CallsIn rows (length rows) hap mask) (j : ℕ) (l : j < length rows) (row : RowHeld) (e : row ≡ held_row (unpacked (get_or rows j 0))) where
+  pub row_is : row_call (row_from row) ≡ call_at rows j
+  row_is = ap (λ (r : RowHeld). row_call (row_from r)) e
+
+  pub row_in : CallIn (row_call (row_from row)) hap mask
+  row_in =
+      let there : CallIn (call_at rows j) hap mask = record {
+        pair_there = k.pair_there j l;
+        flag_there = k.flag_there j l;
+        qual_small = k.qual_small j l;
+        one_minus_qual_small = k.one_minus_qual_small j l;
+      } in
+      subst (λ (x : Call). CallIn x hap mask) (sym row_is) there
+
 -- ---- the rows of read f
 module _ {rows ends hap mask : List ℕ} {n : ℕ} (k : CallsIn rows (group_start ends n) hap mask) (o : EndsIn ends n) (f : ℕ) (h : f < n) where
   pub read_rises : group_start ends f ≤ get_or ends f 0
@@ -97,35 +112,43 @@ module _ {rows ends hap mask : List ℕ} {n : ℕ} (k : CallsIn rows (group_star
   read_within : get_or ends f 0 ≤ group_start ends n
   read_within = ends_within ends n o.rises f h
 
-  pub read_long : get_or ends f 0 ≤ length rows
-  read_long = omega (arith, read_within, k.long)
-
   pub read_few : get_or ends f 0 ≤ 16384
   read_few = omega (arith, read_within, k.count_top)
 
-  pub read_call : (j : ℕ) → group_start ends f + j < get_or ends f 0 → CallIn (call_at rows (group_start ends f + j)) hap mask
-  read_call j l =
-      let i : group_start ends f + j < group_start ends n = omega (arith, read_within) in
+  pub read_there : GroupThere ends rows f
+  read_there = record { g_in = omega (arith, o.long); rises = read_rises; long = omega (arith, read_within, k.long) }
+
+  abbrev part : List ℕ
+  part = group_words ends rows f
+
+  abbrev a : ℕ
+  a = group_start ends f
+
+  part_call : (j : ℕ) → j < length part → (a + j < a + (get_or ends f 0 - a)) × (call_at part j ≡ call_at rows (a + j))
+  part_call j l =
+      let m : j < get_or ends f 0 - a = omega (arith, part_length read_there) in
+      (omega arith, ap row_call (part_row read_there j m))
+
+  pub read_calls : CallsIn part (length part) hap mask
+  read_calls =
+      let top : a + (get_or ends f 0 - a) ≤ group_start ends n = omega (arith, read_within, read_rises) in
       record {
-        pair_there = k.pair_there _ i;
-        flag_there = k.flag_there _ i;
-        qual_small = k.qual_small _ i;
-        one_minus_qual_small = k.one_minus_qual_small _ i;
+        count_top = omega (arith, part_length read_there, read_few);
+        long = omega arith;
+        pair_there = λ j l. let c = part_call j l in rw c.1 (k.pair_there (a + j) (omega (arith, c.0)));
+        flag_there = λ j l. let c = part_call j l in rw c.1 (k.flag_there (a + j) (omega (arith, c.0)));
+        qual_small = λ j l. let c = part_call j l in rw c.1 (k.qual_small (a + j) (omega (arith, c.0)));
+        one_minus_qual_small = λ j l. let c = part_call j l in rw c.1 (k.one_minus_qual_small (a + j) (omega (arith, c.0)));
       }
 
-  -- as a part of the slice
-  abbrev part : List ℕ
-  part = take (get_or ends f 0 - group_start ends f) (drop (group_start ends f) rows)
-
-  pub read_length : length part ≡ get_or ends f 0 - group_start ends f
-  read_length = length-take-le (get_or ends f 0 - group_start ends f) (drop (group_start ends f) rows) (omega (arith, length-drop (group_start ends f) rows, read_long))
-
-  -- row j of it
-  pub read_row : (j : ℕ) (row : RowHeld) → j < length part → row ≡ held_row (unpacked (get_or part j 0)) → (group_start ends f + j < get_or ends f 0) × (row_call (row_from row) ≡ call_at rows (group_start ends f + j))
-  read_row j row l e =
-      let a = group_start ends f in
-      let m : j < get_or ends f 0 - a = omega (arith, read_length) in (
-        omega arith,
-        ap (λ (r : RowHeld). row_call (row_from r)) e
-            ∙ ap (λ (w : ℕ). row_call (unpacked w)) (get_or-take (get_or ends f 0 - a) (drop a rows) j 0 m ∙ get_or-drop a rows j 0),
-      )
+  -- its likelihoods over them
+  pub read_likelihoods_are : (r : ReadLikelihoods) → LikelihoodsAre part 0 (length part) hap mask r → LikelihoodsAre rows a (get_or ends f 0) hap mask r
+  unfolding calls_between
+  read_likelihoods_are r x =
+      let same = part_rows read_there in
+      record {
+        first_is = rw same at x.first_is;
+        second_is = rw same at x.second_is;
+        first_small = omega (arith, x.first_small, part_length read_there);
+        second_small = omega (arith, x.second_small, part_length read_there);
+      }

@@ -1,5 +1,6 @@
 pub mod CallShares
 pub mod CallsHeld
+pub mod GroupRows
 pub mod HeldCases
 pub mod LikelihoodsHeld
 pub mod RunningSums

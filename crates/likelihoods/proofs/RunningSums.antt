@@ -7,8 +7,8 @@ use native.Mathlib.Nat.{add-zero, add-suc, suc-add}
 use native.Mathlib.Numerals.{add-one}
 use lib.IntN.{ℤ, pos, nat_abs, ◌+ℤ◌}
 use mir.Syntax.{w64}
-use mir.Val.{SFits, to_z, of_z}
-use Rattle.steps.proofs.Signed.{add_abs, plus_fits, plus_read}
+use mir.Val.{to_z, of_z}
+use Rattle.steps.proofs.Signed.{add_abs, plus_read}
 use Rattle.variants_and_fragments.specs.Sums.{sum_over, sum_to}
 use Rattle.variants_and_fragments.specs.Decode.{tabulate_from}
 use Rattle.variants_and_fragments.proofs.Sums.{sum_to_cong}
@@ -35,9 +35,6 @@ running_start f top = record { is = refl; small = omega arith }
 
 -- one addition of the code: the sum so far and the next term, within the next bound
 module _ (f : ℕ → ℤ) (i : ℕ) (sum term : ℤ) {top : ℕ} (top' : ℕ) (r : Running f i sum top) (e : term ≡ f i) (l : top + nat_abs term ≤ top') (h : top' < 2 ^ 63) where
-  pub running_fits : SFits w64 (to_z w64 (of_z w64 sum) +ℤ to_z w64 (of_z w64 term))
-  running_fits = plus_fits w64 sum term (omega (arith, r.small))
-
   pub running_more : Running f (i + 1) (to_z w64 (of_z w64 (to_z w64 (of_z w64 sum) +ℤ to_z w64 (of_z w64 term)))) top'
   unfolding sum_to
   running_more = rw (plus_read w64 sum term (omega (arith, r.small))) (record {

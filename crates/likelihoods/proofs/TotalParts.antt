@@ -55,17 +55,13 @@ fragment_is rows ends hap mask f r term k e = (
   rw e (mix_small r.first.0 r.second.0 _ k.first_small k.second_small),
 )
 
--- the same of the likelihoods that stand, as they are read
-pub standing_is : (lik : List ℤ) (f : ℕ) (term : ℤ) → Within (2 ^ 32) lik → term ≡ mix_of (to_z w64 (of_z w64 (get_or lik (2 * f) (pos 0)))) (to_z w64 (of_z w64 (get_or lik (2 * f + 1) (pos 0))))
+-- the same of the likelihoods that stand
+pub standing_is : (lik : List ℤ) (f : ℕ) (r : ReadLikelihoods) (term : ℤ) → Within (2 ^ 32) lik → (r.first.0 ≡ get_or lik (2 * f) (pos 0)) × (r.second.0 ≡ get_or lik (2 * f + 1) (pos 0)) → term ≡ mix_of r.first.0 r.second.0
     → (term ≡ standing_share lik f) × (nat_abs term ≤ 2 ^ 32 + 8192)
 unfolding standing_share
-standing_is lik f term h e =
-    let x = get_or lik (2 * f) (pos 0) in
-    let y = get_or lik (2 * f + 1) (pos 0) in
-    let s = h (2 * f) in
-    let t = h (2 * f + 1) in
-    let r : term ≡ mix_of x y = rw (read_small w64 x (omega arith), read_small w64 y (omega arith)) at e in
-    (r, rw r (mix_small x y (2 ^ 32) s t))
+standing_is lik f r term h is e =
+    let m : term ≡ mix_of (get_or lik (2 * f) (pos 0)) (get_or lik (2 * f + 1) (pos 0)) = rw (is.0, is.1) at e in
+    (m, rw m (mix_small _ _ (2 ^ 32) (h (2 * f)) (h (2 * f + 1))))
 
 -- ---- a variant
 module _ {n : ℕ} {ks : List ℕ} {pri : List ℤ} {hap mask : List ℕ} (k : PriorsIn n ks pri hap mask) (v : ℕ) (h : v < n) where

@@ -1,11 +1,11 @@
 // Likelihoods of the reads on the two haplotypes, from the rows by fragment.
-ghost use Rattle.std.specs.Prelude.{◌≡◌, ◌*◌, ◌<◌, ◌≤◌, nat_abs, length, get_or};
-ghost use Rattle.pileup.specs.Inner.Packed.{group_start, row_from};
+ghost use Rattle.std.specs.Prelude.{◌≡◌, ◌+◌, ◌*◌, ◌<◌, ◌≤◌, pos, nat_abs, length, get_or, set};
+ghost use Rattle.pileup.specs.Inner.Packed.{group_start, group_words, row_from};
 ghost use Rattle.sweeps.specs.Sweeps.{call_term};
 ghost use Rattle.variants_and_fragments.specs.Written.{written};
 ghost use Rattle.likelihoods.specs.Inner.Likelihoods.{CallIn, CallsIn, EndsIn, LikelihoodsAre, row_call, flagged, allele_on, call_share, likelihood_at};
 
-use pileup::piles::group_start;
+use pileup::grouped::Groups;
 use pileup::row::Row;
 use steps::LogProb;
 
@@ -16,16 +16,52 @@ pub struct ReadLikelihoods {
     pub second: LogProb,
 }
 
-// The reads' usable calls as rows, one read's after the other's, and where each read's rows end. With them two haplotypes and a flag per
-// variant: 1 where the variant counts.
+impl ReadLikelihoods {
+    // Those of read f, in a slice with two for each read.
+    pub fn at(lik: &[i64], f: usize) -> ReadLikelihoods
+        requires { 2 * f + 1 < length lik.now }
+        ensures { (result.first.0 ≡ get_or lik.now (2 * f) (pos 0)) × (result.second.0 ≡ get_or lik.now (2 * f + 1) (pos 0)) }
+    {
+        ReadLikelihoods {
+            first: LogProb(lik[2 * f]),
+            second: LogProb(lik[2 * f + 1]),
+        }
+    }
+
+    // Puts them there.
+    pub fn put(self, lik: &mut [i64], f: usize)
+        requires { 2 * f + 1 < length lik.old }
+        ensures { lik.new ≡ set (set lik.old (2 * f) self.first.0) (2 * f + 1) self.second.0 }
+    {
+        let first = self.first.0;
+        let second = self.second.0;
+        lik[2 * f] = first;
+        lik[2 * f + 1] = second;
+    }
+}
+
+// Two haplotypes, and a flag per variant: 1 where the variant counts.
 #[derive(Clone, Copy)]
-pub struct ReadRows<'a> {
-    pub rows: &'a [u64],
-    pub ends: &'a [usize],
+pub struct Haplotypes<'a> {
     pub hap: &'a [u8],
     pub mask: &'a [u8],
-    pub ghost calls_in: { CallsIn rows.now (group_start ends.now (length ends.now)) hap.now mask.now },
-    pub ghost ends_in: { EndsIn ends.now (length ends.now) },
+}
+
+// One read's usable calls as rows, and the haplotypes.
+#[derive(Clone, Copy)]
+pub struct ReadCalls<'a> {
+    pub rows: &'a [u64],
+    pub on: Haplotypes<'a>,
+    pub ghost calls_in: { CallsIn rows.now (length rows.now) on.hap.now on.mask.now },
+}
+
+// All reads' usable calls as rows, a group for each read, and the haplotypes.
+#[derive(Clone, Copy)]
+pub struct ReadRows<'a> {
+    pub rows: Groups<'a>,
+    pub on: Haplotypes<'a>,
+    pub ghost calls_in: { CallsIn rows.words.now (group_start rows.ends.now (length rows.ends.now)) on.hap.now on.mask.now },
+    pub ghost ends_in: { EndsIn rows.ends.now (length rows.ends.now) },
 }
 
 // A row's one_minus_qual where it shows the allele `own`, and its qual otherwise.
@@ -48,7 +84,7 @@ fn weighed(flag: u8, x: LogProb) -> LogProb
     LogProb(flag as i64 * x.0)
 }
 
-impl ReadRows<'_> {
+impl Haplotypes<'_> {
     // What a row's call adds to its read's likelihood on haplotype h: nothing at a variant whose flag is not 1.
     fn call_share(&self, row: Row, h: usize) -> LogProb
         requires { CallIn (row_call (row_from row)) self.now.hap.now self.now.mask.now × (h < 2) }
@@ -67,36 +103,44 @@ impl ReadRows<'_> {
         let counts = flag == 1;
         if counts { y } else { LogProb(0) }
     }
+}
 
-    // The likelihoods of read f. At the loop's head those of its rows so far are added.
-    pub fn read_likelihoods(&self, f: usize) -> ReadLikelihoods
-        requires { f < length self.now.ends.now }
-        ensures { LikelihoodsAre self.now.rows.now (group_start self.now.ends.now f) (get_or self.now.ends.now f 0) self.now.hap.now self.now.mask.now result }
+impl ReadCalls<'_> {
+    // The read's likelihoods. At the loop's head those of its rows so far are added.
+    pub fn likelihoods(&self) -> ReadLikelihoods
+        ensures { LikelihoodsAre self.now.rows.now 0 (length self.now.rows.now) self.now.on.hap.now self.now.on.mask.now result }
     {
-        let a = group_start(self.ends, f);
-        let e = self.ends[f];
-        let rows = &self.rows[a..e];
         let mut first = LogProb(0);
         let mut second = LogProb(0);
-        for word in rows {
+        for word in self.rows {
             let row = Row::unpack(*word);
-            first.0 += self.call_share(row, 0).0;
-            second.0 += self.call_share(row, 1).0;
+            first.0 += self.on.call_share(row, 0).0;
+            second.0 += self.on.call_share(row, 1).0;
         }
         ReadLikelihoods { first, second }
+    }
+}
+
+impl ReadRows<'_> {
+    // The likelihoods of read f.
+    pub fn read_likelihoods(&self, f: usize) -> ReadLikelihoods
+        requires { f < length self.now.rows.ends.now }
+        ensures { LikelihoodsAre self.now.rows.words.now (group_start self.now.rows.ends.now f) (get_or self.now.rows.ends.now f 0) self.now.on.hap.now self.now.on.mask.now result }
+    {
+        let read = ReadCalls {
+            rows: self.rows.group(f),
+            on: self.on,
+        };
+        read.likelihoods()
     }
 
     // Writes the two likelihoods of each read. At the loop's head those of the first f are written.
     pub fn write_likelihoods(&self, lik: &mut [i64])
-        requires { 2 * length self.now.ends.now ≤ length lik.old }
-        ensures { lik.new ≡ written (likelihood_at self.now.rows.now self.now.ends.now self.now.hap.now self.now.mask.now) (2 * length self.now.ends.now) lik.old }
+        requires { 2 * length self.now.rows.ends.now ≤ length lik.old }
+        ensures { lik.new ≡ written (likelihood_at self.now.rows.words.now self.now.rows.ends.now self.now.on.hap.now self.now.on.mask.now) (2 * length self.now.rows.ends.now) lik.old }
     {
-        for f in 0..self.ends.len() {
-            let r = self.read_likelihoods(f);
-            let x = r.first.0;
-            let y = r.second.0;
-            lik[2 * f] = x;
-            lik[2 * f + 1] = y;
+        for f in 0..self.rows.ends.len() {
+            self.read_likelihoods(f).put(lik, f);
         }
     }
 }

@@ -8,31 +8,30 @@ ghost use Rattle.likelihoods.specs.Inner.Likelihoods.{flagged};
 ghost use Rattle.likelihoods.specs.Inner.Held.{Within};
 ghost use Rattle.likelihoods.specs.Inner.Totals.{PriorsIn, held_case, prior_share, fragment_share, standing_share, standing_total};
 
-use crate::likelihoods::{ReadLikelihoods, ReadRows};
+use crate::likelihoods::{Haplotypes, ReadLikelihoods, ReadRows};
 use steps::LogProb;
 use steps::one_plus::ln_one_plus_exp;
 
-// Each variant's number of alleles and its nine priors. With them two haplotypes and a flag per variant: 1 where the variant counts.
+// Each variant's number of alleles and its nine priors, and the haplotypes.
 #[derive(Clone, Copy)]
 pub struct PairPriors<'a> {
     pub ks: &'a [u8],
     pub pri: &'a [i64],
-    pub hap: &'a [u8],
-    pub mask: &'a [u8],
-    pub ghost priors_in: { PriorsIn (length ks.now) ks.now pri.now hap.now mask.now },
+    pub on: Haplotypes<'a>,
+    pub ghost priors_in: { PriorsIn (length ks.now) ks.now pri.now on.hap.now on.mask.now },
 }
 
 impl PairPriors<'_> {
     // What variant v adds: the prior of its pair where its flag is 1.
     fn share(&self, v: usize) -> LogProb
         requires { v < length self.now.ks.now }
-        ensures { (result.0 ≡ prior_share self.now.ks.now self.now.pri.now self.now.hap.now self.now.mask.now v) × (nat_abs result.0 ≤ 2 ^ 21) }
+        ensures { (result.0 ≡ prior_share self.now.ks.now self.now.pri.now self.now.on.hap.now self.now.on.mask.now v) × (nat_abs result.0 ≤ 2 ^ 21) }
     {
-        let counts = self.mask[v] == 1;
+        let counts = self.on.mask[v] == 1;
         if counts {
             let k = self.ks[v] as usize;
-            let i = self.hap[2 * v] as usize;
-            let j = self.hap[2 * v + 1] as usize;
+            let i = self.on.hap[2 * v] as usize;
+            let j = self.on.hap[2 * v + 1] as usize;
             return LogProb(self.pri[9 * v + (i * k + j)]);
         }
         LogProb(0)
@@ -40,7 +39,7 @@ impl PairPriors<'_> {
 
     // The priors of all variants. At the loop's head those of the first v are added.
     fn total(&self) -> LogProb
-        ensures { (result.0 ≡ sum_to (length self.now.ks.now) (prior_share self.now.ks.now self.now.pri.now self.now.hap.now self.now.mask.now)) × (nat_abs result.0 ≤ 2 ^ 39) }
+        ensures { (result.0 ≡ sum_to (length self.now.ks.now) (prior_share self.now.ks.now self.now.pri.now self.now.on.hap.now self.now.on.mask.now)) × (nat_abs result.0 ≤ 2 ^ 39) }
     {
         let mut sum = LogProb(0);
         for v in 0..self.ks.len() {
@@ -60,13 +59,14 @@ fn mixed(r: ReadLikelihoods) -> LogProb
     LogProb(r.second.0 - 4096 + rise)
 }
 
-// The mixed likelihoods of the reads. At the loop's head those of the first f are added.
+// The mixed likelihoods of the reads. At the loop's head those of the first f are added. `mixes_total` is no plainer with this loop in common: all rows
+// together keep this sum within 2^39, and a loop over any reads' likelihoods knows no more than the range of each.
 fn fragments_total(reads: &ReadRows<'_>) -> LogProb
-    requires { length reads.now.ends.now ≤ 4096 }
-    ensures { (result.0 ≡ sum_to (length reads.now.ends.now) (fragment_share reads.now.rows.now reads.now.ends.now reads.now.hap.now reads.now.mask.now)) × (nat_abs result.0 ≤ 2 ^ 39) }
+    requires { length reads.now.rows.ends.now ≤ 4096 }
+    ensures { (result.0 ≡ sum_to (length reads.now.rows.ends.now) (fragment_share reads.now.rows.words.now reads.now.rows.ends.now reads.now.on.hap.now reads.now.on.mask.now)) × (nat_abs result.0 ≤ 2 ^ 39) }
 {
     let mut sum = LogProb(0);
-    for f in 0..reads.ends.len() {
+    for f in 0..reads.rows.ends.len() {
         sum.0 += mixed(reads.read_likelihoods(f)).0;
     }
     sum
@@ -74,9 +74,9 @@ fn fragments_total(reads: &ReadRows<'_>) -> LogProb
 
 // The total of the haplotypes over the flagged variants: their priors plus, per read, its mixed likelihoods.
 pub fn total(priors: &PairPriors<'_>, reads: &ReadRows<'_>) -> LogProb
-    requires few { length reads.now.ends.now ≤ 4096 }
-    requires same { (reads.now.hap.now ≡ priors.now.hap.now) × (reads.now.mask.now ≡ priors.now.mask.now) }
-    ensures { (result.0 ≡ total_of (held_case (length priors.now.ks.now) (length reads.now.ends.now) priors.now.ks.now priors.now.pri.now reads.now.rows.now reads.now.ends.now priors.now.mask.now) (flagged priors.now.mask.now) priors.now.hap.now) × (nat_abs result.0 ≤ 2 ^ 40) }
+    requires few { length reads.now.rows.ends.now ≤ 4096 }
+    requires same { (reads.now.on.hap.now ≡ priors.now.on.hap.now) × (reads.now.on.mask.now ≡ priors.now.on.mask.now) }
+    ensures { (result.0 ≡ total_of (held_case (length priors.now.ks.now) (length reads.now.rows.ends.now) priors.now.ks.now priors.now.pri.now reads.now.rows.words.now reads.now.rows.ends.now priors.now.on.mask.now) (flagged priors.now.on.mask.now) priors.now.on.hap.now) × (nat_abs result.0 ≤ 2 ^ 40) }
 {
     let x = priors.total();
     let y = fragments_total(reads);
@@ -90,11 +90,7 @@ fn mixes_total(lik: &[i64]) -> LogProb
 {
     let mut sum = LogProb(0);
     for f in 0..lik.len() / 2 {
-        let r = ReadLikelihoods {
-            first: LogProb(lik[2 * f]),
-            second: LogProb(lik[2 * f + 1]),
-        };
-        sum.0 += mixed(r).0;
+        sum.0 += mixed(ReadLikelihoods::at(lik, f)).0;
     }
     sum
 }
@@ -102,7 +98,7 @@ fn mixes_total(lik: &[i64]) -> LogProb
 // The total over the flagged variants, of the likelihoods that stand: their priors plus, per read, its mixed likelihoods.
 pub fn standing_total(priors: &PairPriors<'_>, lik: &[i64]) -> LogProb
     requires { (length lik.now ≤ 8192) × Within (2 ^ 32) lik.now }
-    ensures { result.0 ≡ standing_total (length priors.now.ks.now) (length lik.now / 2) priors.now.ks.now priors.now.pri.now lik.now priors.now.hap.now priors.now.mask.now }
+    ensures { result.0 ≡ standing_total (length priors.now.ks.now) (length lik.now / 2) priors.now.ks.now priors.now.pri.now lik.now priors.now.on.hap.now priors.now.on.mask.now }
 {
     let x = priors.total();
     let y = mixes_total(lik);

@@ -21,7 +21,7 @@ overflow_add-sum c =
     let s = c.args.reads.now in
     let few = read_few s.calls_in s.ends_in c.loop-f.f c.loop-f-test.true in
     let rise = read_rises s.calls_in s.ends_in c.loop-f.f c.loop-f-test.true in
-    let k = fragment_is s.rows.now s.ends.now s.hap.now s.mask.now c.loop-f.f _ _ c.read_likelihoods.ensures c.mixed.ensures in
+    let k = fragment_is s.rows.words.now s.rows.ends.now s.on.hap.now s.on.mask.now c.loop-f.f _ _ c.read_likelihoods.ensures c.mixed.ensures in
     plus_fits w64 c.loop-f.sum.0 c.mixed.result.0 (omega (arith, k.1, c.loop-f.invariant.small, c.requires))
 
 pub loop-f-preserved : goal.loop-f-preserved
@@ -29,5 +29,5 @@ loop-f-preserved c =
     let s = c.args.reads.now in
     let few = read_few s.calls_in s.ends_in c.loop-f.f c.loop-f-test.true in
     let rise = read_rises s.calls_in s.ends_in c.loop-f.f c.loop-f-test.true in
-    let k = fragment_is s.rows.now s.ends.now s.hap.now s.mask.now c.loop-f.f _ _ c.read_likelihoods.ensures c.mixed.ensures in
-    running_more _ _ _ _ _ c.loop-f.invariant k.0 (omega (arith, k.1, start_next s.ends.now c.loop-f.f)) (omega (arith, start_next s.ends.now c.loop-f.f, c.requires))
+    let k = fragment_is s.rows.words.now s.rows.ends.now s.on.hap.now s.on.mask.now c.loop-f.f _ _ c.read_likelihoods.ensures c.mixed.ensures in
+    running_more _ _ _ _ _ c.loop-f.invariant k.0 (omega (arith, k.1, start_next s.rows.ends.now c.loop-f.f)) (omega (arith, start_next s.rows.ends.now c.loop-f.f, c.requires))

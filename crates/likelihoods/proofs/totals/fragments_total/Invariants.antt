@@ -6,4 +6,4 @@ use Rattle.likelihoods.proofs.RunningSums.{Running}
 use Rattle.likelihoods.proofs.totals.fragments_total.Given as goal
 
 abbrev pub invariant-loop-f : goal.invariant-loop-f
-invariant-loop-f l = Running (fragment_share l.reads.rows.now l.reads.ends.now l.reads.hap.now l.reads.mask.now) l.f l.sum.0 (262144 * group_start l.reads.ends.now l.f + 8192 * l.f)
+invariant-loop-f l = Running (fragment_share l.reads.rows.words.now l.reads.rows.ends.now l.reads.on.hap.now l.reads.on.mask.now) l.f l.sum.0 (262144 * group_start l.reads.rows.ends.now l.f + 8192 * l.f)

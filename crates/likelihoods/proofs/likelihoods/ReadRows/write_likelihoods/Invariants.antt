@@ -5,4 +5,4 @@ use Rattle.likelihoods.specs.Inner.Likelihoods.{likelihood_at}
 use Rattle.likelihoods.proofs.likelihoods.ReadRows.write_likelihoods.Given as goal
 
 abbrev pub invariant-loop-f : goal.invariant-loop-f
-invariant-loop-f l = l.lik ≡ written (likelihood_at l.self.rows.now l.self.ends.now l.self.hap.now l.self.mask.now) (2 * l.f) l.fn.lik
+invariant-loop-f l = l.lik ≡ written (likelihood_at l.self.rows.words.now l.self.rows.ends.now l.self.on.hap.now l.self.on.mask.now) (2 * l.f) l.fn.lik

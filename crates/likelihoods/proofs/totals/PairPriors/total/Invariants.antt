@@ -5,4 +5,4 @@ use Rattle.likelihoods.proofs.RunningSums.{Running}
 use Rattle.likelihoods.proofs.totals.PairPriors.total.Given as goal
 
 abbrev pub invariant-loop-v : goal.invariant-loop-v
-invariant-loop-v l = Running (prior_share l.self.ks.now l.self.pri.now l.self.hap.now l.self.mask.now) l.v l.sum.0 (2 ^ 21 * l.v)
+invariant-loop-v l = Running (prior_share l.self.ks.now l.self.pri.now l.self.on.hap.now l.self.on.mask.now) l.v l.sum.0 (2 ^ 21 * l.v)

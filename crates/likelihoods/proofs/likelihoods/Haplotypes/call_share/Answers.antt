@@ -1,7 +1,7 @@
 -- A call whose flag is 1 adds its term, another one nothing. Assumes nothing.
 use Rattle.std.proofs.Common.{◌≡◌, get_or, arith}
 use Rattle.likelihoods.proofs.CallShares.{share_counted, share_left_out}
-use Rattle.likelihoods.proofs.likelihoods.ReadRows.call_share.Goals as goal
+use Rattle.likelihoods.proofs.likelihoods.Haplotypes.call_share.Goals as goal
 
 pub returns-then-counts : goal.returns-then-counts
 returns-then-counts c =
