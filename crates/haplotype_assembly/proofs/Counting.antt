@@ -2,7 +2,7 @@
 -- Assumes nothing.
 use mathlib.Core.Path.{◌≡◌, ap}
 use mathlib.Core.Bool.{Bool, true, false}
-use mathlib.Core.List.{List, [], ◌++◌}
+use mathlib.Core.List.{[], ◌++◌}
 use Prim.Native.Nat.{ℕ, ◌+◌, ◌*◌, ◌-◌, ◌≤◌, ◌<◌}
 use native.Mathlib.Omega.{arith}
 use lib.ListN.{length, length-append}
@@ -12,7 +12,7 @@ use Rattle.haplotype_assembly.specs.declared.Counted.{Counted}
 use Rattle.haplotype_assembly.specs.declared.tally.Tally.{Tally}
 use Rattle.haplotype_assembly.specs.Lines.{decimal, has_line}
 use Rattle.haplotype_assembly.specs.Inner.LinesRead.{fragment_line, has_one, lines_over, lines_count, Tallied, SmallTally, CountedOn, LinesCounted}
-use Rattle.haplotype_assembly.proofs.Cited.{table_start, table_more, table_end}
+use Rattle.haplotype_assembly.proofs.Cited.{table_more, table_end}
 use Rattle.haplotype_assembly.proofs.Pieces.{line_none, one_none, line_some, one_some, line_count, line_top, one_top}
 
 module _ (n : ℕ) (single : Bool) (g : ℕ → Fragment) (m f : ℕ) where
@@ -55,14 +55,6 @@ pub record CountedTo (n : ℕ) (single : Bool) (g : ℕ → Fragment) (m f : ℕ
   pub bytes_top : c.bytes ≤ 33554432 * f
   pub bytes_left : c.bytes + length (lines_over n single c.lines (tabulate_from g f (m - f))) ≡ length (lines_over n single 0 (tabulate m g))
   pub lines_left : c.lines + lines_count single (tabulate_from g f (m - f)) ≡ lines_count single (tabulate m g)
-
-pub counted_start : (n : ℕ) (single : Bool) (g : ℕ → Fragment) (m : ℕ) → CountedTo n single g m 0 (record { bytes = 0; lines = 0 })
-counted_start n single g m = record {
-  lines_top = omega arith;
-  bytes_top = omega arith;
-  bytes_left = omega (arith, ap (λ (xs : List Fragment). length (lines_over n single 0 xs)) (table_start g m));
-  lines_left = omega (arith, ap (lines_count single) (table_start g m));
-}
 
 module _ {n : ℕ} {single : Bool} {g : ℕ → Fragment} {m f : ℕ} {c : Counted} (i : CountedTo n single g m f c) where
   pub counted_on : f < m → (d : Counted) → CountedOn n single (g f) c d → CountedTo n single g m (f + 1) d

@@ -1,17 +1,21 @@
--- Decimal numbers: the digits of n are those of n / 10 and the last.
+-- Decimal numbers: the digits of n are those of n / 10 and the last, and what std writes for n.
 -- Assumes nothing.
-use mathlib.Core.Path.{◌≡◌, refl, sym, ap, ◌∙◌}
+use mathlib.Core.Path.{◌≡◌, sym, ap, ◌∙◌}
 use mathlib.Core.Bool.{Bool, true, false, cond}
-use mathlib.Core.List.{List, [], ◌∷◌, ◌++◌, append_assoc, append-nil}
-use Prim.Native.Nat.{ℕ, zero, suc, ◌+◌, ◌-◌, ◌/◌, ◌%◌, ◌≤◌, ◌<◌}
+use mathlib.Core.List.{List, [], ◌∷◌, ◌++◌, append_assoc}
+use Prim.Native.Nat.{ℕ, zero, suc, ◌+◌, ◌*◌, ◌/◌, ◌%◌, ◌^◌, ◌≤◌, ◌<◌}
 use native.Mathlib.Omega.{arith}
 use native.Mathlib.Decide.{dec_lt}
 use borrow.Author.Tests.{lt-ltb, le-ltb}
 use lib.Dec.{ltb}
-use lib.ListN.{length, set, length-append}
-use lib.Seq.{sets}
+use lib.ListN.{length, take, drop, length-append}
+use native.Mathlib.Nat.{pow-succ'}
+use Rattle.std.proofs.lemmas.Fmt.{decimal_digit, decimal_step}
+use Rattle.std.proofs.lemmas.List.{take-append-drop}
+use Rattle.std.proofs.lemmas.List.Edits.{sets-eq}
+use Rattle.std.specs.Fmt.{decimal as text}
 use Rattle.haplotype_assembly.specs.Lines.{digit, decimal_from, decimal}
-use Rattle.haplotype_assembly.proofs.Stores.{sets_before}
+use Rattle.haplotype_assembly.specs.Inner.LinesRead.{Put}
 
 same_turns : (j k n : ℕ) → n < j → n < k → decimal_from j n ≡ decimal_from k n
 unfolding decimal_from
@@ -50,61 +54,35 @@ pub decimal_top : (n : ℕ) → length (decimal n) ≤ n + 1
 unfolding decimal
 decimal_top n = omega (arith, turns_top (suc n) n)
 
-pub decimal_some : (n : ℕ) → 1 ≤ length (decimal n)
-decimal_some n = elim (dec_lt n 10) [ yes h ↦ omega (arith, small_length n h) | no h ↦ omega (arith, large_length n (omega arith)) ]
+ten_some : (k : ℕ) → 1 ≤ 10 ^ k
+ten_some zero = omega arith
+ten_some (suc k) = let e : 10 ^ suc k ≡ 10 * 10 ^ k = pow-succ' 10 k in omega (arith, ten_some k)
 
--- ---- a number written from its end
--- the last k digits of m
-unfoldable pub last_digits : ℕ → ℕ → List ℕ
-last_digits zero m = []
-last_digits (suc k) m = last_digits k (m / 10) ++ (digit (m % 10) ∷ [])
+-- as many as the powers of ten that it reaches
+pub digits_are : (k n : ℕ) → 10 ^ k ≤ n → n < 10 * 10 ^ k → length (decimal n) ≡ k + 1
+digits_are zero n lo hi = small_length n (omega arith)
+digits_are (suc k) n lo hi =
+    let e : 10 ^ suc k ≡ 10 * 10 ^ k = pow-succ' 10 k in
+    let p = ten_some k in
+    omega (arith, large_length n (omega arith), digits_are k (n / 10) (omega arith) (omega arith))
 
-all_digits : (turns n : ℕ) → last_digits (length (decimal_from turns n)) n ≡ decimal_from turns n
-unfolding decimal_from last_digits
-all_digits zero n = refl
-all_digits (suc turns) n = go (ltb n 10) (all_digits turns (n / 10))
-  where
-    last : List ℕ
-    last = digit (n % 10) ∷ []
+-- ---- what std writes for a number is its decimal
+std_from : (k n : ℕ) → n < k → n < 2 ^ 64 → text n ≡ decimal n
+std_from zero n l h = absurd (omega arith)
+std_from (suc k) n l h = elim (dec_lt n 10) [
+  | yes s ↦ decimal_digit n s ∙ sym (decimal_small n s)
+  | no s ↦ decimal_step n (omega arith) h ∙ ap (λ (ds : List ℕ). ds ++ (digit (n % 10) ∷ [])) (std_from k (n / 10) (omega arith) (omega arith)) ∙ sym (decimal_large n (omega arith))
+]
 
-    go : (t : Bool) → last_digits (length (decimal_from turns (n / 10))) (n / 10) ≡ decimal_from turns (n / 10)
-        → last_digits (length (cond t [] (decimal_from turns (n / 10)) ++ last)) n ≡ cond t [] (decimal_from turns (n / 10)) ++ last
-    go true h = refl
-    go false h =
-        let e : length (decimal_from turns (n / 10) ++ last) ≡ suc (length (decimal_from turns (n / 10))) = omega (arith, length-append (decimal_from turns (n / 10)) last) in
-        rw (e, h)
+pub std_is : (n : ℕ) → n < 2 ^ 64 → text n ≡ decimal n
+std_is n h = std_from (suc n) n (omega arith) h
 
--- the digits before i are left, the last i - at of m, and those from i on are stored
-pub record Left (n at : ℕ) (before after : List ℕ) (i m : ℕ) : Type 0 where
-  pub from : at ≤ i
-  pub rest : List ℕ
-  pub whole : decimal n ≡ last_digits (i - at) m ++ rest
-  pub stored : after ≡ sets before i rest
-
-pub left_all : (n at : ℕ) (before : List ℕ) (count : ℕ) → count ≡ length (decimal n) → Left n at before before (at + count) n
-unfolding decimal
-left_all n at before count e = record {
-  from = omega arith;
-  rest = [];
-  whole = let k : at + count - at ≡ length (decimal n) = omega (arith, e) in sym (append-nil _ ∙ ap (λ (x : ℕ). last_digits x n) k ∙ all_digits (suc n) n);
-  stored = refl;
-}
-
-pub left_on : {n at : ℕ} {before after : List ℕ} {i m : ℕ} → Left n at before after i m → at < i → Left n at before (set after (i - 1) (digit (m % 10))) (i - 1) (m / 10)
-unfolding last_digits
-left_on {n} {at} {before} {after} {i} {m} l h =
-    let k : i - at ≡ suc (i - 1 - at) = omega arith in
-    let j : i ≡ suc (i - 1) = omega arith in
+-- a text that ends at `end`, in place of as many bytes
+pub put_text : {before after : List ℕ} {at end : ℕ} {xs ys : List ℕ} (start : ℕ) → ys ≡ xs → at + length xs ≤ length before → end ≡ at + length xs
+    → start + length ys ≡ end → take start after ≡ take start before → drop start after ≡ ys ++ drop end before → Put before after at end xs
+put_text {before} {after} {at} {end} {xs} {ys} start same room last long head tail =
+    let e : start ≡ at = omega (arith, long, last, ap length same) in
     record {
-      from = omega arith;
-      rest = digit (m % 10) ∷ l.rest;
-      whole = l.whole ∙ ap (λ (x : ℕ). last_digits x m ++ l.rest) k ∙ append_assoc (last_digits (i - 1 - at) (m / 10)) (digit (m % 10) ∷ []) l.rest;
-      stored = ap (λ (x : List ℕ). set x (i - 1) (digit (m % 10))) (l.stored ∙ ap (λ (x : ℕ). sets before x l.rest) j) ∙ sets_before before (i - 1) (digit (m % 10)) l.rest;
+      stored = sym (take-append-drop start after) ∙ rw (head, tail, same, last, e) (sym (append_assoc (take at before) xs _) ∙ sym (sets-eq xs before at room));
+      end_is = last;
     }
-
-pub left_end : {n at : ℕ} {before after : List ℕ} {i m : ℕ} → Left n at before after i m → i ≤ at → after ≡ sets before at (decimal n)
-unfolding last_digits
-left_end {n} {at} {before} {after} {i} {m} l h =
-    let k : i - at ≡ 0 = omega arith in
-    let e : i ≡ at = omega (arith, l.from) in
-    l.stored ∙ rw e (ap (λ (x : List ℕ). sets before at x) (sym (l.whole ∙ ap (λ (x : ℕ). last_digits x m ++ l.rest) k)))

@@ -1,26 +1,19 @@
 -- A loop that puts bytes piece by piece: what is put, and what is left to put, make the whole.
 -- Assumes nothing.
-use mathlib.Core.Path.{◌≡◌, refl, sym, ap, ◌∙◌}
+use mathlib.Core.Path.{◌≡◌, sym, ap, ◌∙◌}
 use mathlib.Core.List.{List, [], ◌++◌, append_assoc, append-nil}
 use Prim.Native.Nat.{ℕ, ◌+◌, ◌≤◌}
 use native.Mathlib.Omega.{arith}
 use lib.ListN.{length, length-append}
 use Rattle.haplotype_assembly.specs.Inner.LinesRead.{Put}
-use Rattle.haplotype_assembly.proofs.Stores.{put_none, put_on, put_as, put_length}
+use Rattle.haplotype_assembly.proofs.Stores.{put_on, put_as, put_length}
 
 pub record Gathered (whole left before after : List ℕ) (at end : ℕ) : Type 0 where
   pub done : List ℕ
   pub whole_is : done ++ left ≡ whole
   pub put : Put before after at end done
 
-pub gather_start : (whole before : List ℕ) (at : ℕ) → Gathered whole whole before before at at
-gather_start whole before at = record { done = []; whole_is = refl; put = put_none before at }
-
 module _ {whole left before after : List ℕ} {at end : ℕ} (g : Gathered whole left before after at end) where
-  -- the same left, said otherwise
-  pub gather_as : {rest : List ℕ} → left ≡ rest → Gathered whole rest before after at end
-  gather_as e = rw e at g
-
   pub gather_length : length after ≡ length before
   gather_length = put_length g.put
 

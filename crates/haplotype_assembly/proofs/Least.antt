@@ -1,4 +1,5 @@
 -- A set's name is its least pos0 + 1, over all variants with that set, as 01 says: it is one of theirs, and none is less.
+-- A law of the definition, which no other proof needs.
 -- Assumes nothing.
 use mathlib.Core.Path.{◌≡◌, refl, sym, ◌∙◌}
 use mathlib.Core.Bool.{Bool, true, false, cond}

@@ -2,24 +2,16 @@
 -- Assumes nothing.
 use mathlib.Core.Path.{◌≡◌, refl, sym, ap, ◌∙◌}
 use mathlib.Core.List.{List, [], ◌∷◌, ◌++◌}
-use Prim.Native.Nat.{ℕ, suc, ◌+◌, ◌<◌}
+use Prim.Native.Nat.{ℕ, suc, ◌+◌}
 use native.Mathlib.Omega.{arith}
 use lib.ListN.{length, set, length-append}
-use lib.Seq.{sets, set_comm, length-sets}
+use lib.Seq.{sets, length-sets}
 use Rattle.haplotype_assembly.specs.Inner.LinesRead.{Put}
 
 -- a list stored after another
 pub sets_append : (l : List ℕ) (i : ℕ) (xs ys : List ℕ) → sets l i (xs ++ ys) ≡ sets (sets l i xs) (i + length xs) ys
 sets_append l i [] ys = let e : i + 0 ≡ i = omega arith in rw e
 sets_append l i (x ∷ xs) ys = let e : i + suc (length xs) ≡ suc i + length xs = omega arith in rw e (sets_append (set l i x) (suc i) xs ys)
-
--- a store before those of a list
-set_first : (l : List ℕ) (i j : ℕ) (x : ℕ) (xs : List ℕ) → i < j → set (sets l j xs) i x ≡ sets (set l i x) j xs
-set_first l i j x [] h = refl
-set_first l i j x (y ∷ ys) h = set_first (set l j y) i (suc j) x ys (omega arith) ∙ ap (λ (k : List ℕ). sets k (suc j) ys) (set_comm l j i y x (λ e. omega arith))
-
-pub sets_before : (l : List ℕ) (i x : ℕ) (xs : List ℕ) → set (sets l (suc i) xs) i x ≡ sets l i (x ∷ xs)
-sets_before l i x xs = set_first l i (suc i) x xs (omega arith)
 
 -- ---- bytes put one after the other
 pub put_none : (l : List ℕ) (at : ℕ) → Put l l at at []

@@ -17,9 +17,6 @@ use Rattle.haplotype_assembly.specs.Inner.LinesRead.{tally_step, Tallied, SmallT
 use Rattle.haplotype_assembly.proofs.Pieces.{start_same, new_length, start_top}
 use Rattle.haplotype_assembly.proofs.Shown.{all_first}
 
-abbrev pub no_tally : ℕ → Tally
-no_tally n = record { calls = 0; blocks = 0; bytes = 0; next = n }
-
 -- ---- one call more
 module _ (t : Tally) (v : ℕ) where
   pub tally_same : v ≡ t.next → record { calls = t.calls + 1; blocks = t.blocks; bytes = t.bytes + 1; next = v + 1 } ≡ tally_step t v
@@ -74,13 +71,6 @@ pub record Tallying (n : ℕ) (all left : List Call) (t : Tally) : Type 0 where
   pub left_over : TallyLeft n all left t
   pub small : Small t
   pub left_in : All ShownIn left
-
-pub tallying_start : (n : ℕ) (all : List Call) → All ShownIn all → Tallying n all all (no_tally n)
-tallying_start n all h = record {
-  left_over = record { calls_left = omega arith; blocks_left = omega arith; bytes_left = omega arith };
-  small = record { blocks_top = omega arith; bytes_top = omega arith };
-  left_in = h;
-}
 
 module _ {n : ℕ} {all left : List Call} {t : Tally} (i : Tallying n all left t) where
   pub tallying_small : length all ≤ 16384 → SmallTally t 16384

@@ -110,12 +110,10 @@ pub fn check_phase(n: usize, phase: &[u8], sets: &[i32]) -> Result<(), Refusal>
     if phase.len() != n || sets.len() != n {
         return Err(Refusal::Phase(n));
     }
-    for (v, set) in sets.iter().enumerate() {
-        if !set_ok(*set, n) {
-            return Err(Refusal::Phase(v));
-        }
+    match sets.iter().position(|set| !set_ok(*set, n)) {
+        Some(v) => Err(Refusal::Phase(v)),
+        None => Ok(()),
     }
-    Ok(())
 }
 
 // ---- set names

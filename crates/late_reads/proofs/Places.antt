@@ -2,7 +2,7 @@
 -- its quotient and remainder by 10; here the two are tied, once. So `count_call` adds d just where the call counts, and `call_fits` says that
 -- what stands there would be in range with d more.
 -- Assumes nothing.
-use mathlib.Core.Path.{◌≡◌, refl, ap, ◌∙◌}
+use mathlib.Core.Path.{◌≡◌, refl, sym, ap, ◌∙◌}
 use mathlib.Core.Bool.{Bool, true, false, cond, ◌&&◌, ◌||◌}
 use mathlib.Core.Logic.{◌⊎◌, inl, inr, ⊎_elim}
 use mathlib.Core.List.{List}
@@ -23,7 +23,8 @@ use Rattle.variants_and_fragments.proofs.Bools.{both}
 use Rattle.variants_and_fragments.proofs.Ranges.{within_top}
 use Rattle.late_reads.specs.declared.counts.CountedCall.{CountedCall}
 use Rattle.late_reads.specs.Values.{max_count, counted}
-use Rattle.late_reads.specs.Inner.Counting.{add_at, allele_place, strand_place, ambiguous_place, count_call, fits_at, call_fits, CountsIn, Countable, counted_call}
+use Rattle.std.proofs.Common.{Option, None, Some}
+use Rattle.late_reads.specs.Inner.Counting.{places, add_at, allele_place, strand_place, ambiguous_place, count_call, fits_at, call_fits, CountsIn, Countable, counted_call}
 
 -- a call of read x counts at element e
 abbrev pub counts_at : ℤ → Fragment → ℕ → Call → Bool
@@ -48,6 +49,12 @@ module _ {counts : List ℤ} {e : ℕ} {d : ℤ} (c : CountsIn counts e d) where
   pub sum_read : to_z w32 (of_z w32 (to_z w32 (of_z w32 (get_or counts e (pos 0))) +ℤ to_z w32 (of_z w32 d))) ≡ get_or counts e (pos 0) +ℤ d
   sum_read = plus_read w32 (get_or counts e (pos 0)) d small
 
+some_none : {e : ℕ} → Some e ≡ None → ⊥
+some_none q = cc
+
+some_is : {e k : ℕ} → Some e ≡ Some k → e ≡ k
+some_is q = cc
+
 added_same : (d : ℤ) (e : ℕ) (counts : List ℤ) → e < length counts → get_or (add_at d e counts) e (pos 0) ≡ get_or counts e (pos 0) +ℤ d
 added_same d e counts h = get_or-set_same counts e (get_or counts e (pos 0) +ℤ d) (pos 0) h
 
@@ -58,20 +65,65 @@ pub count_length : (d : ℤ) (strand : ℕ) (call : CountedCall) (counts : List 
 unfolding count_call
 count_length d strand call counts = by_test call.usable (λ u. rw u (simp length-set)) (λ u. rw u (simp length-set))
 
--- ---- the places of a call that may be counted
-module _ {counts : List ℤ} {d : ℤ} {call : CountedCall} (c : Countable counts d call) where
-  pub at_strand : (strand : ℕ) → CountsIn counts (strand_place strand call) d
-  at_strand strand =
-      let e : 10 * call.variant + (3 * (1 + direction strand) + call.allele) ≡ strand_place strand call = omega arith in
-      rw e at (c.each_in (3 * (1 + direction strand) + call.allele) (omega (arith, c.allele_in)))
+-- ---- the places of a call
+module _ (strand : ℕ) (call : CountedCall) {p : ℕ × Option ℕ} (is : p ≡ places strand call) where
+  one_place : p.1 ≡ None → (call.usable ≡ false) × (p.0 ≡ ambiguous_place call)
+  unfolding places
+  one_place none =
+      by_test call.usable
+      (λ u. let q : Some (strand_place strand call) ≡ None = sym (ap (λ (x : ℕ × Option ℕ). x.1) (rw u at is)) ∙ none in absurd (some_none q))
+      (λ u. (u, ap (λ (x : ℕ × Option ℕ). x.0) (rw u at is)))
 
-  -- the first store leaves the second place as it is
-  pub at_strand_next : (strand : ℕ) → CountsIn (add_at d (allele_place call) counts) (strand_place strand call) d
-  at_strand_next strand = record {
-    there = rw length-set (at_strand strand).there;
-    ranged = rw (added_other d (allele_place call) (strand_place strand call) counts (λ e. omega (arith, c.allele_in))) (at_strand strand).ranged;
-    one = (at_strand strand).one;
-  }
+  module _ {e : ℕ} (some : p.1 ≡ Some e) where
+    two_places : (call.usable ≡ true) × (p.0 ≡ allele_place call) × (e ≡ strand_place strand call)
+    unfolding places
+    two_places =
+        by_test call.usable
+        (λ u.
+        let q : Some e ≡ Some (strand_place strand call) = sym some ∙ ap (λ (x : ℕ × Option ℕ). x.1) (rw u at is) in
+        (u, ap (λ (x : ℕ × Option ℕ). x.0) (rw u at is), some_is q))
+        (λ u. let q : Some e ≡ None = sym some ∙ ap (λ (x : ℕ × Option ℕ). x.1) (rw u at is) in absurd (some_none q))
+
+    pub fits_two : (d : ℤ) (counts : List ℤ) → fits_at d p.0 counts && fits_at d e counts ≡ call_fits d strand call counts
+    unfolding call_fits
+    fits_two d counts = let t = two_places in rw (t.0, t.1, t.2)
+
+    pub counted_two : (d : ℤ) (counts : List ℤ) → add_at d e (add_at d p.0 counts) ≡ count_call d strand call counts
+    unfolding count_call
+    counted_two d counts = let t = two_places in rw (t.0, t.1, t.2)
+
+  pub fits_one : p.1 ≡ None → (d : ℤ) (counts : List ℤ) → fits_at d p.0 counts ≡ call_fits d strand call counts
+  unfolding call_fits
+  fits_one none d counts = let t = one_place none in rw (t.0, t.1)
+
+  pub counted_one : p.1 ≡ None → (d : ℤ) (counts : List ℤ) → add_at d p.0 counts ≡ count_call d strand call counts
+  unfolding count_call
+  counted_one none d counts = let t = one_place none in rw (t.0, t.1)
+
+  -- they may be counted
+  module _ {counts : List ℤ} {d : ℤ} (c : Countable counts d call) where
+    pub first_at : CountsIn counts p.0 d
+    unfolding places
+    first_at =
+        by_test call.usable
+        (λ u. rw (rw u at is) (c.each_in call.allele (omega (arith, c.allele_in))))
+        (λ u. rw (rw u at is) (c.each_in 9 (omega arith)))
+
+    module _ {e : ℕ} (some : p.1 ≡ Some e) where
+      pub second_at : CountsIn counts e d
+      second_at =
+          let k : 10 * call.variant + (3 * (1 + direction strand) + call.allele) ≡ e = omega (arith, (two_places some).2) in
+          rw k at (c.each_in (3 * (1 + direction strand) + call.allele) (omega (arith, c.allele_in)))
+
+      -- the first store leaves the second place as it is
+      pub second_next : CountsIn (add_at d p.0 counts) e d
+      second_next =
+          let t = two_places some in
+          record {
+            there = rw length-set second_at.there;
+            ranged = rw (added_other d p.0 e counts (λ q. omega (arith, c.allele_in, t.1, t.2))) second_at.ranged;
+            one = second_at.one;
+          }
 
 -- ---- where a call of read x counts
 module _ (cutoff : ℤ) (x : Fragment) (call : Call) (three : call.allele < 3) where

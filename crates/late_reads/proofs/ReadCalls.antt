@@ -1,19 +1,21 @@
 -- The calls of a read that arrives, past its tests, and those of an accepted case's fragment: their variants rise and are the case's. What is left of
 -- arriving calls is the rest of a table, and what the code holds of either read stands for the read.
 -- Assumes nothing.
-use mathlib.Core.Path.{◌≡◌, refl, ap}
+use mathlib.Core.Path.{◌≡◌, refl, sym, ap, ◌∙◌}
 use mathlib.Core.Bool.{true}
 use mathlib.Core.List.{List, [], ◌∷◌, map}
-use Prim.Native.Nat.{ℕ, zero, suc, ◌+◌, ◌-◌, ◌≤◌, ◌<◌}
+use Prim.Native.Nat.{ℕ, zero, suc, ◌+◌, ◌-◌, ◌*◌, ◌≤◌, ◌<◌}
 use native.Mathlib.Omega.{arith}
 use borrow.Author.Tests.{ne_eqb, ltb-true}
 use lib.IntN.{ℤ, pos, negsuc}
+use lib.ListN.{length, drop}
+use Rattle.std.proofs.lemmas.List.{get_or-drop, length-drop}
 use Rattle.variants_and_fragments.specs.declared.Sizes.{Sizes}
 use Rattle.variants_and_fragments.specs.Case.{Fragment, Call}
 use Rattle.variants_and_fragments.specs.Chain.{link_ok, present_at, strand_at}
 use Rattle.variants_and_fragments.specs.Decode.{tabulate_from, call_from, fragment_from}
-use Rattle.variants_and_fragments.specs.Layout.{allele_count_at, call_variant_at, variant_field, allele_field, call_ok, cutoff_at}
-use Rattle.variants_and_fragments.specs.Words.{below, nat_of}
+use Rattle.variants_and_fragments.specs.Layout.{allele_count_at, call_variant_at, variant_field, allele_field, qual_field, one_minus_qual_field, call_ok, cutoff_at}
+use Rattle.variants_and_fragments.specs.Words.{below, word, nat_of}
 use Rattle.variants_and_fragments.specs.Inner.Accepted.{allb, CaseIn}
 use Rattle.variants_and_fragments.specs.Inner.Alleles.{VariantsIn}
 use Rattle.variants_and_fragments.proofs.Bools.{both}
@@ -25,7 +27,7 @@ use Rattle.variants_and_fragments.proofs.Tabulated.{table_start, table_more, tab
 use Rattle.pileup.specs.declared.reader.Call.{Call as CallHeld}
 use Rattle.pileup.specs.Inner.Packed.{call_read}
 use Rattle.pileup.specs.Inner.Reader.{held_call}
-use Rattle.late_reads.specs.Arriving.{arriving_word, whole_calls, arriving_call, arriving_read, arriving_ok, arriving_rises}
+use Rattle.late_reads.specs.Arriving.{arriving_words, arriving_word, whole_calls, arriving_call, arriving_read, arriving_ok, arriving_rises}
 use Rattle.late_reads.specs.Inner.Counting.{Rising, none, more, read_of, counts_after, counts_arrived, counts_departed}
 use Rattle.late_reads.specs.Inner.Ready.{Arriving, arriving_left}
 use Rattle.late_reads.proofs.Counting.{arrived_is, departed_is}
@@ -62,13 +64,37 @@ module _ {w : List ℤ} {s : Sizes} {f : ℕ} {strand : ℤ} {calls : List ℤ} 
   unfolding arriving_read
   arriving_rises_lem = table_rising (arriving_call calls) s.n (whole_calls calls) arriving_in arriving_up (whole_calls calls) 0 0 (omega arith) (λ l. omega arith)
 
--- the calls left at call i, as the code holds them
-module _ (calls : List ℤ) where
-  pub arriving_more : (i : ℕ) → i < whole_calls calls → arriving_left calls i ≡ held_call (arriving_call calls i) ∷ arriving_left calls (i + 1)
-  arriving_more i l = ap (map held_call) (table_more (arriving_call calls) (whole_calls calls) i l)
+-- the calls left, as the code holds them: the first, and those of the words after its four
+call_after : (calls : List ℤ) (i : ℕ) → arriving_call (drop arriving_words calls) i ≡ arriving_call calls (suc i)
+unfolding arriving_call
+call_after calls i = rw (word_after variant_field, word_after allele_field, word_after qual_field, word_after one_minus_qual_field) refl
+  where
+    word_after : (field : ℕ) → word (drop arriving_words calls) (arriving_words * i + field) ≡ word calls (arriving_words * suc i + field)
+    word_after field =
+        let e : arriving_words + (arriving_words * i + field) ≡ arriving_words * suc i + field = omega arith in
+        get_or-drop arriving_words calls (arriving_words * i + field) (pos 0) ∙ ap (word calls) e
 
-  pub arriving_out : (i : ℕ) → whole_calls calls ≤ i → arriving_left calls i ≡ []
-  arriving_out i l = ap (map held_call) (table_end (arriving_call calls) (whole_calls calls) i l)
+calls_after : (g h : ℕ → Call) → ((i : ℕ) → h i ≡ g (suc i)) → (k i : ℕ) → tabulate_from h i k ≡ tabulate_from g (suc i) k
+unfolding tabulate_from
+calls_after g h same zero i = refl
+calls_after g h same (suc k) i = rw (same i, calls_after g h same k (suc i)) refl
+
+module _ (calls : List ℤ) where
+  pub arriving_more : arriving_words ≤ length calls → arriving_left calls 0 ≡ held_call (arriving_call calls 0) ∷ arriving_left (drop arriving_words calls) 0
+  arriving_more l =
+      let n : whole_calls calls - 1 ≡ whole_calls (drop arriving_words calls) - 0 = omega (arith, length-drop arriving_words calls) in
+      ap (map held_call) (table_more (arriving_call calls) (whole_calls calls) 0 (omega arith)
+      ∙ ap (λ (rest : List Call). arriving_call calls 0 ∷ rest) (ap (tabulate_from (arriving_call calls) 1) n ∙ sym (calls_after _ _ (call_after calls) _ 0)))
+
+  pub arriving_out : length calls < arriving_words → arriving_left calls 0 ≡ []
+  arriving_out l = ap (map held_call) (table_end (arriving_call calls) (whole_calls calls) 0 (omega arith))
+
+  -- from call i on
+  pub arriving_next : (i : ℕ) → i < whole_calls calls → arriving_left calls i ≡ held_call (arriving_call calls i) ∷ arriving_left calls (i + 1)
+  arriving_next i l = ap (map held_call) (table_more (arriving_call calls) (whole_calls calls) i l)
+
+  pub arriving_none : (i : ℕ) → whole_calls calls ≤ i → arriving_left calls i ≡ []
+  arriving_none i l = ap (map held_call) (table_end (arriving_call calls) (whole_calls calls) i l)
 
 -- ---- what is held of a read's calls
 pub read_back : (calls : List Call) → map call_read (map held_call calls) ≡ calls

@@ -11,7 +11,7 @@ use crate::kept::Ready;
 use pileup::reader::Call;
 use std::marker::Model;
 use variants_and_fragments::layout::{MAX_STRAND, nat_of};
-use variants_and_fragments::{CallWords, Case, Refusal};
+use variants_and_fragments::{CallWords, CaseWords, Refusal};
 
 // The words of an arriving call.
 const ARRIVING_WORDS: usize = 4;
@@ -29,10 +29,7 @@ impl<'a> Arrival<'a> {
     pub fn iter(&self) -> ArrivingCalls<'a>
         ensures { result ≡ arriving_left self.now.calls.now 0 }
     {
-        ArrivingCalls {
-            read: *self,
-            next: 0,
-        }
+        ArrivingCalls { left: *self }
     }
 
     // The number of whole calls.
@@ -79,37 +76,31 @@ impl<'a> Arrival<'a> {
     }
 
     // 4: each whole call is in range; the place of a fault is the first that is not.
-    fn check_calls(&self, case: &Case<'_>) -> Result<(), Refusal>
+    fn check_calls(&self, case: &CaseWords<'_>) -> Result<(), Refusal>
         ensures { outcome_of result ≡ each 4 (arriving_ok case.now.laid.words.now case.now.laid.sizes self.now.calls.now) 0 (whole_calls self.now.calls.now) (done tt) }
     {
         let known = case.with_variants();
-        for i in 0..self.count() {
-            if !known.call_words_ok(self.call_words(i)) {
-                return Err(Refusal::Call(i));
-            }
+        match (0..self.count()).find(|i| !known.call_words_ok(self.call_words(*i))) {
+            Some(i) => Err(Refusal::Call(i)),
+            None => Ok(()),
         }
-        Ok(())
     }
 
-    // 5: the variants of the whole calls rise; the place of a fault is the first call whose does not. A loop of its own: one for both, over a
-    // test and a refusal, is longer than the two.
+    // 5: the variants of the whole calls rise; the place of a fault is the first call whose does not.
     fn check_rises(&self) -> Result<(), Refusal>
         ensures { outcome_of result ≡ each 5 (arriving_rises self.now.calls.now) 0 (whole_calls self.now.calls.now) (done tt) }
     {
-        for i in 0..self.count() {
-            if !self.rises(i) {
-                return Err(Refusal::Chain(i));
-            }
+        match (0..self.count()).find(|i| !self.rises(*i)) {
+            Some(i) => Err(Refusal::Chain(i)),
+            None => Ok(()),
         }
-        Ok(())
     }
 }
 
-// The calls of an arrival from the next on, seen as a list.
+// The calls of an arrival that are left, seen as a list.
 #[derive(Drop)]
 pub struct ArrivingCalls<'a> {
-    read: Arrival<'a>,
-    next: usize,
+    left: Arrival<'a>,
 }
 
 impl<'a> Model for ArrivingCalls<'a> {
@@ -119,7 +110,7 @@ impl<'a> Model for ArrivingCalls<'a> {
 
     ghost Value = { List Call };
 
-    ghost view = { λ it. arriving_left it.read.calls.now it.next };
+    ghost view = { λ it. arriving_left it.left.calls.now 0 };
 }
 
 impl<'a> Iterator for ArrivingCalls<'a> {
@@ -130,12 +121,10 @@ impl<'a> Iterator for ArrivingCalls<'a> {
     ghost remaining = { item_count (λ calls. calls) };
 
     fn next(&mut self) -> Option<Call> {
-        let i = self.next;
-        if self.read.count() <= i {
-            return None;
-        }
-        self.next = i + 1;
-        Some(self.read.call(i))
+        let (_, rest) = self.left.calls.split_first_chunk::<ARRIVING_WORDS>()?;
+        let call = self.left.call(0);
+        self.left.calls = rest;
+        Some(call)
     }
 }
 
@@ -148,7 +137,7 @@ impl Calls for ArrivingCalls<'_> {
 }
 
 // Free and unused records together are at least m. At the loop's head i counts the unused records and the free ones before r.
-fn has_room(case: &Case<'_>, m: usize) -> bool
+fn has_room(case: &CaseWords<'_>, m: usize) -> bool
     ensures { result ≡ leb m (length (room case.now.laid.words.now case.now.laid.sizes)) }
 {
     let s = case.laid.sizes;

@@ -3,12 +3,12 @@ ghost use Rattle.std.specs.Prelude.{◌≡◌, ◌<◌, List, map};
 ghost use Rattle.std.specs.Iterator.{IsFinite, YieldsFirst};
 ghost use Rattle.variants_and_fragments.specs.Layout.{cutoff_at};
 ghost use Rattle.pileup.specs.Inner.Packed.{call_read};
-ghost use Rattle.late_reads.specs.Inner.Counting.{add_at, count_call, fits_at, call_fits, read_of, CountedIs, CountsIn, Countable, CountsLent, Rising, counts_after, counts_fit};
+ghost use Rattle.late_reads.specs.Inner.Counting.{places, add_at, count_call, fits_at, call_fits, read_of, CountedIs, CountsIn, Countable, CountsLent, Rising, counts_after, counts_fit};
 
 use crate::ranges::count_ok;
 use pileup::reader::{Call, ChainReader};
 use pileup::row::usable;
-use variants_and_fragments::Case;
+use variants_and_fragments::CaseWords;
 use variants_and_fragments::layout::direction_of;
 
 // The calls of a read, one after the other; `left` are those to come.
@@ -50,7 +50,22 @@ fn counted(cutoff: i32, strand: usize, call: Call) -> CountedCall
     }
 }
 
-// A count with d more is in range; d is 1 or −1.
+// Where a call of a read at this strand counts, of the ten counts of its variant: a usable one at its allele and at its allele on its strand, an
+// ambiguous one at the last.
+fn places(call: CountedCall, strand: usize) -> (usize, Option<usize>)
+    requires { (call.variant < 1024) × (call.allele < 3) }
+    ensures { result ≡ places strand call }
+{
+    let at = 10 * call.variant;
+    if call.usable {
+        let allele = at + call.allele;
+        return (allele, Some(allele + 3 * (1 + direction_of(strand))));
+    }
+    (at + 9, None)
+}
+
+// A count with d more is in range. Here and below d is 1 for a read that arrives and −1 for one that departs: the number itself, for it is what is
+// added, and a type of the two would be turned into it at each count.
 fn fits_at(counts: &[i32], e: usize, d: i32) -> bool
     requires { CountsIn counts.now e d }
     ensures { result ≡ fits_at d e counts.now }
@@ -63,13 +78,12 @@ fn call_fits(counts: &[i32], call: CountedCall, strand: usize, d: i32) -> bool
     requires { Countable counts.now d call }
     ensures { result ≡ call_fits d strand call counts.now }
 {
-    let at = 10 * call.variant;
-    if call.usable {
-        let one = fits_at(counts, at + call.allele, d);
-        let two = fits_at(counts, at + 3 * (1 + direction_of(strand)) + call.allele, d);
-        return one & two;
+    let (first, second) = places(call, strand);
+    let one = fits_at(counts, first, d);
+    match second {
+        Some(e) => one & fits_at(counts, e, d),
+        None => one,
     }
-    fits_at(counts, at + 9, d)
 }
 
 // Adds d to a count.
@@ -85,17 +99,15 @@ fn count_call(counts: &mut [i32], call: CountedCall, strand: usize, d: i32)
     requires { Countable counts.old d call }
     ensures { counts.new ≡ count_call d strand call counts.old }
 {
-    let at = 10 * call.variant;
-    if call.usable {
-        add_at(counts, at + call.allele, d);
-        add_at(counts, at + 3 * (1 + direction_of(strand)) + call.allele, d);
-    } else {
-        add_at(counts, at + 9, d);
+    let (first, second) = places(call, strand);
+    add_at(counts, first, d);
+    if let Some(e) = second {
+        add_at(counts, e, d);
     }
 }
 
 // The counts with d more for each of a read's calls would be in range. At the loop's head those of the calls before would be.
-pub fn fits<C: Calls>(case: &Case<'_>, strand: usize, calls: C, counts: &[i32], d: i32) -> bool
+pub fn fits<C: Calls>(case: &CaseWords<'_>, strand: usize, calls: C, counts: &[i32], d: i32) -> bool
     requires rises { Rising case.now.laid.sizes.n 0 (map call_read (C.left calls)) }
     requires lent { CountsLent case.now.laid.sizes.n counts.now d }
     ensures { result ≡ counts_fit case.now.laid.sizes.n (counts_after d (cutoff_at case.now.laid.words.now) (read_of strand (C.left calls)) case.now.laid.sizes.n counts.now) }
@@ -110,7 +122,7 @@ pub fn fits<C: Calls>(case: &Case<'_>, strand: usize, calls: C, counts: &[i32], 
 }
 
 // Adds d to the counts for each of a read's calls. At the loop's head this is done for the calls before.
-pub fn count<C: Calls>(case: &Case<'_>, strand: usize, calls: C, counts: &mut [i32], d: i32)
+pub fn count<C: Calls>(case: &CaseWords<'_>, strand: usize, calls: C, counts: &mut [i32], d: i32)
     requires rises { Rising case.now.laid.sizes.n 0 (map call_read (C.left calls)) }
     requires lent { CountsLent case.now.laid.sizes.n counts.old d }
     ensures { counts.new ≡ counts_after d (cutoff_at case.now.laid.words.now) (read_of strand (C.left calls)) case.now.laid.sizes.n counts.old }

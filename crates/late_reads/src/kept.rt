@@ -7,12 +7,12 @@ ghost use Rattle.late_reads.specs.Inner.Ready.{ReadyCase};
 
 use crate::ranges::in_range;
 use steps::LogProb;
-use variants_and_fragments::{Case, Refusal, check_case_and_haplotypes, long_enough};
+use variants_and_fragments::{CaseWords, Refusal, check_case_and_haplotypes, long_enough};
 
 // A case that is accepted, with its phase bytes and haplotypes.
 #[derive(Clone, Copy)]
 pub struct Ready<'a> {
-    pub case: Case<'a>,
+    pub case: CaseWords<'a>,
     pub phase: &'a [u8],
     pub haplotypes: &'a [u8],
     ghost ready: { ReadyCase case.laid.words.now case.laid.sizes phase.now haplotypes.now },
@@ -45,7 +45,7 @@ pub fn check_kept<'a>(
         return Err(Refusal::Short(0));
     }
     Ok(Ready {
-        case,
+        case: case.accepted_words(),
         phase,
         haplotypes,
     })

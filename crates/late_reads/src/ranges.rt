@@ -14,15 +14,14 @@ const MAX_COUNT: i32 = 4096;
 pub fn total_ok(x: LogProb) -> bool
     ensures { result ≡ within lowest_total (pos 0) x.0 }
 {
-    let z = x.0;
-    (LOWEST_TOTAL <= z) & (z <= 0)
+    (LOWEST_TOTAL..=0).contains(&x.0)
 }
 
 // A count is in its range.
 pub fn count_ok(z: i32) -> bool
     ensures { result ≡ within (pos 0) (pos max_count) z }
 {
-    (0 <= z) & (z <= MAX_COUNT)
+    (0..=MAX_COUNT).contains(&z)
 }
 
 // Each likelihood is in range.

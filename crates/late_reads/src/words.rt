@@ -12,7 +12,7 @@ use crate::arriving::Arrival;
 use variants_and_fragments::layout::{
     ABSENT, put_call, put_first, put_free, put_next, put_strand, put_used,
 };
-use variants_and_fragments::{Laid, Sizes};
+use variants_and_fragments::{CaseWords, Laid, Sizes};
 
 // The records that are left to take: the first free one, and how many are used. Where none is free it is 0, as in the words, which no record is.
 #[derive(Clone, Copy)]
@@ -96,11 +96,11 @@ pub fn lay_arrival(words: &mut [i32], s: Sizes, read: &Arrival<'_>)
 }
 
 // The last record of fragment f's chain, which is not empty. At the loop's head last is the chain's k-th record.
-fn last_record(laid: &Laid<'_>, f: usize) -> usize
-    requires case_in { CaseIn laid.now.words.now laid.now.sizes }
-    requires f_lt_f { (f < laid.now.sizes.f) × (1 ≤ first_record_at laid.now.words.now laid.now.sizes f) }
-    ensures { result ≡ get_or (chain_of laid.now.words.now laid.now.sizes f) (length (chain_of laid.now.words.now laid.now.sizes f) - 1) 0 }
+fn last_record(case: &CaseWords<'_>, f: usize) -> usize
+    requires { (f < case.now.laid.sizes.f) × (1 ≤ first_record_at case.now.laid.words.now case.now.laid.sizes f) }
+    ensures { result ≡ get_or (chain_of case.now.laid.words.now case.now.laid.sizes f) (length (chain_of case.now.laid.words.now case.now.laid.sizes f) - 1) 0 }
 {
+    let laid = case.laid;
     let mut last = laid.first_call(f);
     for k in 1..laid.sizes.c {
         let next = laid.next_call(last);
@@ -123,7 +123,7 @@ fn free_records(words: &mut [i32], s: Sizes, f: usize)
     if first == 0 {
         return;
     }
-    let last = last_record(&laid, f);
+    let last = last_record(&CaseWords { laid }, f);
     put_next(words, s, last, s.free);
     put_free(words, first);
 }

@@ -1,8 +1,7 @@
 -- Each way out is one line of the table, or the lines written: the rows that it makes are those of the case.
 use Rattle.std.proofs.Common.{sym, ap, ◌∙◌, arith}
-use Rattle.std.proofs.lemmas.Result.{err_from_is_err_and}
 use Rattle.variants_and_fragments.specs.Refusals.{done}
-use Rattle.variants_and_fragments.proofs.Outcomes.{case_stops, case_past, enough_stops, enough_passes, enough_fits, promise_refused, promise_done}
+use Rattle.variants_and_fragments.proofs.Outcomes.{exit_is, case_stops, case_past, enough_stops, enough_passes, enough_fits, promise_refused, promise_done}
 use Rattle.variants_and_fragments.proofs.Short.{short_fits}
 use Rattle.haplotype_assembly.specs.FlistBuffer.{generate_flist_buffer_outcome}
 use Rattle.haplotype_assembly.proofs.LinesDecoded.{given, bytes_are, amount_is, buffer_written}
@@ -11,7 +10,7 @@ use Rattle.haplotype_assembly.proofs.generate_flist_buffer.Goals as goal
 pub returns-in_err-check_case : goal.returns-in_err-check_case
 unfolding generate_flist_buffer_outcome
 returns-in_err-check_case c =
-    let p = err_from_is_err_and c.from_residual.result c.from_residual.ensures.1 in rw (p.1, p.2)
+    rw (exit_is c.from_residual.ensures.1)
     (promise_refused _ (case_stops _ _ _ _ c.in_err-check_case.ensures.outcome))
 
 pub invariant_of-flist : goal.invariant_of-flist
@@ -25,7 +24,7 @@ returns-in_err-long_enough c =
     let same = c.accepted_words-case.ensures in
     let lent = c.in_ok-check_case.ensures.lent.0 in
     let bytes = bytes_are _ _ _ (sym c.in_ok-check_case.ensures.outcome) _ _ (rw (same, lent) at (c.make_rows.ensures.0.grouped c.args.bases.now)) _ _ (rw (same, lent) at c.count-counted.ensures) in
-    let p = err_from_is_err_and c.from_residual-in_err-long_enough.result c.from_residual-in_err-long_enough.ensures.1 in rw (p.1, p.2)
+    rw (exit_is c.from_residual-in_err-long_enough.ensures.1)
     (promise_refused _ (enough_stops _ _ _ (rw bytes at c.in_err-long_enough.ensures) ∙ case_past _ _ _ c.in_ok-check_case.field-0 c.in_ok-check_case.ensures.outcome))
 
 pub write-requires : goal.write-requires

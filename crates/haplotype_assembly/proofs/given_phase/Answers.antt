@@ -1,7 +1,6 @@
 -- Each way out is one line of the table, or what is written of an accepted case.
 use Rattle.std.proofs.Common.{sym, ◌∙◌, arith}
-use Rattle.std.proofs.lemmas.Result.{err_from_is_err_and}
-use Rattle.variants_and_fragments.proofs.Outcomes.{case_stops, case_past, enough_fits, promise_refused, promise_done}
+use Rattle.variants_and_fragments.proofs.Outcomes.{exit_is, case_stops, case_past, enough_fits, promise_refused, promise_done}
 use Rattle.variants_and_fragments.proofs.Short.{short_fits}
 use Rattle.haplotype_assembly.specs.GivenPhase.{phase_slices, given_phase_outcome}
 use Rattle.haplotype_assembly.proofs.PhaseLaws.{phase_stops, phase_passes, faultless, phase_written}
@@ -10,23 +9,21 @@ use Rattle.haplotype_assembly.proofs.given_phase.Goals as goal
 pub returns-in_err-check_case : goal.returns-in_err-check_case
 unfolding given_phase_outcome
 returns-in_err-check_case c =
-    let p = err_from_is_err_and c.from_residual.result c.from_residual.ensures.1 in rw (p.1, p.2)
+    rw (exit_is c.from_residual.ensures.1)
     (promise_refused _ (case_stops _ _ _ _ c.in_err-check_case.ensures.outcome))
 
 pub returns-in_err-check_phase : goal.returns-in_err-check_phase
 unfolding given_phase_outcome
 returns-in_err-check_phase c =
-    let p = err_from_is_err_and c.from_residual-in_err-check_phase.result c.from_residual-in_err-check_phase.ensures.1 in
     let phase = rw c.accepted_words-case.ensures at c.in_err-check_phase.ensures in
-    rw (p.1, p.2) (promise_refused _ (phase_stops _ _ _ _ _ phase ∙ case_past _ _ _ c.in_ok-check_case.field-0 c.in_ok-check_case.ensures.outcome))
+    rw (exit_is c.from_residual-in_err-check_phase.ensures.1) (promise_refused _ (phase_stops _ _ _ _ _ phase ∙ case_past _ _ _ c.in_ok-check_case.field-0 c.in_ok-check_case.ensures.outcome))
 
 pub returns-in_err-long_enough : goal.returns-in_err-long_enough
 unfolding given_phase_outcome
 returns-in_err-long_enough c =
-    let p = err_from_is_err_and c.from_residual-in_err-long_enough.result c.from_residual-in_err-long_enough.ensures.1 in
     let phase = rw c.accepted_words-case.ensures at c.in_ok-check_phase.ensures in
     let enough = rw c.accepted_words-case.ensures at c.in_err-long_enough.ensures in
-    rw (p.1, p.2) (promise_refused _ (enough ∙ phase_passes _ _ _ _ phase ∙ case_past _ _ _ c.in_ok-check_case.field-0 c.in_ok-check_case.ensures.outcome))
+    rw (exit_is c.from_residual-in_err-long_enough.ensures.1) (promise_refused _ (enough ∙ phase_passes _ _ _ _ phase ∙ case_past _ _ _ c.in_ok-check_case.field-0 c.in_ok-check_case.ensures.outcome))
 
 pub write_phase-requires : goal.write_phase-requires
 write_phase-requires c =

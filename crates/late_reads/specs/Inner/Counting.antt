@@ -1,5 +1,5 @@
 -- The counts as the code updates them, call by call. Assumes nothing.
-use Rattle.std.specs.Prelude.{◌≡◌, Bool, true, cond, ◌&&◌, List, [], ◌∷◌, map, ℕ, zero, suc, ◌+◌, ◌*◌, ◌≤◌, ◌<◌, ℤ, pos, nat_abs, ◌+ℤ◌, ◌-ℤ◌, length, get_or, set}
+use Rattle.std.specs.Prelude.{◌≡◌, Bool, true, cond, ◌&&◌, List, [], ◌∷◌, map, ℕ, zero, suc, ◌+◌, ◌*◌, ◌≤◌, ◌<◌, ℤ, pos, nat_abs, ◌+ℤ◌, ◌-ℤ◌, length, get_or, set, Option, None, Some}
 use Rattle.variants_and_fragments.specs.Case.{Fragment, Call, direction, usable}
 use Rattle.variants_and_fragments.specs.First.{holds_below}
 use Rattle.variants_and_fragments.specs.Words.{within}
@@ -23,6 +23,10 @@ strand_place strand call = 10 * call.variant + 3 * (1 + direction strand) + call
 -- an ambiguous one at the last
 abbrev pub ambiguous_place : CountedCall → ℕ
 ambiguous_place call = 10 * call.variant + 9
+
+-- the first of them, and the second, where there are two
+unfoldable pub places : ℕ → CountedCall → ℕ × Option ℕ
+places strand call = cond call.usable (allele_place call, Some (strand_place strand call)) (ambiguous_place call, None)
 
 unfoldable pub count_call : ℤ → ℕ → CountedCall → List ℤ → List ℤ
 count_call d strand call counts =

@@ -8,6 +8,7 @@ use Rattle.variants_and_fragments.specs.Layout.{max_strand, cutoff_at}
 use Rattle.variants_and_fragments.specs.Refusals.{Outcome, done, unless, each, Promise}
 use Rattle.variants_and_fragments.specs.Words.{within}
 use Rattle.variants_and_fragments.specs.Inner.Accepted.{CaseIn}
+use Rattle.variants_and_fragments.specs.Inner.Sums.{DownTo}
 use Rattle.pileup.specs.declared.reader.Call.{Call as CallHeld}
 use Rattle.pileup.specs.Inner.Reader.{held_call}
 use Rattle.haplotype_assembly.specs.Inner.PhaseRead.{phased_at}
@@ -38,6 +39,12 @@ pub record Arriving (w : List ℤ) (s : Sizes) (f : ℕ) (strand : ℤ) (calls :
   pub below : f < s.f
   pub absent : present_at w s f ≡ false
   pub fits : whole_calls calls ≤ length (room w s)
+
+-- a call of an arrival: its variant is one of the case's, and both qualities are in −262144..0
+pub record CallArriving (s : Sizes) (call : Call) : Type 0 where
+  pub variant_in : call.variant < s.n
+  pub qual_in : DownTo 262144 call.qual
+  pub one_minus_qual_in : DownTo 262144 call.one_minus_qual
 
 -- the arriving calls from call i on, as the code holds them
 abbrev pub arriving_left : List ℤ → ℕ → List CallHeld

@@ -1,12 +1,11 @@
+-- What is written stands in place of as many bytes.
 use Rattle.std.proofs.Common.{arith}
-use Rattle.haplotype_assembly.proofs.Decimals.{left_all, left_on, left_end}
+use Rattle.haplotype_assembly.proofs.Decimals.{std_is, put_text}
 use Rattle.haplotype_assembly.proofs.numbers.write_number.Goals as goal
 
-pub loop-i-init : goal.loop-i-init
-loop-i-init c = left_all _ _ _ _ c.digit_count.ensures
-
-pub loop-i-preserved : goal.loop-i-preserved
-loop-i-preserved c = left_on c.loop-i.invariant c.loop-i-test.true
+pub write_digits-requires : goal.write_digits-requires
+write_digits-requires c = let e = std_is c.args.n c.ranges.n.fits in rw e (omega (arith, c.digit_count.ensures), omega (arith, c.digit_count.ensures, c.requires))
 
 pub returns : goal.returns
-returns c = record { stored = left_end c.loop-i.invariant c.loop-i-test.false; end_is = omega arith }
+returns c =
+    put_text _ (std_is c.args.n c.ranges.n.fits) c.requires (omega (arith, c.digit_count.ensures)) c.write_digits.ensures.start c.write_digits.ensures.before c.write_digits.ensures.written

@@ -1,8 +1,7 @@
--- Both ends are tested.
-use Rattle.std.proofs.Common.{to_z-of_z}
+use Rattle.std.proofs.Common.{rules}
 use Rattle.variants_and_fragments.specs.Words.{within}
 use Rattle.late_reads.proofs.ranges.count_ok.Goals as goal
 
 pub returns : goal.returns
 unfolding within
-returns c = rw (to_z-of_z c.ranges.z)
+returns c = search rules

@@ -1,13 +1,13 @@
--- The next call is the first of those left, where there is one.
+-- The next call is the first of those left, where there are four words.
 use Rattle.std.proofs.Common.{sym, ap, ◌∙◌, length, arith}
 use Rattle.late_reads.proofs.ReadCalls.{arriving_more, arriving_out}
 use Rattle.late_reads.proofs.arriving.ArrivingCallsIterator.next.Goals as goal
 
-pub returns-then-count-i-clause-steps : goal.returns-then-count-i-clause-steps
-returns-then-count-i-clause-steps c = let e = sym c.self.view_is ∙ arriving_out _ _ (omega arith) in (e, e)
+pub returns-in_err-rest-clause-steps : goal.returns-in_err-rest-clause-steps
+returns-in_err-rest-clause-steps c = let e = sym c.self.view_is ∙ arriving_out _ c.in_err-rest.ensures.cases in rw c.from_residual.ensures (e, e)
 
 pub returns-clause-steps : goal.returns-clause-steps
-returns-clause-steps c = rw c.call.ensures (sym c.self.view_is ∙ arriving_more _ _ (omega arith))
+returns-clause-steps c = rw (c.call-call.ensures, c.in_ok-rest.ensures.cases.1) (sym c.self.view_is ∙ arriving_more _ (omega (arith, c.in_ok-rest.ensures.cases.2)))
 
 pub returns-clause-goes : goal.returns-clause-goes
 returns-clause-goes c =
