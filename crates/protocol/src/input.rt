@@ -1,5 +1,5 @@
 // Standard input through a buffer, token by token.
-ghost use Rattle.std.specs.Prelude.{◌≡◌, ℕ, ◌≤◌, List, length, take, Some, IfSome, IfOk, IfErr};
+ghost use Rattle.std.specs.Prelude.{◌≡◌, ℕ, ◌<◌, ◌≤◌, List, length, take, Some, IfSome, IfOk, IfErr};
 ghost use Rattle.std.specs.List.{FoldsTo};
 ghost use Rattle.protocol.specs.Text.{int_of};
 ghost use Rattle.protocol.specs.Inner.State.{length_of, pushed_on};
@@ -185,11 +185,11 @@ impl Reader {
         Start { first: None, line }
     }
 
-    // The next token, which has this number: its bytes pushed one by one onto `empty`. None at the end of the input.
+    // The next token, which has this number: its bytes, one or more, pushed one by one onto `empty`. None at the end of the input.
     fn token<A: Drop, F: Fn(A, u8) -> A>(&mut self, token: u64, empty: A, push: F) -> Option<A>
         requires { F.IsAlwaysCallable push }
         ensures token { self.new.place.token ≡ token }
-        ensures pushed { IfSome result (λ read. (bytes : List ℕ) × FoldsTo (λ x b y. F.post push x b y) empty bytes read) }
+        ensures pushed { IfSome result (λ read. (bytes : List ℕ) × (0 < length bytes) × FoldsTo (λ x b y. F.post push x b y) empty bytes read) }
     {
         let Start { first, line } = self.start();
         self.place = Place::after(token, line, None);
@@ -208,7 +208,7 @@ impl Reader {
     // A request's word, with which its tokens are counted anew. None at the end of the input.
     pub fn word(&mut self) -> Option<Word>
         ensures token { self.new.place.token ≡ 1 }
-        ensures word { IfSome result (λ word. (bytes : List ℕ) × (word.bytes.items ≡ word_of bytes)) }
+        ensures word { IfSome result (λ word. (bytes : List ℕ) × (0 < length bytes) × (word.bytes.items ≡ word_of bytes)) }
     {
         self.token(1, Word::new(), Word::push)
     }
