@@ -193,16 +193,18 @@ impl Reader {
     {
         let Start { first, line } = self.start();
         self.place = Place::after(token, line, None);
-        let first = first?;
-        let mut read = push(empty, first);
-        while let Some(b) = self.next() {
-            if is_space(b) {
-                self.place = Place::after(token, line, Some(b));
-                break;
-            }
+        let mut b = first?;
+        let mut read = empty;
+        loop {
             read = push(read, b);
+            match self.next() {
+                Some(next) if !is_space(next) => b = next,
+                ended => {
+                    self.place = Place::after(token, line, ended);
+                    return Some(read);
+                }
+            }
         }
-        Some(read)
     }
 
     // A request's word, with which its tokens are counted anew. None at the end of the input.
