@@ -23,7 +23,7 @@ OPERATIONS = {
     "shuffle/src/lib.rt": ["sweep_orders"],
     "with_haplotypes/src/lib.rt": ["call_genotypes_with_haplotypes"],
     "late_reads/src/lib.rt": ["arrive", "depart"],
-    "condorbed/src/requests.rt": ["named"],
+    "condorbed/src/requests.rt": ["next"],
 }
 SAMPLES = "samples/specs/Samples.antt"
 PROGRAM = "protocol/specs/Text.antt"
@@ -168,7 +168,7 @@ class Specs:
             text = open(file, encoding="utf-8").read()
             uses, named = imports(text.split("\n")), aliases(text.split("\n"))
             for name in names:
-                contract = re.search(r"fn %s\b.*?\n\{" % name, text, re.S).group(0)
+                contract = re.search(r"fn %s\b.*?\n *\{" % name, text, re.S).group(0)
                 for word in words(CLAUSE.findall(contract)):
                     yield self.brought(uses, named, word)
 

@@ -1,13 +1,13 @@
 -- The word of a token, its first seven bytes, asks for what the token asks for: every request's word is shorter.
 -- By induction on the rows of the table. Assumes nothing.
-use Rattle.std.proofs.Common.{◌≡◌, ℕ, zero, suc, ◌+◌, ◌<◌, Bool, true, false, ◌&&◌, eqb, ltb, List, [], ◌∷◌, ◌++◌, length, take, sym, refl, ap, ◌∙◌, arith, append_assoc, append-nil, length-append, ltb-true, lt-ltb, le-ltb, eqb-true}
+use Rattle.std.proofs.Common.{◌≡◌, ℕ, zero, suc, ◌+◌, ◌<◌, Bool, true, false, ◌&&◌, eqb, ltb, List, [], ◌∷◌, ◌++◌, length, take, Err, sym, refl, ap, ◌∙◌, arith, append_assoc, append-nil, length-append, ltb-true, lt-ltb, le-ltb, eqb-true}
 use mathlib.Core.Bool.{false≢true}
 use Rattle.std.specs.Str.{IsUtf8, IsAscii}
 use Rattle.std.proofs.lemmas.Str.{IsUtf8-from_ascii}
 use Rattle.std.proofs.lemmas.Str.Ascii.{IsAscii-nil, IsAscii-cons}
 use Rattle.protocol.specs.Inner.Word.{pushed_bytes, word_of}
 use Rattle.condorbed.specs.Requests.{Row, requests, found, same_bytes, asked_by}
-use Rattle.condorbed.specs.declared.requests.Asked.TheVariants.{Unknown}
+use Rattle.protocol.specs.declared.input.Reason.TheVariants.{Request}
 
 -- A word of k bytes fewer than seven takes the next k bytes.
 pushed_take : (k : ℕ) (t w : List ℕ) → length w + k ≡ 7 → pushed_bytes w t ≡ w ++ take k t
@@ -68,7 +68,7 @@ differs : (t u : List ℕ) → (t ≡ u → ⊥) → (b : Bool) → same_bytes t
 differs t u h true e = absurd (h (same_true t u e))
 differs t u h false e = refl
 
-missed : (t : List ℕ) (r : Row) (rs : List Row) → (t ≡ r.name → ⊥) → Unknown ≡ found (same_bytes t) rs → Unknown ≡ found (same_bytes t) (r ∷ rs)
+missed : (t : List ℕ) (r : Row) (rs : List Row) → (t ≡ r.name → ⊥) → Err Request ≡ found (same_bytes t) rs → Err Request ≡ found (same_bytes t) (r ∷ rs)
 unfolding found
 missed t r rs h later = simp (differs t r.name h (same_bytes t r.name) refl) later
 
@@ -77,13 +77,13 @@ unfoldable pub NoneOf : List ℕ → List Row → Type 0 → Type 0
 NoneOf word [] told = told
 NoneOf word (r ∷ rs) told = NoneOf word rs (told × (word ≡ r.name → ⊥))
 
-none_found : (word : List ℕ) (rs : List Row) {told : Type 0} → NoneOf word rs told → told × (Unknown ≡ found (same_bytes word) rs)
+none_found : (word : List ℕ) (rs : List Row) {told : Type 0} → NoneOf word rs told → told × (Err Request ≡ found (same_bytes word) rs)
 unfolding NoneOf found
 none_found word [] others = (others, refl)
 none_found word (r ∷ rs) others =
     let later = none_found word rs others in (later.0.0, missed word r rs later.0.1 later.1)
 
-pub unknown : (word : List ℕ) → NoneOf word requests (Unit {0}) → Unknown ≡ asked_by word
+pub unknown : (word : List ℕ) → NoneOf word requests (Unit {0}) → Err Request ≡ asked_by word
 unfolding asked_by
 unknown word others = (none_found word requests others).1
 
@@ -106,13 +106,13 @@ requests_text : all_text requests ≡ true
 unfolding all_text all_ascii requests
 requests_text = refl
 
-text_missed : (t : List ℕ) → (IsUtf8 t → ⊥) → (rs : List Row) → all_text rs ≡ true → Unknown ≡ found (same_bytes t) rs
+text_missed : (t : List ℕ) → (IsUtf8 t → ⊥) → (rs : List Row) → all_text rs ≡ true → Err Request ≡ found (same_bytes t) rs
 unfolding found all_text
 text_missed t h [] a = refl
 text_missed t h (r ∷ rs) a =
     let parts = both (all_ascii r.name) (all_text rs) a in
     missed t r rs (λ e. h (rw e (IsUtf8-from_ascii r.name (ascii_text r.name parts.0)))) (text_missed t h rs parts.1)
 
-pub no_text : (t : List ℕ) → (IsUtf8 t → ⊥) → Unknown ≡ asked_by t
+pub no_text : (t : List ℕ) → (IsUtf8 t → ⊥) → Err Request ≡ asked_by t
 unfolding asked_by
 no_text t h = text_missed t h requests requests_text

@@ -1,24 +1,23 @@
 -- Which request a token names: the protocol's table of requests. Assumes nothing.
-use Rattle.std.specs.Prelude.{Bool, true, false, cond, ◌&&◌, List, [], ◌∷◌, ℕ, eqb}
+use Rattle.std.specs.Prelude.{Bool, true, false, cond, ◌&&◌, List, [], ◌∷◌, ℕ, Result, Ok, Err, eqb}
 use Rattle.condorbed.specs.declared.requests.Operation.{Operation}
 use Rattle.condorbed.specs.declared.requests.Operation.TheVariants.{Check, Filter, Priors, Orders, Phase, Flist, Nohap, Run, Arrive, Depart}
-use Rattle.condorbed.specs.declared.requests.Asked.{Asked}
-use Rattle.condorbed.specs.declared.requests.Asked.TheVariants.{End, For, Unknown}
+use Rattle.protocol.specs.declared.input.Reason.{Reason}
+use Rattle.protocol.specs.declared.input.Reason.TheVariants.{Request}
 
 -- a token, byte by byte, and what it asks for
 pub record Row : Type 0 where
   pub name : List ℕ
-  pub asks : Asked
+  pub asks : Operation
 
 abbrev row : List ℕ → Operation → Row
-row name operation = record { name = name; asks = For operation }
+row name operation = record { name = name; asks = operation }
 
--- the requests' words; a token of no bytes is the end of the input
+-- the requests' words
 unfoldable pub requests : List Row
 requests =
-    record { name = []; asks = End }
     -- check
-    ∷ row (99 ∷ 104 ∷ 101 ∷ 99 ∷ 107 ∷ []) Check
+    row (99 ∷ 104 ∷ 101 ∷ 99 ∷ 107 ∷ []) Check
     -- filter
     ∷ row (102 ∷ 105 ∷ 108 ∷ 116 ∷ 101 ∷ 114 ∷ []) Filter
     -- priors
@@ -39,10 +38,10 @@ requests =
     ∷ row (100 ∷ 101 ∷ 112 ∷ 97 ∷ 114 ∷ 116 ∷ []) Depart
     ∷ []
 
--- what the first of these rows asks for whose name passes the test
-unfoldable pub found : (List ℕ → Bool) → List Row → Asked
-found test [] = Unknown
-found test (r ∷ rs) = cond (test r.name) r.asks (found test rs)
+-- what the first of these rows asks for whose name passes the test; where none does, no request
+unfoldable pub found : (List ℕ → Bool) → List Row → Result Operation Reason
+found test [] = Err Request
+found test (r ∷ rs) = cond (test r.name) (Ok r.asks) (found test rs)
 
 -- whether two tokens have the same bytes
 unfoldable pub same_bytes : List ℕ → List ℕ → Bool
@@ -52,5 +51,5 @@ same_bytes (x ∷ xs) [] = false
 same_bytes (x ∷ xs) (y ∷ ys) = eqb x y && same_bytes xs ys
 
 -- what a token asks for
-unfoldable pub asked_by : List ℕ → Asked
+unfoldable pub asked_by : List ℕ → Result Operation Reason
 asked_by token = found (same_bytes token) requests

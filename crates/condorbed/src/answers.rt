@@ -1,5 +1,5 @@
 // The first line of an answer, and what the program writes where a request cannot be read.
-use protocol::input::{Reason, Unreadable};
+use protocol::input::Unreadable;
 use protocol::output::Writer;
 use variants_and_fragments::Refusal;
 
@@ -9,32 +9,34 @@ pub fn unreadable(output: &mut Writer, found: Unreadable) {
     output.number(found.line);
     output.byte(b' ');
     output.number(found.token);
-    output.text(match found.reason {
-        Reason::Request => b" request\n",
-        Reason::Number => b" number\n",
-        Reason::Length => b" length\n",
-        Reason::End => b" end\n",
-    });
-}
-
-// `done` with no fields.
-pub fn done(output: &mut Writer) {
-    output.text(b"done\n");
-}
-
-// `refused NUMBER PLACE`.
-pub fn refused(output: &mut Writer, refusal: Refusal) {
-    output.text(b"refused ");
-    output.number(refusal.number());
     output.byte(b' ');
-    output.number(refusal.place());
+    output.text(found.reason.text());
     output.byte(b'\n');
 }
 
-// The first line of an operation that returns nothing but done.
-pub fn done_or_refused(output: &mut Writer, answer: Result<(), Refusal>) {
+// What an operation returns where it is done.
+pub trait Done: Copy {
+    // `done` and its fields.
+    fn line(self, output: &mut Writer);
+}
+
+// No fields.
+impl Done for () {
+    fn line(self, output: &mut Writer) {
+        output.text(b"done\n");
+    }
+}
+
+// The first line: that of what is returned, or `refused NUMBER PLACE`.
+pub fn first_line<T: Done>(output: &mut Writer, answer: Result<T, Refusal>) {
     match answer {
-        Ok(()) => done(output),
-        Err(r) => refused(output, r),
+        Ok(done) => done.line(output),
+        Err(refusal) => {
+            output.text(b"refused ");
+            output.number(refusal.number());
+            output.byte(b' ');
+            output.number(refusal.place());
+            output.byte(b'\n');
+        }
     }
 }

@@ -1,19 +1,20 @@
 // `filter`: `<words i32>` `<bases u8>` `<quals f64>` density_qual density_dist density_count
 // max_depth `[filters u8]`.
-use crate::answers::done_or_refused;
+use crate::answers::first_line;
 use crate::arrays::{ONES, filled};
+use crate::requests::Request;
 use protocol::input::{Reader, Unreadable};
-use protocol::output::Writer;
 use steps::PHREDProb;
 use var_filter::DensityParameters;
 
-// The answer to the request, whose case is read.
-pub fn answer(
-    reader: &mut Reader,
-    output: &mut Writer,
-    words: &[i32],
-    bases: &[u8],
-) -> Result<(), Unreadable> {
+// The answer to the request.
+pub fn answer(request: Request<'_>) -> Result<(), Unreadable> {
+    let Request {
+        reader,
+        output,
+        words,
+        bases,
+    } = request;
     let mut quals = [0.0; ONES];
     let mut filters = filled::<u8, ONES>();
     let quals = reader.slice(&mut quals)?;
@@ -21,7 +22,7 @@ pub fn answer(
     let max_depth = reader.read()?;
     let filters = reader.front(&mut filters)?;
     let answer = var_filter::var_filter(words, bases, quals, density, max_depth, filters);
-    done_or_refused(output, answer);
+    first_line(output, answer);
     output.line(filters);
     Ok(())
 }

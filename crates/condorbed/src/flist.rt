@@ -1,33 +1,35 @@
 // `flist`: `<words i32>` `<bases u8>` single_reads (0 or 1) `[buffer u8]`.
-use crate::answers::refused;
+use crate::answers::{Done, first_line};
 use crate::arrays::{LINES, filled};
+use crate::requests::Request;
 use haplotype_assembly::Counted;
-use protocol::input::{Reader, Unreadable};
+use protocol::input::Unreadable;
 use protocol::output::Writer;
 
-// The answer to the request, whose case is read.
-pub fn answer(
-    reader: &mut Reader,
-    output: &mut Writer,
-    words: &[i32],
-    bases: &[u8],
-) -> Result<(), Unreadable> {
+// The answer to the request.
+pub fn answer(request: Request<'_>) -> Result<(), Unreadable> {
+    let Request {
+        reader,
+        output,
+        words,
+        bases,
+    } = request;
     let mut buffer = filled::<u8, LINES>();
     let single_reads = reader.read()?;
     let buffer = reader.front(&mut buffer)?;
-    match haplotype_assembly::generate_flist_buffer(words, bases, single_reads, buffer) {
-        Ok(written) => done_with(output, written),
-        Err(r) => refused(output, r),
-    }
+    let answer = haplotype_assembly::generate_flist_buffer(words, bases, single_reads, buffer);
+    first_line(output, answer);
     output.line(buffer);
     Ok(())
 }
 
-// `done` with the bytes and the lines that were written.
-fn done_with(output: &mut Writer, written: Counted) {
-    output.text(b"done ");
-    output.number(written.bytes);
-    output.byte(b' ');
-    output.number(written.lines);
-    output.byte(b'\n');
+// The bytes and the lines that were written.
+impl Done for Counted {
+    fn line(self, output: &mut Writer) {
+        output.text(b"done ");
+        output.number(self.bytes);
+        output.byte(b' ');
+        output.number(self.lines);
+        output.byte(b'\n');
+    }
 }

@@ -1,7 +1,8 @@
 // `arrive`: `{words i32}` `<bases u8>` `<phase u8>` `<haplotypes u8>` `{likelihoods i64}` `{counts i32}` total fragment strand
 // `<calls i32>`; `depart`: the same up to the fragment.
-use crate::answers::refused;
+use crate::answers::{Done, first_line};
 use crate::arrays::{CALLS, COUNTS, HAPLOTYPES, LIKELIHOODS, ONES};
+use crate::requests::Request;
 use protocol::input::{Reader, Unreadable};
 use protocol::output::Writer;
 use steps::LogProb;
@@ -41,13 +42,14 @@ fn read_parts<'a>(
     })
 }
 
-// The answer to an arrival, whose case is read. The arrays are named here and in `depart`, since no function can hand out slices of its own.
-pub fn arrive(
-    reader: &mut Reader,
-    output: &mut Writer,
-    words: &mut [i32],
-    bases: &[u8],
-) -> Result<(), Unreadable> {
+// The answer to an arrival. The arrays are named here and in `depart`, since no function can hand out slices of its own.
+pub fn arrive(request: Request<'_>) -> Result<(), Unreadable> {
+    let Request {
+        reader,
+        output,
+        words,
+        bases,
+    } = request;
     let mut phase = [0; ONES];
     let mut haplotypes = [0; HAPLOTYPES];
     let mut likelihoods = [0; LIKELIHOODS];
@@ -85,12 +87,13 @@ pub fn arrive(
 }
 
 // The same for a departure.
-pub fn depart(
-    reader: &mut Reader,
-    output: &mut Writer,
-    words: &mut [i32],
-    bases: &[u8],
-) -> Result<(), Unreadable> {
+pub fn depart(request: Request<'_>) -> Result<(), Unreadable> {
+    let Request {
+        reader,
+        output,
+        words,
+        bases,
+    } = request;
     let mut phase = [0; ONES];
     let mut haplotypes = [0; HAPLOTYPES];
     let mut likelihoods = [0; LIKELIHOODS];
@@ -123,7 +126,16 @@ pub fn depart(
     Ok(())
 }
 
-// The first line, refused or `done unsettled TOTAL`, and one line for each slice that the operation can write.
+// `unsettled` and the new total.
+impl Done for LogProb {
+    fn line(self, output: &mut Writer) {
+        output.text(b"done unsettled ");
+        output.number(self.0);
+        output.byte(b'\n');
+    }
+}
+
+// The first line, and one line for each slice that the operation can write.
 fn print_answer(
     output: &mut Writer,
     answer: Result<LogProb, Refusal>,
@@ -131,14 +143,7 @@ fn print_answer(
     likelihoods: &[i64],
     counts: &[i32],
 ) {
-    match answer {
-        Ok(total) => {
-            output.text(b"done unsettled ");
-            output.number(total.0);
-            output.byte(b'\n');
-        }
-        Err(r) => refused(output, r),
-    }
+    first_line(output, answer);
     output.line(words);
     output.line(likelihoods);
     output.line(counts);

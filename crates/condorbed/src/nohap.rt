@@ -1,17 +1,18 @@
 // `nohap`: `<words i32>` `<bases u8>` six rates `[variants i32]` `[quals f64]` `[gqs f64]`.
-use crate::answers::done_or_refused;
+use crate::answers::first_line;
 use crate::arrays::{ANSWERS, ONES, filled};
 use crate::rates::read_rates;
-use protocol::input::{Reader, Unreadable};
-use protocol::output::Writer;
+use crate::requests::Request;
+use protocol::input::Unreadable;
 
-// The answer to the request, whose case is read.
-pub fn answer(
-    reader: &mut Reader,
-    output: &mut Writer,
-    words: &[i32],
-    bases: &[u8],
-) -> Result<(), Unreadable> {
+// The answer to the request.
+pub fn answer(request: Request<'_>) -> Result<(), Unreadable> {
+    let Request {
+        reader,
+        output,
+        words,
+        bases,
+    } = request;
     let mut variants = filled::<i32, ANSWERS>();
     let mut quals = filled::<f64, ONES>();
     let mut gqs = filled::<f64, ONES>();
@@ -22,7 +23,7 @@ pub fn answer(
     let answer = no_haplotypes::call_genotypes_no_haplotypes(
         words, bases, rates, variants, quals, gqs,
     );
-    done_or_refused(output, answer);
+    first_line(output, answer);
     output.line(variants);
     output.line(quals);
     output.line(gqs);

@@ -1,21 +1,22 @@
 // `orders`: `<words i32>` `<bases u8>` seed (u64) `[orders u32]`.
-use crate::answers::done_or_refused;
+use crate::answers::first_line;
 use crate::arrays::{ORDERS, filled};
-use protocol::input::{Reader, Unreadable};
-use protocol::output::Writer;
+use crate::requests::Request;
+use protocol::input::Unreadable;
 
-// The answer to the request, whose case is read.
-pub fn answer(
-    reader: &mut Reader,
-    output: &mut Writer,
-    words: &[i32],
-    bases: &[u8],
-) -> Result<(), Unreadable> {
+// The answer to the request.
+pub fn answer(request: Request<'_>) -> Result<(), Unreadable> {
+    let Request {
+        reader,
+        output,
+        words,
+        bases,
+    } = request;
     let mut orders = filled::<u32, ORDERS>();
     let seed = reader.read()?;
     let orders = reader.front(&mut orders)?;
     let answer = shuffle::sweep_orders(words, bases, seed, orders);
-    done_or_refused(output, answer);
+    first_line(output, answer);
     output.line(orders);
     Ok(())
 }

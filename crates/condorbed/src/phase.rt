@@ -1,16 +1,17 @@
 // `phase`: `<words i32>` `<bases u8>` `<phase u8>` `<sets i32>` `[haplotypes u8]` `[phased u8]` `[names u32]`.
-use crate::answers::done_or_refused;
+use crate::answers::first_line;
 use crate::arrays::{HAPLOTYPES, ONES, filled};
-use protocol::input::{Reader, Unreadable};
-use protocol::output::Writer;
+use crate::requests::Request;
+use protocol::input::Unreadable;
 
-// The answer to the request, whose case is read.
-pub fn answer(
-    reader: &mut Reader,
-    output: &mut Writer,
-    words: &[i32],
-    bases: &[u8],
-) -> Result<(), Unreadable> {
+// The answer to the request.
+pub fn answer(request: Request<'_>) -> Result<(), Unreadable> {
+    let Request {
+        reader,
+        output,
+        words,
+        bases,
+    } = request;
     let mut phase = [0; ONES];
     let mut sets = [0; ONES];
     let mut haplotypes = filled::<u8, HAPLOTYPES>();
@@ -24,7 +25,7 @@ pub fn answer(
     let answer = haplotype_assembly::given_phase(
         words, bases, phase, sets, haplotypes, phased, names,
     );
-    done_or_refused(output, answer);
+    first_line(output, answer);
     output.line(haplotypes);
     output.line(phased);
     output.line(names);

@@ -1,9 +1,9 @@
 // Which operation a request's word asks for, and the loop over the requests.
 //
-// One request more: its word in `Operation` and `named`, with a row in specs/Requests.antt; the lengths of its arrays in
-// arrays.rt; an arm in `answer_case`; and a file as orders.rt, whose `answer` reads the parts after the case and lends
+// One request more: its word in `Operation` and its `try_from`, with a row in specs/Requests.antt; the lengths of its arrays in
+// arrays.rt; an arm in `answer`; and a file as orders.rt, whose `answer` reads the parts after the case and lends
 // the fronts of the arrays, calls the operation, and prints the first line and one line for each output slice.
-ghost use Rattle.std.specs.Prelude.{◌≡◌};
+ghost use Rattle.std.specs.Prelude.{◌≡◌, ℕ, ◌<◌, List, length, Ok, IfOk, IfSome};
 ghost use Rattle.condorbed.specs.Requests.{asked_by};
 
 use crate::{check, filter, flist, late, nohap, orders, phase, priors, run};
@@ -25,36 +25,84 @@ pub enum Operation {
     Depart,
 }
 
-// What the next word of the input asks for. The end of the input is neither an operation nor a fault, so that no `Option` or
-// `Result` has these three.
-#[derive(Clone, Copy)]
-pub enum Asked {
-    End,
-    For(Operation),
-    Unknown,
+// A request that is answered: what its parts are read from, what its answer is written to, and its case.
+#[derive(Drop)]
+pub struct Request<'a> {
+    pub reader: &'a mut Reader,
+    pub output: &'a mut Writer,
+    pub words: &'a mut [i32],
+    pub bases: &'a [u8],
 }
 
-// What a word asks for.
-#[tactic(auto, unfolding(crate::specs::Requests::asked_by, crate::specs::Requests::found, crate::specs::Requests::requests, crate::specs::Requests::same_bytes))]
-fn named(word: &[u8]) -> Asked
-    ensures { result ≡ asked_by word.now }
-{
-    let Ok(text) = std::str::from_utf8(word) else {
-        return Asked::Unknown;
-    };
-    match text {
-        "" => Asked::End,
-        "check" => Asked::For(Operation::Check),
-        "filter" => Asked::For(Operation::Filter),
-        "priors" => Asked::For(Operation::Priors),
-        "orders" => Asked::For(Operation::Orders),
-        "phase" => Asked::For(Operation::Phase),
-        "flist" => Asked::For(Operation::Flist),
-        "nohap" => Asked::For(Operation::Nohap),
-        "run" => Asked::For(Operation::Run),
-        "arrive" => Asked::For(Operation::Arrive),
-        "depart" => Asked::For(Operation::Depart),
-        _ => Asked::Unknown,
+// The operation that a word asks for.
+impl TryFrom<&[u8]> for Operation {
+    type Error = Reason;
+
+    ghost try_from_gives = { λ word result. result ≡ asked_by word.now };
+
+    #[tactic(auto, unfolding(crate::specs::Requests::asked_by, crate::specs::Requests::found, crate::specs::Requests::requests, crate::specs::Requests::same_bytes))]
+    fn try_from(word: &[u8]) -> Result<Operation, Reason> {
+        let Ok(text) = std::str::from_utf8(word) else {
+            return Err(Reason::Request);
+        };
+        match text {
+            "check" => Ok(Operation::Check),
+            "filter" => Ok(Operation::Filter),
+            "priors" => Ok(Operation::Priors),
+            "orders" => Ok(Operation::Orders),
+            "phase" => Ok(Operation::Phase),
+            "flist" => Ok(Operation::Flist),
+            "nohap" => Ok(Operation::Nohap),
+            "run" => Ok(Operation::Run),
+            "arrive" => Ok(Operation::Arrive),
+            "depart" => Ok(Operation::Depart),
+            _ => Err(Reason::Request),
+        }
+    }
+}
+
+impl Operation {
+    // The operation that the next request asks for; none at the end of the input.
+    fn next(reader: &mut Reader) -> Result<Option<Operation>, Unreadable>
+        ensures { IfOk result (λ next. IfSome next (λ operation. (token : List ℕ) × (0 < length token) × (asked_by token ≡ Ok operation))) }
+    {
+        let Some(word) = reader.word() else {
+            return Ok(None);
+        };
+        match Operation::try_from(word.as_slice()) {
+            Ok(operation) => Ok(Some(operation)),
+            Err(reason) => Err(reader.unreadable(reason)),
+        }
+    }
+
+    // The answer to a request of the operation. Every request starts with a case, `<words i32>` `<bases u8>`.
+    fn answer(
+        self,
+        reader: &mut Reader,
+        output: &mut Writer,
+        words: &mut [i32],
+        bases: &mut [u8],
+    ) -> Result<(), Unreadable> {
+        let words = reader.slice(words)?;
+        let bases = reader.slice(bases)?;
+        let request = Request {
+            reader,
+            output,
+            words,
+            bases,
+        };
+        match self {
+            Operation::Check => check::answer(request),
+            Operation::Filter => filter::answer(request),
+            Operation::Priors => priors::answer(request),
+            Operation::Orders => orders::answer(request),
+            Operation::Phase => phase::answer(request),
+            Operation::Flist => flist::answer(request),
+            Operation::Nohap => nohap::answer(request),
+            Operation::Run => run::answer(request),
+            Operation::Arrive => late::arrive(request),
+            Operation::Depart => late::depart(request),
+        }
     }
 }
 
@@ -70,38 +118,11 @@ pub fn answer_all(
         if !output.is_whole() {
             break;
         }
-        let word = reader.word();
-        match named(word.as_slice()) {
-            Asked::End => break,
-            Asked::For(operation) => answer_case(operation, reader, output, words, bases)?,
-            Asked::Unknown => return Err(reader.unreadable(Reason::Request)),
-        }
+        let Some(operation) = Operation::next(reader)? else {
+            break;
+        };
+        operation.answer(reader, output, words, bases)?;
         output.flush();
-    }
-    Ok(())
-}
-
-// The answer to one request: every request starts with a case, `<words i32>` `<bases u8>`.
-fn answer_case(
-    operation: Operation,
-    reader: &mut Reader,
-    output: &mut Writer,
-    words: &mut [i32],
-    bases: &mut [u8],
-) -> Result<(), Unreadable> {
-    let words = reader.slice(words)?;
-    let bases = reader.slice(bases)?;
-    match operation {
-        Operation::Check => check::answer(output, words, bases),
-        Operation::Filter => filter::answer(reader, output, words, bases)?,
-        Operation::Priors => priors::answer(reader, output, words, bases)?,
-        Operation::Orders => orders::answer(reader, output, words, bases)?,
-        Operation::Phase => phase::answer(reader, output, words, bases)?,
-        Operation::Flist => flist::answer(reader, output, words, bases)?,
-        Operation::Nohap => nohap::answer(reader, output, words, bases)?,
-        Operation::Run => run::answer(reader, output, words, bases)?,
-        Operation::Arrive => late::arrive(reader, output, words, bases)?,
-        Operation::Depart => late::depart(reader, output, words, bases)?,
     }
     Ok(())
 }

@@ -1,19 +1,21 @@
 // `run`: `<words i32>` `<bases u8>` six rates `<phase u8>` `<sets i32>` `<orders u32>` limit `[haplotypes u8]`
 // `[likelihoods i64]` `[posteriors i64]` `[quals f64]` `[gqs f64]`.
-use crate::answers::refused;
+use crate::answers::{Done, first_line};
 use crate::arrays::{HAPLOTYPES, LIKELIHOODS, ONES, ORDERS, PAIRS, filled};
 use crate::rates::read_rates;
-use protocol::input::{Reader, Unreadable};
+use crate::requests::Request;
+use protocol::input::Unreadable;
 use protocol::output::Writer;
 use with_haplotypes::RoundAnswer;
 
-// The answer to the request, whose case is read.
-pub fn answer(
-    reader: &mut Reader,
-    output: &mut Writer,
-    words: &[i32],
-    bases: &[u8],
-) -> Result<(), Unreadable> {
+// The answer to the request.
+pub fn answer(request: Request<'_>) -> Result<(), Unreadable> {
+    let Request {
+        reader,
+        output,
+        words,
+        bases,
+    } = request;
     let mut phase = [0; ONES];
     let mut sets = [0; ONES];
     let mut orders = [0; ORDERS];
@@ -32,7 +34,7 @@ pub fn answer(
     let posteriors = reader.front(&mut posteriors)?;
     let quals = reader.front(&mut quals)?;
     let gqs = reader.front(&mut gqs)?;
-    match with_haplotypes::call_genotypes_with_haplotypes(
+    let answer = with_haplotypes::call_genotypes_with_haplotypes(
         words,
         bases,
         rates,
@@ -45,10 +47,8 @@ pub fn answer(
         posteriors,
         quals,
         gqs,
-    ) {
-        Ok(x) => done_with(output, x),
-        Err(r) => refused(output, r),
-    }
+    );
+    first_line(output, answer);
     output.line(haplotypes);
     output.line(likelihoods);
     output.line(posteriors);
@@ -57,19 +57,21 @@ pub fn answer(
     Ok(())
 }
 
-// `done SWEEPS settled START END SOURCE`, or `unsettled` in place of `settled`.
-fn done_with(output: &mut Writer, x: RoundAnswer) {
-    output.text(b"done ");
-    output.number(x.sweeps);
-    if x.settled {
-        output.text(b" settled ");
-    } else {
-        output.text(b" unsettled ");
+// `SWEEPS settled START END SOURCE`, or `unsettled` in place of `settled`.
+impl Done for RoundAnswer {
+    fn line(self, output: &mut Writer) {
+        output.text(b"done ");
+        output.number(self.sweeps);
+        output.text(if self.settled {
+            b" settled "
+        } else {
+            b" unsettled "
+        });
+        output.number(self.start.0);
+        output.byte(b' ');
+        output.number(self.end.0);
+        output.byte(b' ');
+        output.number(self.source.0);
+        output.byte(b'\n');
     }
-    output.number(x.start.0);
-    output.byte(b' ');
-    output.number(x.end.0);
-    output.byte(b' ');
-    output.number(x.source.0);
-    output.byte(b'\n');
 }

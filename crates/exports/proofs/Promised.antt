@@ -5,16 +5,8 @@ use mathlib.Core.List.{List}
 use Prim.Native.Nat.{ℕ}
 use lib.IntN.{ℤ}
 use Rattle.variants_and_fragments.specs.Refusals.{Outcome}
-use Rattle.genotype_probs.specs.declared.Rates.{Rates}
-use Rattle.with_haplotypes.specs.declared.RoundAnswer.{RoundAnswer}
-use Rattle.with_haplotypes.specs.Round.{round_input}
-use Rattle.with_haplotypes.specs.Promise.{RoundSlices, CalledWithHaplotypes}
 use Rattle.late_reads.specs.Values.{values}
 use Rattle.late_reads.specs.LateReads.{late_input, LateAnswer, LateSlices, Arrives, Departs}
-
-pub called_at : (w : List ℤ) (b : List ℕ) (taken given : Rates) (phase : List ℕ) (sets : List ℤ) (orders : List ℕ) (limit : ℕ) (before : RoundSlices) (o : Outcome RoundAnswer) (after : RoundSlices) → taken ≡ given
-    → CalledWithHaplotypes (round_input w b taken phase orders limit) sets before o after → CalledWithHaplotypes (round_input w b given phase orders limit) sets before o after
-called_at w b taken given phase sets orders limit before o after e p = rw (← e) p
 
 module _ (w : List ℤ) (b phase haps : List ℕ) (likelihoods counts : List ℤ) {taken given : ℤ} (same : taken ≡ given) (f : ℕ) {o : Outcome LateAnswer} {after : LateSlices} where
   pub arrived_at : {strand-taken strand-given : ℤ} (calls : List ℤ) → strand-taken ≡ strand-given

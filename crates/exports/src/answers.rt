@@ -1,6 +1,6 @@
 // What the operations answer, in numbers: 0 and place 0 for done, or a refusal's number and place.
 ghost use Rattle.std.specs.Prelude.{◌≡◌};
-ghost use Rattle.variants_and_fragments.specs.Refusals.{outcome_of};
+ghost use Rattle.variants_and_fragments.specs.Refusals.{answered};
 ghost use Rattle.exports.specs.Answers.{numbers_of};
 
 use variants_and_fragments::Refusal;
@@ -15,7 +15,7 @@ pub struct Answer {
 
 // The answer of the check of a case: where done, the sizes that the head gives; else these are 0.
 #[repr(C)]
-#[derive(Clone, Copy, Default)]
+#[derive(Clone, Copy)]
 pub struct CheckAnswer {
     pub number: usize,
     pub place: usize,
@@ -29,7 +29,7 @@ pub struct CheckAnswer {
 
 // The answer of the fragment lines: where done, how many bytes and lines were written; else these are 0.
 #[repr(C)]
-#[derive(Clone, Copy, Default)]
+#[derive(Clone, Copy)]
 pub struct FlistAnswer {
     pub number: usize,
     pub place: usize,
@@ -40,7 +40,7 @@ pub struct FlistAnswer {
 // The answer of a round: where done, how many sweeps were made, whether the last one changed nothing, the phased totals at
 // the start and at the end, and the source's total at the end; else these are 0.
 #[repr(C)]
-#[derive(Clone, Copy, Default)]
+#[derive(Clone, Copy)]
 pub struct RoundAnswer {
     pub number: usize,
     pub place: usize,
@@ -53,7 +53,7 @@ pub struct RoundAnswer {
 
 // The answer of an arrival or a departure: where done, that the sample is not settled, and the new phased total; else these are 0.
 #[repr(C)]
-#[derive(Clone, Copy, Default)]
+#[derive(Clone, Copy)]
 pub struct LateAnswer {
     pub number: usize,
     pub place: usize,
@@ -61,14 +61,14 @@ pub struct LateAnswer {
     pub total: i64,
 }
 
-// The numbers of an answer with no values.
-impl From<Result<(), Refusal>> for Answer {
-    ghost from_gives = { λ r a. a ≡ numbers_of (outcome_of r) };
+// The number and the place of any operation's answer.
+impl<T: Copy> From<Result<T, Refusal>> for Answer {
+    ghost from_gives = { λ r a. a ≡ numbers_of (answered (λ x. tt) r) };
 
     #[tactic(auto, unfolding(crate::specs::Answers::numbers_of))]
-    fn from(answer: Result<(), Refusal>) -> Answer {
+    fn from(answer: Result<T, Refusal>) -> Answer {
         match answer {
-            Ok(()) => Answer {
+            Ok(_) => Answer {
                 number: 0,
                 place: 0,
             },

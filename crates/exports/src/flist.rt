@@ -1,8 +1,11 @@
 // The fragment lines of a case.
 ghost use Rattle.exports.specs.Promises.{GenerateFlistBuffer};
 
-use crate::answers::FlistAnswer;
-use haplotype_assembly::generate_flist_buffer;
+use crate::answers::{Answer, FlistAnswer};
+use haplotype_assembly::{Counted, generate_flist_buffer};
+
+// What a refusal has written.
+const NOTHING: Counted = Counted { bytes: 0, lines: 0 };
 
 // `generate_flist_buffer`.
 #[unsafe(no_mangle)]
@@ -14,17 +17,13 @@ pub extern "C" fn condorbed_generate_flist_buffer(
 ) -> FlistAnswer
     ensures { GenerateFlistBuffer words.now bases.now single_reads buffer.old result buffer.new }
 {
-    match generate_flist_buffer(words, bases, single_reads, buffer) {
-        Ok(written) => FlistAnswer {
-            number: 0,
-            place: 0,
-            bytes: written.bytes,
-            lines: written.lines,
-        },
-        Err(x) => FlistAnswer {
-            number: x.number(),
-            place: x.place(),
-            ..FlistAnswer::default()
-        },
+    let answer = generate_flist_buffer(words, bases, single_reads, buffer);
+    let Answer { number, place } = Answer::from(answer);
+    let Counted { bytes, lines } = answer.unwrap_or(NOTHING);
+    FlistAnswer {
+        number,
+        place,
+        bytes,
+        lines,
     }
 }

@@ -5,7 +5,7 @@ ghost use Rattle.late_reads.specs.LateReads.{late_input, late_slices, outcome_of
 ghost use Rattle.exports.specs.Answers.{late_numbers};
 ghost use Rattle.exports.specs.Promises.{Arrives, Departs};
 
-use crate::answers::LateAnswer;
+use crate::answers::{Answer, LateAnswer};
 use late_reads::{arrive, depart};
 use steps::LogProb;
 use variants_and_fragments::Refusal;
@@ -14,18 +14,13 @@ use variants_and_fragments::Refusal;
 fn late_answer(answer: Result<LogProb, Refusal>) -> LateAnswer
     ensures { result ≡ late_numbers (outcome_of answer) }
 {
-    match answer {
-        Ok(total) => LateAnswer {
-            number: 0,
-            place: 0,
-            settled: false,
-            total: total.0,
-        },
-        Err(x) => LateAnswer {
-            number: x.number(),
-            place: x.place(),
-            ..LateAnswer::default()
-        },
+    let Answer { number, place } = Answer::from(answer);
+    let LogProb(total) = answer.unwrap_or(LogProb(0));
+    LateAnswer {
+        number,
+        place,
+        settled: false,
+        total,
     }
 }
 

@@ -1,9 +1,10 @@
 -- A state's integer at a wide type, converted to a narrower one, is the state's integer there. Assumes nothing.
-use Rattle.std.proofs.Common.{◌≡◌, ℕ, zero, suc, ◌+◌, ◌^◌, ◌<◌, ◌≤◌, Bool, true, false, ◌&&◌, cond, ltb, ℤ, Option, Some, None, is_some, Result, Ok, Err, SomeIff, OkIff, unwrap_or, sym, refl, ap, arith, le-ltb, lt-ltb, ltb-true, ltb-false}
-use mathlib.Core.Bool.{false≢true}
+use Rattle.std.proofs.Common.{◌≡◌, ℕ, zero, suc, ◌+◌, ◌^◌, ◌<◌, ◌≤◌, Bool, true, false, ◌&&◌, ◌||◌, not, cond, eqb, ltb, ℤ, Option, Some, None, is_some, Result, Ok, Err, SomeIff, OkIff, unwrap_or, sym, refl, ap, ◌∙◌, arith, le-ltb, lt-ltb, ltb-true, ltb-false}
+use mathlib.Core.Bool.{false≢true, and-true}
+use Rattle.std.specs.Bool.{then_some}
 use Rattle.std.specs.Result.{result_ok}
 use lib.Signed.{mag}
-use Rattle.protocol.specs.Inner.State.{natural, is_natural, integral, signed_sizes, with_sign}
+use Rattle.protocol.specs.Inner.State.{has_digits, size, natural, is_natural, integral, signed_sizes, with_sign}
 use Rattle.protocol.specs.declared.number.Number.{Number}
 
 -- `ok` of a conversion
@@ -39,26 +40,43 @@ both_true false b h = absurd (false≢true h)
 smaller : (v m k : ℕ) → k ≤ m → ltb v m ≡ false → ltb v k ≡ false
 smaller v m k l h = le-ltb v k (omega (arith, ltb-false v m h))
 
+chosen : {A : Type 0} (b : Bool) (v : A) → then_some b v ≡ cond b (Some v) None
+chosen true v = refl
+chosen false v = refl
+
+-- A size of 64 bits, behind a sign only where it is 0.
+pub natural_is : (s : Number) (v : ℕ) → s.value ≡ Some v → v < 2 ^ 64 → (o : Option ℕ) → o ≡ then_some (not s.negative || eqb v 0) v → o ≡ natural (2 ^ 64) (λ n. n) s
+unfolding natural is_natural
+natural_is s v some fits o is = rw some (simp (lt-ltb v (2 ^ 64) fits, and-true) (is ∙ chosen (not s.negative || eqb v 0) v))
+
 -- The unsigned types: what is below limit, of what is below 2^64.
 module _ {A : Type 0} (limit : ℕ) (value : ℕ → A) (s : Number) (low : limit ≤ 2 ^ 64) where
   pub narrow_none : None ≡ natural (2 ^ 64) (λ n. n) s → None ≡ natural limit value s
   unfolding natural
   narrow_none h =
-      let none : (is_natural s && ltb s.value (2 ^ 64)) ≡ false = withheld (is_natural s && ltb s.value (2 ^ 64)) s.value h in
-      simp (either_false (is_natural s) (ltb s.value (2 ^ 64)) none (ltb s.value limit) (smaller s.value (2 ^ 64) limit low))
+      let none : (is_natural s && ltb (size s) (2 ^ 64)) ≡ false = withheld (is_natural s && ltb (size s) (2 ^ 64)) (size s) h in
+      simp (either_false (is_natural s) (ltb (size s) (2 ^ 64)) none (ltb (size s) limit) (smaller (size s) (2 ^ 64) limit low))
 
   pub narrow_some : (n : ℕ) → Some n ≡ natural (2 ^ 64) (λ n. n) s → (o : Option A) → SomeIff o (n < limit) (value n) → o ≡ natural limit value s
   unfolding natural
   narrow_some n h o found =
-      let some = given (is_natural s && ltb s.value (2 ^ 64)) h in
-      let whole : is_natural s ≡ true = (both_true (is_natural s) (ltb s.value (2 ^ 64)) some.0).0 in
+      let some = given (is_natural s && ltb (size s) (2 ^ 64)) h in
+      let whole : is_natural s ≡ true = (both_true (is_natural s) (ltb (size s) (2 ^ 64)) some.0).0 in
       rw (whole, ← some.1) (some_iff (n < limit) (value n) o (ltb n limit) (lt-ltb n limit) (ltb-true n limit) found)
+
+-- An unsigned type of the numbers below limit, as the conversion from a u64 gives it.
+module _ (limit : ℕ) (s : Number) (low : limit ≤ 2 ^ 64) {o : Option ℕ} where
+  pub converted_none : None ≡ natural (2 ^ 64) (λ n. n) s → o ≡ None → o ≡ natural limit (λ n. n) s
+  converted_none h is = is ∙ narrow_none limit (λ n. n) s low h
+
+  pub converted : {E : Type 0} (n : ℕ) → Some n ≡ natural (2 ^ 64) (λ n. n) s → (r : Result ℕ E) → OkIff r (n < limit) n → o ≡ result_ok r → o ≡ natural limit (λ n. n) s
+  converted n h r found is = is ∙ narrow_some limit (λ n. n) s low n h _ (ok_some _ _ _ found)
 
 pub natural_fits : (s : Number) (n : ℕ) → Some n ≡ natural (2 ^ 64) (λ n. n) s → n < 2 ^ 64
 unfolding natural
 natural_fits s n h =
-    let some = given (is_natural s && ltb s.value (2 ^ 64)) h in
-    rw (some.1) (ltb-true s.value (2 ^ 64) (both_true (is_natural s) (ltb s.value (2 ^ 64)) some.0).1)
+    let some = given (is_natural s && ltb (size s) (2 ^ 64)) h in
+    rw (some.1) (ltb-true (size s) (2 ^ 64) (both_true (is_natural s) (ltb (size s) (2 ^ 64)) some.0).1)
 
 -- The signed types, whose largest number is q: a size fits by its sign.
 module _ (q : ℕ) where
@@ -74,22 +92,22 @@ module _ (q : ℕ) where
   fits_sizes true zero h = lt-ltb 0 (suc q + 1) (omega arith)
   fits_sizes true (suc v) h = lt-ltb (suc v) (suc q + 1) (omega (arith, h))
 
-  pub integral_bare : (s : Number) → s.digits ≡ false → None ≡ integral (suc q) s
+  pub integral_bare : (s : Number) → has_digits s ≡ false → None ≡ integral (suc q) s
   unfolding integral
   integral_bare s e = simp e
 
-  pub integral_is : (s : Number) → s.digits ≡ true → (z : ℤ) → z ≡ with_sign s.negative s.value → (P : Type 0) → (P → mag z < suc q) → (mag z < suc q → P) → (o : Option ℤ) → SomeIff o P z → o ≡ integral (suc q) s
+  pub integral_is : (s : Number) → has_digits s ≡ true → (z : ℤ) → z ≡ with_sign s.negative (size s) → (P : Type 0) → (P → mag z < suc q) → (mag z < suc q → P) → (o : Option ℤ) → SomeIff o P z → o ≡ integral (suc q) s
   unfolding integral
   integral_is s e z is P to from o found =
       rw (e, ← is)
-      (some_iff P z o (ltb s.value (signed_sizes (suc q) s.negative)) (λ p. fits_sizes s.negative s.value (rw is at (to p)))
-      (λ b. from (rw (is) (sizes_fit s.negative s.value b))) found)
+      (some_iff P z o (ltb (size s) (signed_sizes (suc q) s.negative)) (λ p. fits_sizes s.negative (size s) (rw is at (to p)))
+      (λ b. from (rw (is) (sizes_fit s.negative (size s) b))) found)
 
   pub integral_fits : (s : Number) (z : ℤ) → Some z ≡ integral (suc q) s → mag z < suc q
   unfolding integral
   integral_fits s z h =
-      let some = given (s.digits && ltb s.value (signed_sizes (suc q) s.negative)) h in
-      rw (some.1) (sizes_fit s.negative s.value (both_true s.digits (ltb s.value (signed_sizes (suc q) s.negative)) some.0).1)
+      let some = given (has_digits s && ltb (size s) (signed_sizes (suc q) s.negative)) h in
+      rw (some.1) (sizes_fit s.negative (size s) (both_true (has_digits s) (ltb (size s) (signed_sizes (suc q) s.negative)) some.0).1)
 
 -- Of the numbers up to p, what is one up to q.
 module _ (p q : ℕ) (low : q ≤ p) (s : Number) where
@@ -101,12 +119,12 @@ module _ (p q : ℕ) (low : q ≤ p) (s : Number) where
   pub shorten_none : None ≡ integral (suc p) s → None ≡ integral (suc q) s
   unfolding integral
   shorten_none h =
-      let none : (s.digits && ltb s.value (signed_sizes (suc p) s.negative)) ≡ false = withheld (s.digits && ltb s.value (signed_sizes (suc p) s.negative)) (with_sign s.negative s.value) h in
-      simp (either_false s.digits (ltb s.value (signed_sizes (suc p) s.negative)) none (ltb s.value (signed_sizes (suc q) s.negative)) (smaller s.value _ _ (lower s.negative)))
+      let none : (has_digits s && ltb (size s) (signed_sizes (suc p) s.negative)) ≡ false = withheld (has_digits s && ltb (size s) (signed_sizes (suc p) s.negative)) (with_sign s.negative (size s)) h in
+      simp (either_false (has_digits s) (ltb (size s) (signed_sizes (suc p) s.negative)) none (ltb (size s) (signed_sizes (suc q) s.negative)) (smaller (size s) _ _ (lower s.negative)))
 
   pub shorten_some : (z : ℤ) → Some z ≡ integral (suc p) s → (P : Type 0) → (P → mag z < suc q) → (mag z < suc q → P) → (o : Option ℤ) → SomeIff o P z → o ≡ integral (suc q) s
   unfolding integral
   shorten_some z h P to from o found =
-      let some = given (s.digits && ltb s.value (signed_sizes (suc p) s.negative)) h in
-      let whole : s.digits ≡ true = (both_true s.digits (ltb s.value (signed_sizes (suc p) s.negative)) some.0).0 in
+      let some = given (has_digits s && ltb (size s) (signed_sizes (suc p) s.negative)) h in
+      let whole : has_digits s ≡ true = (both_true (has_digits s) (ltb (size s) (signed_sizes (suc p) s.negative)) some.0).0 in
       integral_is q s whole z some.1 P to from o found

@@ -12,7 +12,3 @@ both false b h = absurd (false≢true h)
 pub digit_low : (b : ℕ) → is_digit b ≡ true → 48 ≤ b
 unfolding is_digit
 digit_low b h = leb-true 48 b (both (leb 48 b) (leb b 57) h).0
-
-pub digit_high : (b : ℕ) → is_digit b ≡ true → b ≤ 57
-unfolding is_digit
-digit_high b h = leb-true b 57 (both (leb 48 b) (leb b 57) h).1

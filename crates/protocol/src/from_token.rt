@@ -9,7 +9,8 @@ ghost use Rattle.protocol.specs.Inner.Reads.{Reads};
 use crate::float;
 use crate::number::Number;
 
-// A type that a token is read as.
+// A type that a token is read as. An impl for every `T: TryFrom<u64>` would overlap with those of bool, i32, i64 and f64,
+// and no macro of a repository may write an impl: so each has its own of one line.
 pub trait FromToken: Copy {
     // What the state of a token reads as: the value that it stands for, if the type holds one.
     ghost in_state: { Number → Option Self };

@@ -1,5 +1,5 @@
 // Standard input through a buffer, token by token.
-ghost use Rattle.std.specs.Prelude.{◌≡◌, ℕ, ◌≤◌, List, length, take, Some, IfSome, IfOk, IfErr};
+ghost use Rattle.std.specs.Prelude.{◌≡◌, ℕ, ◌<◌, ◌≤◌, List, length, take, Some, IfSome, IfOk, IfErr};
 ghost use Rattle.std.specs.List.{FoldsTo};
 ghost use Rattle.protocol.specs.Text.{int_of};
 ghost use Rattle.protocol.specs.Inner.State.{length_of, pushed_on};
@@ -22,6 +22,18 @@ pub enum Reason {
     Number,
     Length,
     End,
+}
+
+impl Reason {
+    // The reason's word in the program's answer.
+    pub fn text(self) -> &'static [u8] {
+        match self {
+            Reason::Request => b"request",
+            Reason::Number => b"number",
+            Reason::Length => b"length",
+            Reason::End => b"end",
+        }
+    }
 }
 
 // A token that cannot be read: its line, its number in the request, and why.
@@ -160,51 +172,47 @@ impl Reader {
     fn start(&mut self) -> Start {
         let mut line = self.place.below;
         let mut comment = false;
-        let mut next = self.next();
-        while let Some(b) = next {
+        while let Some(b) = self.next() {
             comment = (b != b'\n') & (comment | opens_comment(b));
             if !(comment | is_space(b)) {
-                break;
+                return Start {
+                    first: Some(b),
+                    line,
+                };
             }
             line = line_after(line, b);
-            next = self.next();
         }
-        Start { first: next, line }
+        Start { first: None, line }
     }
 
-    // The next token, which has this number: its bytes pushed one by one onto `empty`. None at the end of the input.
+    // The next token, which has this number: its bytes, one or more, pushed one by one onto `empty`. None at the end of the input.
     fn token<A: Drop, F: Fn(A, u8) -> A>(&mut self, token: u64, empty: A, push: F) -> Option<A>
         requires { F.IsAlwaysCallable push }
         ensures token { self.new.place.token ≡ token }
-        ensures pushed { IfSome result (λ read. (bytes : List ℕ) × FoldsTo (λ x b y. F.post push x b y) empty bytes read) }
+        ensures pushed { IfSome result (λ read. (bytes : List ℕ) × (0 < length bytes) × FoldsTo (λ x b y. F.post push x b y) empty bytes read) }
     {
-        let start = self.start();
+        let Start { first, line } = self.start();
+        self.place = Place::after(token, line, None);
+        let mut b = first?;
         let mut read = empty;
-        let mut next = start.first;
-        while let Some(b) = next {
-            if is_space(b) {
-                break;
-            }
+        loop {
             read = push(read, b);
-            next = self.next();
-        }
-        self.place = Place::after(token, start.line, next);
-        if start.first.is_some() {
-            Some(read)
-        } else {
-            None
+            match self.next() {
+                Some(next) if !is_space(next) => b = next,
+                ended => {
+                    self.place = Place::after(token, line, ended);
+                    return Some(read);
+                }
+            }
         }
     }
 
-    // A request's word, with which its tokens are counted anew: no bytes at the end of the input.
-    pub fn word(&mut self) -> Word
+    // A request's word, with which its tokens are counted anew. None at the end of the input.
+    pub fn word(&mut self) -> Option<Word>
         ensures token { self.new.place.token ≡ 1 }
-        ensures word { (bytes : List ℕ) × (result.bytes.items ≡ word_of bytes) }
+        ensures word { IfSome result (λ word. (bytes : List ℕ) × (0 < length bytes) × (word.bytes.items ≡ word_of bytes)) }
     {
-        match self.token(1, Word::new(), Word::push) {
-            Some(word) => word,
-            None => Word::new(),
-        }
+        self.token(1, Word::new(), Word::push)
     }
 
     // The next token as a value of the type: the one that the token's bytes stand for.

@@ -18,12 +18,11 @@ pub fn opens_comment(b: u8) -> bool
     b == b'#'
 }
 
-// What the bytes of a token so far amount to: its sign, whether there was a digit, and its size.
+// What the bytes of a token so far amount to: its sign, and its size once there is a digit.
 #[derive(Clone, Copy)]
 pub struct Number {
     pub negative: bool,
-    pub digits: bool,
-    pub value: u64,
+    pub value: Option<u64>,
 }
 
 impl Number {
@@ -33,8 +32,7 @@ impl Number {
     {
         Number {
             negative: false,
-            digits: false,
-            value: 0,
+            value: None,
         }
     }
 
@@ -53,14 +51,13 @@ impl Number {
     // The state after the digit b.
     fn grow(self, b: u8) -> Option<Number>
         requires { is_digit b ≡ true }
-        ensures { result ≡ State.grown self (self.value * 10 + (b - 48)) }
+        ensures { result ≡ State.grown self (State.size self * 10 + (b - 48)) }
     {
-        let tens = self.value.checked_mul(10)?;
+        let tens = self.value.unwrap_or(0).checked_mul(10)?;
         let value = tens.checked_add(u64::from(b - b'0'))?;
         Some(Number {
-            negative: self.negative,
-            digits: true,
-            value,
+            value: Some(value),
+            ..self
         })
     }
 
@@ -69,12 +66,11 @@ impl Number {
     fn sign(self, b: u8) -> Option<Number>
         ensures { result ≡ State.signed self b }
     {
-        let first = !(self.negative | self.digits);
+        let first = !(self.negative | self.value.is_some());
         if (b == b'-') & first {
             Some(Number {
                 negative: true,
-                digits: self.digits,
-                value: self.value,
+                ..self
             })
         } else {
             None
@@ -82,27 +78,22 @@ impl Number {
     }
 
     // A whole integer that is not below 0.
-    #[tactic(auto, unfolding(crate::specs::Inner::State::u64_in, crate::specs::Inner::State::natural, crate::specs::Inner::State::is_natural))]
     pub fn natural(self) -> Option<u64>
         ensures { result ≡ State.u64_in self }
     {
-        if self.digits & (!self.negative | (self.value == 0)) {
-            Some(self.value)
-        } else {
-            None
-        }
+        let value = self.value?;
+        (!self.negative | (value == 0)).then_some(value)
     }
 
     // A whole integer.
     pub fn integer(self) -> Option<i64>
         ensures { result ≡ State.i64_in self }
     {
-        if !self.digits {
-            None
-        } else if self.negative {
-            0_i64.checked_sub_unsigned(self.value)
+        let value = self.value?;
+        if self.negative {
+            0_i64.checked_sub_unsigned(value)
         } else {
-            i64::try_from(self.value).ok()
+            i64::try_from(value).ok()
         }
     }
 }

@@ -2,23 +2,35 @@
 ghost use Rattle.std.specs.Prelude.{◌≡◌, ℕ, ◌+◌, ◌≤◌, List, length, pos, to_bits};
 ghost use Rattle.std.proofs.Math.Seq.{paste};
 ghost use Rattle.std.specs.Float.{binary64};
+ghost use Rattle.std.proofs.Common.{arith};
 ghost use Rattle.protocol.specs.Inner.Print.{Put, decimal_of, signed_of};
 
 use crate::float;
 
-// A type whose values are printed as numbers.
+// A type whose values are printed as numbers. An impl for every `T: Into<u64>` would overlap with those of i32, i64 and f64,
+// and no macro of a repository may write an impl: so each has its own of one line.
 pub trait ToText: Copy {
     // The text of a value.
     ghost text: { Self → List ℕ };
 
+    // The room that a text needs at most.
+    ghost room: { ℕ };
+
     // Puts the text into out from at on, and answers where it ends.
     fn put(self, out: &mut [u8], at: usize) -> usize
-        requires { at + 21 ≤ length out.old }
+        requires { at + room ≤ length out.old }
         ensures { Put out.old at (text self) out.new result };
+
+    // Twenty digits and a sign.
+    ghost room_fits: { room ≤ 21 };
 }
 
 impl ToText for u8 {
     ghost text = { decimal_of };
+
+    ghost room = { 20 };
+
+    ghost room_fits = { Prim.search arith };
 
     fn put(self, out: &mut [u8], at: usize) -> usize {
         put_u64(out, at, u64::from(self))
@@ -28,6 +40,10 @@ impl ToText for u8 {
 impl ToText for u32 {
     ghost text = { decimal_of };
 
+    ghost room = { 20 };
+
+    ghost room_fits = { Prim.search arith };
+
     fn put(self, out: &mut [u8], at: usize) -> usize {
         put_u64(out, at, u64::from(self))
     }
@@ -35,6 +51,10 @@ impl ToText for u32 {
 
 impl ToText for u64 {
     ghost text = { decimal_of };
+
+    ghost room = { 20 };
+
+    ghost room_fits = { Prim.search arith };
 
     fn put(self, out: &mut [u8], at: usize) -> usize {
         put_u64(out, at, self)
@@ -44,6 +64,10 @@ impl ToText for u64 {
 impl ToText for usize {
     ghost text = { decimal_of };
 
+    ghost room = { 20 };
+
+    ghost room_fits = { Prim.search arith };
+
     fn put(self, out: &mut [u8], at: usize) -> usize {
         put_u64(out, at, self as u64)
     }
@@ -51,6 +75,10 @@ impl ToText for usize {
 
 impl ToText for i32 {
     ghost text = { signed_of };
+
+    ghost room = { 21 };
+
+    ghost room_fits = { Prim.search arith };
 
     fn put(self, out: &mut [u8], at: usize) -> usize {
         put_i64(out, at, i64::from(self))
@@ -60,6 +88,10 @@ impl ToText for i32 {
 impl ToText for i64 {
     ghost text = { signed_of };
 
+    ghost room = { 21 };
+
+    ghost room_fits = { Prim.search arith };
+
     fn put(self, out: &mut [u8], at: usize) -> usize {
         put_i64(out, at, self)
     }
@@ -68,6 +100,10 @@ impl ToText for i64 {
 // Its pattern.
 impl ToText for f64 {
     ghost text = { λ x. decimal_of (to_bits binary64 x) };
+
+    ghost room = { 20 };
+
+    ghost room_fits = { Prim.search arith };
 
     fn put(self, out: &mut [u8], at: usize) -> usize {
         put_u64(out, at, float::pattern(self))

@@ -1,27 +1,35 @@
 -- Reading a number a byte at a time: the state after each byte, and what a state reads as at each type. Assumes nothing.
-use Rattle.std.specs.Prelude.{ℕ, ◌+◌, ◌-◌, ◌*◌, ◌^◌, Bool, true, false, cond, not, ◌&&◌, ◌||◌, List, [], ◌∷◌, ℤ, pos, negsuc, neg_ℤ, ◌==◌, from_bits, Option, Some, None, int_le, int_lt, nat_lt}
+use Rattle.std.specs.Prelude.{ℕ, ◌+◌, ◌-◌, ◌*◌, ◌^◌, Bool, true, false, cond, not, ◌&&◌, ◌||◌, List, [], ◌∷◌, ℤ, pos, negsuc, neg_ℤ, ◌==◌, from_bits, Option, Some, None, is_some, unwrap_or, int_le, int_lt, nat_lt}
 use Rattle.std.specs.Float.{binary64, Float}
 use Rattle.protocol.specs.Text.{is_digit, Reading, none, integer}
 use Rattle.protocol.specs.declared.number.Number.{Number}
 
 -- before the first byte
 abbrev pub start : Number
-start = record { negative = false; digits = false; value = 0 }
+start = record { negative = false; value = None }
+
+-- whether there was a digit
+abbrev pub has_digits : Number → Bool
+has_digits s = is_some s.value
+
+-- the number so far: 0 before the first digit
+abbrev pub size : Number → ℕ
+size s = unwrap_or s.value 0
 
 -- after a digit, with v the number up to it: a number of 2^64 or more fits no type
 unfoldable pub grown : Number → ℕ → Option Number
-grown s v = cond (nat_lt v (2 ^ 64)) (Some (record { negative = s.negative; digits = true; value = v })) None
+grown s v = cond (nat_lt v (2 ^ 64)) (Some (record { negative = s.negative; value = Some v })) None
 
 -- after the byte b, which is no digit: a `-` may stand in front of all else
 unfoldable pub signed : Number → ℕ → Option Number
 signed s b =
-    cond (b == 45 && not (s.negative || s.digits))
-    (Some (record { negative = true; digits = s.digits; value = s.value }))
+    cond (b == 45 && not (s.negative || has_digits s))
+    (Some (record { negative = true; value = s.value }))
     None
 
 -- after the byte b; None is no number, whatever follows
 unfoldable pub pushed : Number → ℕ → Option Number
-pushed s b = cond (is_digit b) (grown s (s.value * 10 + (b - 48))) (signed s b)
+pushed s b = cond (is_digit b) (grown s (size s * 10 + (b - 48))) (signed s b)
 
 -- the same after any state
 abbrev pub pushed_on : Option Number → ℕ → Option Number
@@ -35,11 +43,11 @@ pushed_all s (b ∷ bs) = pushed_all (pushed_on s b) bs
 
 -- the state of a whole integer that is not below 0
 unfoldable pub is_natural : Number → Bool
-is_natural s = s.digits && (not s.negative || s.value == 0)
+is_natural s = has_digits s && (not s.negative || size s == 0)
 
 -- a state's number below limit, else none
 unfoldable pub natural : {A : Type 0} → ℕ → (ℕ → A) → Number → Option A
-natural limit value s = cond (is_natural s && nat_lt s.value limit) (Some (value s.value)) None
+natural limit value s = cond (is_natural s && nat_lt (size s) limit) (Some (value (size s))) None
 
 -- a flag is 0 or 1
 unfoldable pub bool_in : Number → Option Bool
@@ -73,7 +81,7 @@ signed_sizes p false = p
 
 -- a state's number with its sign, of such a size, else none
 unfoldable pub integral : ℕ → Number → Option ℤ
-integral p s = cond (s.digits && nat_lt s.value (signed_sizes p s.negative)) (Some (with_sign s.negative s.value)) None
+integral p s = cond (has_digits s && nat_lt (size s) (signed_sizes p s.negative)) (Some (with_sign s.negative (size s))) None
 
 unfoldable pub i32_in : Number → Option ℤ
 i32_in = integral (2 ^ 31)

@@ -7,7 +7,7 @@ use lib.Dec.{leb-suc-suc, eqb-suc-zero}
 use lib.Ieee.{binary64, of_bits}
 use borrow.Author.Tests.{lt-leb}
 use Rattle.protocol.specs.Text.{is_digit, all_digits, is_numeral, value_of, Reading, none, integer, int_of}
-use Rattle.protocol.specs.Inner.State.{start, grown, signed, pushed, pushed_on, pushed_all, is_natural, natural, natural_of, with_sign, signed_sizes, integral, integral_of, i32_in, i32_of, i64_in, i64_of, bool_in, bool_of, u8_in, u8_of, u32_in, u32_of, u64_in, u64_of, f64_in, f64_of, length_in, length_of}
+use Rattle.protocol.specs.Inner.State.{start, has_digits, size, grown, signed, pushed, pushed_on, pushed_all, is_natural, natural, natural_of, with_sign, signed_sizes, integral, integral_of, i32_in, i32_of, i64_in, i64_of, bool_in, bool_of, u8_in, u8_of, u32_in, u32_of, u64_in, u64_of, f64_in, f64_of, length_in, length_of}
 use Rattle.protocol.specs.Inner.Reads.{read_by, Reads}
 use Rattle.protocol.specs.declared.number.Number.{Number}
 
@@ -19,8 +19,8 @@ data Unfit : Reading → Type 0 where
 -- What a state shows of a token: nothing that fits a type, or its integer.
 data Shows : Option Number → Reading → Type 0 where
   lost : {r : Reading} → Unfit r → Shows None r
-  bare : {s : Number} {r : Reading} → s.digits ≡ false → Unfit r → Shows (Some s) r
-  holds : {s : Number} → s.digits ≡ true → Shows (Some s) (integer (with_sign s.negative s.value))
+  bare : {s : Number} {r : Reading} → has_digits s ≡ false → Unfit r → Shows (Some s) r
+  holds : {s : Number} → has_digits s ≡ true → Shows (Some s) (integer (with_sign s.negative (size s)))
 
 -- The digits ds after a number v.
 with_digits : Bool → ℕ → List ℕ → Reading
@@ -61,7 +61,7 @@ lost_shows : (ds : List ℕ) {r : Reading} → Unfit r → Shows (pushed_all Non
 lost_shows ds {r} u = subst (λ (t : Option Number). Shows t r) (sym (stays ds)) (lost u)
 
 -- The state after a digit is the number so far, or none where that is 2^64 or more.
-after_digit : (s : Number) (b : ℕ) → is_digit b ≡ true → pushed_on (Some s) b ≡ grown s (s.value * 10 + (b - 48))
+after_digit : (s : Number) (b : ℕ) → is_digit b ≡ true → pushed_on (Some s) b ≡ grown s (size s * 10 + (b - 48))
 unfolding pushed pushed_on
 after_digit s b h = simp h
 
@@ -70,12 +70,12 @@ unfolding pushed pushed_on
 after_other s b h = simp h
 
 -- A `-` after a sign or a digit is no number.
-sign_late : (s : Number) (b : ℕ) → (s.negative || s.digits) ≡ true → signed s b ≡ None
+sign_late : (s : Number) (b : ℕ) → (s.negative || has_digits s) ≡ true → signed s b ≡ None
 unfolding signed
 sign_late s b h = simp (h, and-false)
 
 abbrev pub grown_to : Number → ℕ → Number
-grown_to s v = record { negative = s.negative; digits = true; value = v }
+grown_to s v = record { negative = s.negative; value = Some v }
 
 module _ (s : Number) (v : ℕ) where
   pub grown_value : v < 2 ^ 64 → Some (grown_to s v) ≡ grown s v
@@ -87,7 +87,7 @@ module _ (s : Number) (v : ℕ) where
   grown_large h = simp (le-ltb v (2 ^ 64) h)
 
 -- A digit in front of bytes of which the claim holds in every state with a digit.
-module _ (b : ℕ) (bs : List ℕ) (ih : (s : Number) → s.digits ≡ true → Shows (pushed_all (Some s) bs) (with_digits s.negative s.value bs)) where
+module _ (b : ℕ) (bs : List ℕ) (ih : (s : Number) → has_digits s ≡ true → Shows (pushed_all (Some s) bs) (with_digits s.negative (size s) bs)) where
   grown_shows : (s : Number) (v : ℕ) (small : Bool) → ltb v (2 ^ 64) ≡ small → Shows (pushed_all (grown s v) bs) (with_digits s.negative v bs)
   unfolding grown_to
   grown_shows s v true e =
@@ -97,22 +97,22 @@ module _ (b : ℕ) (bs : List ℕ) (ih : (s : Number) → s.digits ≡ true → 
       subst (λ (t : Option Number). Shows (pushed_all t bs) (with_digits s.negative v bs)) (grown_large s v large)
       (lost_shows bs (digits_huge s.negative v bs large))
 
-  digit_shows : (s : Number) → is_digit b ≡ true → Shows (pushed_all (pushed_on (Some s) b) bs) (with_digits s.negative s.value (b ∷ bs))
+  digit_shows : (s : Number) → is_digit b ≡ true → Shows (pushed_all (pushed_on (Some s) b) bs) (with_digits s.negative (size s) (b ∷ bs))
   digit_shows s h =
-      rw (after_digit s b h, ← digits_digit s.negative s.value b bs h)
-      (grown_shows s (s.value * 10 + (b - 48)) (ltb (s.value * 10 + (b - 48)) (2 ^ 64)) refl)
+      rw (after_digit s b h, ← digits_digit s.negative (size s) b bs h)
+      (grown_shows s (size s * 10 + (b - 48)) (ltb (size s * 10 + (b - 48)) (2 ^ 64)) refl)
 
-other_shows : (s : Number) (b : ℕ) (bs : List ℕ) → (s.negative || s.digits) ≡ true → is_digit b ≡ false → Shows (pushed_all (pushed_on (Some s) b) bs) none
+other_shows : (s : Number) (b : ℕ) (bs : List ℕ) → (s.negative || has_digits s) ≡ true → is_digit b ≡ false → Shows (pushed_all (pushed_on (Some s) b) bs) none
 other_shows s b bs hn h = rw (after_other s b h, sign_late s b hn) (lost_shows bs nothing)
 
-either_shows : (b : ℕ) (bs : List ℕ) (ih : (s : Number) → s.digits ≡ true → Shows (pushed_all (Some s) bs) (with_digits s.negative s.value bs)) (s : Number) (d : Bool) → is_digit b ≡ d → s.digits ≡ true → Shows (pushed_all (pushed_on (Some s) b) bs) (with_digits s.negative s.value (b ∷ bs))
+either_shows : (b : ℕ) (bs : List ℕ) (ih : (s : Number) → has_digits s ≡ true → Shows (pushed_all (Some s) bs) (with_digits s.negative (size s) bs)) (s : Number) (d : Bool) → is_digit b ≡ d → has_digits s ≡ true → Shows (pushed_all (pushed_on (Some s) b) bs) (with_digits s.negative (size s) (b ∷ bs))
 either_shows b bs ih s true h hd = digit_shows b bs ih s h
 either_shows b bs ih s false h hd =
-    rw (← digits_other s.negative s.value b bs h) (other_shows s b bs (simp (hd, or-true)) h)
+    rw (← digits_other s.negative (size s) b bs h) (other_shows s b bs (simp (hd, or-true)) h)
 
-digits_show : (ds : List ℕ) (s : Number) → s.digits ≡ true → Shows (pushed_all (Some s) ds) (with_digits s.negative s.value ds)
+digits_show : (ds : List ℕ) (s : Number) → has_digits s ≡ true → Shows (pushed_all (Some s) ds) (with_digits s.negative (size s) ds)
 unfolding pushed_all
-digits_show [] s hd = rw (← digits_none s.negative s.value) (holds hd)
+digits_show [] s hd = rw (← digits_none s.negative (size s)) (holds hd)
 digits_show (b ∷ bs) s hd = either_shows b bs (digits_show bs) s (is_digit b) refl hd
 
 -- A numeral, from a state with no digit yet.
@@ -128,23 +128,23 @@ numeral_other : (n : Bool) (b : ℕ) (bs : List ℕ) → is_digit b ≡ false �
 unfolding numeral is_numeral all_digits
 numeral_other n b bs h = simp h
 
-numeral_digit : (s : Number) (b : ℕ) (bs : List ℕ) → s.value ≡ 0 → is_digit b ≡ true → Shows (pushed_all (pushed_on (Some s) b) bs) (numeral s.negative (b ∷ bs))
+numeral_digit : (s : Number) (b : ℕ) (bs : List ℕ) → size s ≡ 0 → is_digit b ≡ true → Shows (pushed_all (pushed_on (Some s) b) bs) (numeral s.negative (b ∷ bs))
 numeral_digit s b bs hv h =
     rw (← numeral_digits s.negative b bs, ← hv) (digit_shows b bs (digits_show bs) s h)
 
-after_sign : (s : Number) (b : ℕ) (bs : List ℕ) (d : Bool) → is_digit b ≡ d → s.value ≡ 0 → s.negative ≡ true → Shows (pushed_all (pushed_on (Some s) b) bs) (numeral s.negative (b ∷ bs))
+after_sign : (s : Number) (b : ℕ) (bs : List ℕ) (d : Bool) → is_digit b ≡ d → size s ≡ 0 → s.negative ≡ true → Shows (pushed_all (pushed_on (Some s) b) bs) (numeral s.negative (b ∷ bs))
 after_sign s b bs true h hv hn = numeral_digit s b bs hv h
 after_sign s b bs false h hv hn =
     rw (← numeral_other s.negative b bs h) (other_shows s b bs (simp hn) h)
 
-signed_shows : (ds : List ℕ) (s : Number) → s.digits ≡ false → s.value ≡ 0 → s.negative ≡ true → Shows (pushed_all (Some s) ds) (numeral s.negative ds)
+signed_shows : (ds : List ℕ) (s : Number) → has_digits s ≡ false → size s ≡ 0 → s.negative ≡ true → Shows (pushed_all (Some s) ds) (numeral s.negative ds)
 unfolding pushed_all numeral is_numeral
 signed_shows [] s hd hv hn = bare hd nothing
 signed_shows (b ∷ bs) s hd hv hn = after_sign s b bs (is_digit b) refl hv hn
 
 -- The first byte: a `-`, a digit, or neither.
 minus : Number
-minus = record { negative = true; digits = false; value = 0 }
+minus = record { negative = true; value = None }
 
 pushed_minus : (b : ℕ) → eqb b 45 ≡ true → pushed_on (Some start) b ≡ Some minus
 unfolding pushed pushed_on signed minus is_digit
@@ -193,7 +193,7 @@ module _ {A : Type 0} (limit : ℕ) (value : ℕ → A) where
   unfolding natural is_natural read_by
   shows_natural (lost u) h = unfit_natural u h
   shows_natural (bare e u) h = simp e (unfit_natural u h)
-  shows_natural (holds {s} e) h = simp e (by_sign s.negative s.value)
+  shows_natural (holds {s} e) h = simp e (by_sign s.negative (size s))
 
 -- What a state shows, at a signed type whose largest number is q.
 module _ (q : ℕ) where
@@ -214,7 +214,7 @@ module _ (q : ℕ) where
   unfolding integral read_by
   shows_integral (lost u) top = unfit_integral u top
   shows_integral (bare e u) top = simp e (unfit_integral u top)
-  shows_integral (holds {s} e) top = simp e (signed_reading s.negative s.value)
+  shows_integral (holds {s} e) top = simp e (signed_reading s.negative (size s))
 
 -- The laws: the bytes t of a token, pushed one by one from the start, read as the integer that t stands for.
 

@@ -2,15 +2,10 @@
 use Rattle.std.proofs.Common.{w64, rules}
 use mir.Val.{SFits}
 use mir.Facts.{to_z-of_z}
-use Rattle.exports.specs.Answers.{late_numbers}
+use Rattle.exports.proofs.Numbers.{late_is}
 use Rattle.exports.proofs.late.late_answer.Goals as goal
 
-pub returns-in-Ok : goal.returns-in-Ok
-unfolding late_numbers
-returns-in-Ok c =
-    let f : SFits w64 c.in-Ok.total.0 = search rules in
-    rw (c.in-Ok.is, to_z-of_z f)
-
-pub returns-in-Err : goal.returns-in-Err
-unfolding late_numbers
-returns-in-Err c = let z = c.default.ensures.1.1 in rw (c.in-Err.is, c.number.ensures, c.place.ensures, z.0, z.1)
+pub returns : goal.returns
+returns c =
+    let f : SFits w64 c.unwrap_or-total.result.0 = search rules in
+    rw (to_z-of_z f) (late_is c.args.answer _ _ c.from-number.ensures c.unwrap_or-total.ensures)

@@ -1,8 +1,11 @@
--- `float::pattern` meets its contract: only the NaN differs from itself. Assumes nothing.
-use lib.Ieee.{to_bits}
-use Rattle.protocol.proofs.Nans.{self_unequal}
+-- `float::pattern` meets its contract: the NaN has the one pattern. Assumes nothing.
+use Rattle.std.proofs.Common.{◌≡◌, true, sym, refl, ◌∙◌}
+use lib.Ieee.{to_bits, is_nan}
+use Rattle.protocol.proofs.Nans.{is_nan_lem}
 use Rattle.protocol.proofs.float.pattern.Goals as goal
 
-pub returns-else-x : goal.returns-else-x
+pub returns-then-is_nan : goal.returns-then-is_nan
 unfolding to_bits
-returns-else-x c = simp (self_unequal c.args.x c.if-x.false)
+returns-then-is_nan c =
+    let nan : is_nan c.args.x ≡ true = sym c.is_nan.ensures.value ∙ c.if-is_nan.true in
+    rw (← is_nan_lem c.args.x nan) refl

@@ -6,10 +6,11 @@ use Rattle.protocol.proofs.input.Reader.read.Goals as goal
 
 pub returns-in-Some-Some-clause-value : goal.returns-in-Some-Some-clause-value
 returns-in-Some-Some-clause-value g c =
-    let t = g.T.FromToken in
+    let type = g.T.FromToken in
     let pushed = c.in-Some-Some.ensures.pushed in
-    let folds : Some c.in-Some-Some.number ≡ pushed_all (Some start) pushed.0 =
+    let t = pushed.0 in
+    let folds : Some c.in-Some-Some.number ≡ pushed_all (Some start) t =
     sym c.in-Some-Some.field-0-is
-    ∙ number_folds (λ s b u r. search of_calls) (Some c.new.result) pushed.0 c.in-Some-Some.field-0 pushed.1
-    ∙ ap (λ s. pushed_all (Some s) pushed.0) c.new.ensures in
-    value_read t.in_state t.of_reading g.met.T.FromToken.reads pushed.0 c.in-Some-Some.number folds c.from_number.result c.from_number.ensures c.unreadable.result c.ok_or.result c.ok_or.ensures.value
+    ∙ number_folds (λ s b u r. search of_calls) (Some c.new.result) t c.in-Some-Some.field-0 pushed.2
+    ∙ ap (λ s. pushed_all (Some s) t) c.new.ensures in
+    value_read type.in_state type.of_reading g.met.T.FromToken.reads t c.in-Some-Some.number folds c.from_number.result c.from_number.ensures c.unreadable.result c.ok_or.result c.ok_or.ensures.value
