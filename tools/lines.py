@@ -4,13 +4,13 @@
 Run as python3 tools/lines.py at the repository's root; tools/knots.py stands beside it.
 """
 
-from knots import filled, table
+from knots import table
 
 # From here on the knots are 0.
 FLAT = 1604
 
 CODE = """// The lines of specs/Inner/Lines.antt, base and slope of each: below zero, from zero on, far above, far below.
-pub static LINES: [u32; %d] = [
+pub static LINES: [(u32, u32); %d] = [
 %s];
 """
 
@@ -22,9 +22,8 @@ def main():
     pieces = [(base[k], fall[k]) for k in reversed(range(FLAT))]
     pieces += [(base[k], 32 - fall[k]) for k in range(FLAT)]
     pieces += [(0, 32), (0, 0)]
-    numbers = [n for piece in pieces for n in piece]
     with open("crates/steps/src/lines.rt", "w", encoding="utf-8") as code:
-        code.write(CODE % (len(numbers), filled(numbers)))
+        code.write(CODE % (len(pieces), "".join("    (%d, %d),\n" % piece for piece in pieces)))
 
 
 if __name__ == "__main__":

@@ -5,12 +5,12 @@ use lib.IntN.{+ℤ_idr}
 use Rattle.steps.specs.Knots.{T}
 use Rattle.steps.specs.Addend.{addend}
 use Rattle.steps.specs.Logs.{add_exp, larger, difference}
-use Rattle.steps.specs.Inner.Lines.{fall, base, lines, Holds}
+use Rattle.steps.specs.Inner.Lines.{fall, base, line_at, Holds}
 use Rattle.steps.proofs.Signed.{cases, zlin, up_pos, dn_pos, neg_up, neg_dn, parts_add}
 use Rattle.steps.proofs.Slope.{slope}
 use Rattle.steps.proofs.Addends.{line, on_line, at_knot, far}
 use Rattle.steps.proofs.AddExp.{larger_first}
-use Rattle.steps.proofs.LineTable.{Line, line_below, line_above, line_high, line_low}
+use Rattle.steps.proofs.LineTable.{line_below, line_above, line_high, line_low}
 
 -- ---- A on the line of the knot k, for d from 32 k to 32 (k + 1)
 record Between (k d : ℕ) : Type 0 where
@@ -80,14 +80,14 @@ taken b q h =
     omega (zlin, neg_up (pos q), neg_dn (pos q), up_pos b, dn_pos b, up_pos q, dn_pos q, up_pos (b - q), dn_pos (b - q))
 
 -- the record, from what stands in the table
-holds : (k b s n : ℕ) (d : ℤ) → k < 3210 → b < 2 ^ 31 → s ≤ 32 → Line lines k b s → pos b +ℤ pos s *ℤ d ≡ pos n → add_exp d (pos 0) ≡ pos (n / 32) → Holds k d
+holds : (k b s n : ℕ) (d : ℤ) → k < 3210 → b < 2 ^ 31 → s ≤ 32 → line_at k ≡ (b, s) → pos b +ℤ pos s *ℤ d ≡ pos n → add_exp d (pos 0) ≡ pos (n / 32) → Holds k d
 holds k b s n d h l g t e v =
     record {
       listed = h;
-      low = rw t.base_is l;
-      gentle = rw t.slope_is g;
+      low = rw t l;
+      gentle = rw t g;
       sum = n;
-      sums = rw (t.base_is, t.slope_is) e;
+      sums = rw t e;
       value = v;
     }
 

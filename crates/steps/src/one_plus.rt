@@ -4,8 +4,8 @@ ghost use Rattle.steps.specs.Logs.{add_exp};
 ghost use Rattle.steps.specs.Inner.Lines.{Holds};
 ghost use Rattle.steps.specs.Inner.Lines as spec;
 
-// The lines.
-pub fn lines() -> &'static [u32; 6420]
+// The lines, each by its base and its slope.
+pub fn lines() -> &'static [(u32, u32); 3210]
     ensures { result.now ≡ spec.lines }
 {
     &crate::lines::LINES
@@ -29,9 +29,6 @@ pub fn ln_one_plus_exp(d: i64) -> i64
     requires { unsigned_abs d ≤ 2 ^ 36 }
     ensures { result ≡ add_exp d (pos 0) }
 {
-    let t = lines();
-    let k = piece(d);
-    let x = t[2 * k] as i64;
-    let y = t[2 * k + 1] as i64;
-    ((x + y * d) as usize / 32) as i64
+    let (base, slope) = lines()[piece(d)];
+    ((base as i64 + slope as i64 * d) as usize / 32) as i64
 }
