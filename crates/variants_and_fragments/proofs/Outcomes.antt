@@ -10,7 +10,9 @@ use borrow.Author.Tests.{le-leb, lt-leb, leb-true, eq-eqb, ne_eqb, eqb-true}
 use lib.IntN.{ℤ}
 use Rattle.variants_and_fragments.specs.declared.Sizes.{Sizes}
 use Rattle.variants_and_fragments.specs.declared.Refusal.{Refusal}
+use Rattle.std.specs.Prelude.{Result, IsErrAnd}
 use Rattle.std.proofs.Common.{Ok, Err}
+use Rattle.std.proofs.lemmas.Result.{err_from_is_err_and}
 use Rattle.variants_and_fragments.specs.declared.laid.Case.{Case}
 use Rattle.variants_and_fragments.specs.First.{first_fail_from}
 use Rattle.variants_and_fragments.specs.Refusals.{Outcome, refused, done, refusal, unless, each, and_then, smallest_short, long_enough, afterwards, Promise}
@@ -160,6 +162,10 @@ module _ {Y : Type 0} (w : List ℤ) (b : List ℕ) (next : Sizes → Outcome Y)
 
   pub case_past : (case : Case) → check.outcome_of (Ok case) ≡ check_case_outcome w b → next case.laid.sizes ≡ and_then (check_case_outcome w b) next
   case_past = check_past (check_case_outcome w b) next
+
+-- ---- the exit of a `?`: what is returned is the error that the call gave
+pub exit_is : {T E : Type 0} {error : E} {result : Result T E} → IsErrAnd result (λ y. y ≡ error) → result ≡ Err error
+exit_is {T} {E} {error} {result} h = let p = err_from_is_err_and result h in p.1 ∙ ap (λ (y : E). Err y) p.2
 
 -- ---- what an operation promises
 module _ {X Slices : Type 0} {outcome : Outcome X} {new before : Slices} where

@@ -2,11 +2,10 @@
 use Rattle.std.proofs.Common.{◌≡◌, ℕ, ◌<◌, Option, None, Err, length, ◌∙◌}
 use Rattle.std.specs.Option.{ok_or}
 use Rattle.std.proofs.lemmas.Option.{MatchOption-at_some, MatchOption-at_none}
-use Rattle.std.proofs.lemmas.Result.{err_from_is_err_and}
 use Rattle.variants_and_fragments.specs.declared.Refusal.{Refusal}
 use Rattle.variants_and_fragments.specs.declared.Refusal.TheVariants.{Orders}
 use Rattle.variants_and_fragments.proofs.Decoded.{variants_are}
-use Rattle.variants_and_fragments.proofs.Outcomes.{case_stops, promise_refused, promise_done}
+use Rattle.variants_and_fragments.proofs.Outcomes.{case_stops, exit_is, promise_refused, promise_done}
 use Rattle.shuffle.specs.Orders.{order_count}
 use Rattle.shuffle.specs.Answers.{sweep_orders_outcome, sweep_orders_written}
 use Rattle.shuffle.proofs.Outcomes.{no_room, some_room}
@@ -17,8 +16,7 @@ use Rattle.shuffle.proofs.sweep_orders.Goals.{In_ok-m}
 pub returns-in_err-case : goal.returns-in_err-case
 unfolding sweep_orders_outcome
 returns-in_err-case c =
-    let p = err_from_is_err_and c.from_residual.result c.from_residual.ensures.1 in rw (p.1, p.2)
-    (promise_refused _ (case_stops _ _ _ _ c.in_err-case.ensures.outcome))
+    rw (exit_is c.from_residual.ensures.1) (promise_refused _ (case_stops _ _ _ _ c.in_err-case.ensures.outcome))
 
 -- the error that takes the place of none
 ok_or_none : (o : Option ℕ) (x y : Refusal) → o ≡ None → Err x ≡ ok_or o y → x ≡ y
@@ -28,8 +26,7 @@ pub returns-in_err-m : goal.returns-in_err-m
 returns-in_err-m c =
     let none = MatchOption-at_none _ _ c.in_err-m.ensures.ok_part c.order_count.ensures in
     let x = ok_or_none _ _ (Orders 0) c.in_err-m.ensures.ok_part c.in_err-m.ensures.value in
-    let p = err_from_is_err_and c.from_residual-in_err-m.result c.from_residual-in_err-m.ensures.1 in rw (p.1, p.2, x)
-    (promise_refused (Orders 0) (no_room _ _ _ c.in_ok-case.case c.in_ok-case.ensures.outcome none))
+    rw (exit_is c.from_residual-in_err-m.ensures.1, x) (promise_refused (Orders 0) (no_room _ _ _ c.in_ok-case.case c.in_ok-case.ensures.outcome none))
 
 -- past the count
 counted : (c : In_ok-m) → (0 < c.in_ok-m.m) × (c.in_ok-m.m ≡ order_count c.in_ok-case.case.laid.sizes.n (length c.args.orders.now))

@@ -1,28 +1,28 @@
 -- The parts of the check, one after the other.
 use Rattle.std.proofs.Common.{sym}
-use Rattle.std.proofs.lemmas.Result.{err_from_is_err_and}
 use Rattle.variants_and_fragments.proofs.Accepted.{checked_in, checked_bases}
+use Rattle.variants_and_fragments.proofs.Outcomes.{exit_is}
 use Rattle.variants_and_fragments.proofs.Parts.{at_head, at_variants, at_alleles, at_chains, all_passed}
 use Rattle.variants_and_fragments.proofs.check_case_and_haplotypes.Goals as goal
 
 pub returns-in_err-laid-clause-outcome : goal.returns-in_err-laid-clause-outcome
 returns-in_err-laid-clause-outcome c =
-    let p = err_from_is_err_and c.from_residual.result c.from_residual.ensures.1 in rw (p.1, p.2) (at_head _ _ _ _ c.in_err-laid.ensures.outcome)
+    rw (exit_is c.from_residual.ensures.1) (at_head _ _ _ _ c.in_err-laid.ensures.outcome)
 
 pub returns-in_err-known-clause-outcome : goal.returns-in_err-known-clause-outcome
 returns-in_err-known-clause-outcome c =
-    let p = err_from_is_err_and c.from_residual-in_err-known.result c.from_residual-in_err-known.ensures.1 in rw (p.1, p.2)
+    rw (exit_is c.from_residual-in_err-known.ensures.1)
     (at_variants _ _ _ _ c.in_ok-laid.ensures.outcome _ (rw c.in_ok-laid.ensures.lent at c.in_err-known.ensures.outcome))
 
 pub returns-in_err-check_alleles-clause-outcome : goal.returns-in_err-check_alleles-clause-outcome
 returns-in_err-check_alleles-clause-outcome c =
-    let p = err_from_is_err_and c.from_residual-in_err-check_alleles.result c.from_residual-in_err-check_alleles.ensures.1 in rw (p.1, p.2)
+    rw (exit_is c.from_residual-in_err-check_alleles.ensures.1)
     (at_alleles _ _ _ _ c.in_ok-laid.ensures.outcome (rw c.in_ok-laid.ensures.lent at c.in_ok-known.ensures.outcome) _
     (rw (c.in_ok-known.ensures.same, c.in_ok-laid.ensures.lent) at c.in_err-check_alleles.ensures))
 
 pub returns-in_err-check_chains-clause-outcome : goal.returns-in_err-check_chains-clause-outcome
 returns-in_err-check_chains-clause-outcome c =
-    let p = err_from_is_err_and c.from_residual-in_err-check_chains.result c.from_residual-in_err-check_chains.ensures.1 in rw (p.1, p.2)
+    rw (exit_is c.from_residual-in_err-check_chains.ensures.1)
     (at_chains _ _ _ _ c.in_ok-laid.ensures.outcome (rw c.in_ok-laid.ensures.lent at c.in_ok-known.ensures.outcome)
     (rw (c.in_ok-known.ensures.same, c.in_ok-laid.ensures.lent) at c.in_ok-check_alleles.ensures) _
     (rw (c.in_ok-known.ensures.same, c.in_ok-laid.ensures.lent) at c.in_err-check_chains.ensures))

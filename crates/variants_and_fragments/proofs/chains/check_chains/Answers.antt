@@ -1,7 +1,6 @@
 -- The first reached record that is wrong decides, then the first fragment that is wrong, then the free chain.
 use Rattle.std.proofs.Common.{◌∙◌, sym}
-use Rattle.std.proofs.lemmas.Result.{err_from_is_err_and}
-use Rattle.variants_and_fragments.proofs.Outcomes.{unless_on, unless_at, each_stops, each_passes}
+use Rattle.variants_and_fragments.proofs.Outcomes.{exit_is, unless_on, unless_at, each_stops, each_passes}
 use Rattle.variants_and_fragments.proofs.Walks.{clear_marked}
 use Rattle.variants_and_fragments.proofs.chains.check_chains.Goals as goal
 
@@ -10,14 +9,14 @@ check_fragments-requires c = clear_marked
 
 pub returns-in_err-check_reached : goal.returns-in_err-check_reached
 returns-in_err-check_reached c =
-    let p = err_from_is_err_and c.from_residual.result c.from_residual.ensures.1 in rw (p.1, p.2) (each_stops 4 _ 1 _ _ _ c.in_err-check_reached.ensures)
+    rw (exit_is c.from_residual.ensures.1) (each_stops 4 _ 1 _ _ _ c.in_err-check_reached.ensures)
 
 pub returns-in-Err : goal.returns-in-Err
 returns-in-Err c = each_stops 5 _ 0 _ _ _ c.in-Err.ensures.ok ∙ each_passes 4 _ 1 _ _ c.in_ok-check_reached.ensures
 
 pub returns-in_err-check_calls : goal.returns-in_err-check_calls
 returns-in_err-check_calls c =
-    let p = err_from_is_err_and c.from_residual-in_err-check_calls.result c.from_residual-in_err-check_calls.ensures.1 in rw (p.1, p.2) (each_stops 4 _ 1 _ _ _ c.in_err-check_calls.ensures)
+    rw (exit_is c.from_residual-in_err-check_calls.ensures.1) (each_stops 4 _ 1 _ _ _ c.in_err-check_calls.ensures)
 
 pub returns-then-not-free_ok : goal.returns-then-not-free_ok
 returns-then-not-free_ok c =
