@@ -77,7 +77,7 @@ impl PreparedRun<'_> {
             pri: self.pri,
             piles: self.piles,
         };
-        let r = run_sweeps(&reads, round.orders, round.plan, hap, lik, post);
+        let r = run_sweeps(&reads, &round.orders, round.limit, hap, lik, post);
         let end = self.phased_total(hap, lik);
         let source = self.source_total(hap);
         RoundAnswer {

@@ -1,6 +1,7 @@
 -- The run from section 5's haplotypes over lent fronts, the normalised posteriors, the final answers. Assumes nothing.
 use Rattle.std.proofs.Common.{ℕ, ◌*◌, ◌≤◌, length, take, refl, ◌∙◌, arith, length-take}
 use Rattle.call_genotypes.specs.Inner.Scores.{sweep_state}
+use Rattle.call_genotypes.specs.Inner.Runs.{plan_of}
 use Rattle.with_haplotypes.specs.Round.{run_of}
 use Rattle.with_haplotypes.specs.Inner.Steps.{AlleleCounts, RunMade}
 use Rattle.with_haplotypes.specs.Inner.Reads.{input_of}
@@ -63,7 +64,7 @@ returns c =
     let K = counts (goal.at.returns c).After-write_phase in
     let R = made (goal.at.returns c).After-run-answer in
     let s = c.args.self.now.case.laid.sizes in
-    let plan = c.args.self.now.plan in
+    let plan = plan_of c.args.self.now.orders c.args.self.now.limit in
     let room = c.requires in
     let done = rw K.long at c.normalize_all.ensures in
     let e = rw c.accepted_words.ensures at c.write_phase.ensures.haplotypes_after in
