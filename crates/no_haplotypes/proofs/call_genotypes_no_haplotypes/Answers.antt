@@ -1,5 +1,5 @@
 -- Each way out is a line of the table, or the answers written.
-use Rattle.std.proofs.Common.{sym, ◌∙◌, arith}
+use Rattle.std.proofs.Common.{sym, ◌∙◌}
 use Rattle.variants_and_fragments.proofs.Outcomes.{case_stops, each_stops, each_passes, enough_fits, exit_is, promise_refused, promise_done}
 use Rattle.variants_and_fragments.proofs.Short.{short_fits}
 use Rattle.no_haplotypes.specs.NoHaplotypes.{call_genotypes_no_haplotypes_outcome}
@@ -14,9 +14,6 @@ returns-in_err-case c =
 pub returns-in_err-accepted : goal.returns-in_err-accepted
 returns-in_err-accepted c =
     rw (exit_is c.from_residual-in_err-accepted.ensures.1) (promise_refused _ (each_stops 6 _ 0 7 _ _ c.in_err-accepted.ensures.outcome ∙ past_case _ _ _ _ _ (sym c.in_ok-case.ensures.outcome)))
-
-pub overflow_mul-n : goal.overflow_mul-n
-overflow_mul-n c = omega (arith, c.in_ok-case.case.laid.sized.n_top)
 
 pub returns-in_err-long_enough : goal.returns-in_err-long_enough
 returns-in_err-long_enough c =

@@ -1,6 +1,6 @@
 -- One variant more is called.
 use Rattle.std.proofs.Common.{◌∙◌, arith}
-use Rattle.no_haplotypes.proofs.CallRuns.{calling_start, nine_priors, calling_on, calling_end}
+use Rattle.no_haplotypes.proofs.CallRuns.{calling_start, nine_priors, calling_on}
 use Rattle.no_haplotypes.proofs.call_variants.Goals as goal
 
 pub loop-v-init : goal.loop-v-init
@@ -15,6 +15,3 @@ loop-v-preserved c =
     (omega (arith, c.loop-v.auto.variants, c.requires.n_in_bounds.0))
     (c.answer-answer.auto.post ∙ priors.size)
     (rw (c.calls.ensures.0, c.calls.ensures.1) at c.answer-answer.ensures))
-
-pub returns : goal.returns
-returns c = calling_end c.loop-v.invariant (omega arith)

@@ -1,8 +1,7 @@
 -- An entry and the total are small; past the entries zeros are written.
-use Rattle.std.proofs.Common.{◌≡◌, ℕ, ◌-◌, ◌*◌, ◌<◌, ◌≤◌, List, ◌++◌, length, get_or, take, drop, ℤ, pos, nat_abs, refl, ap, ◌∙◌, arith, lt-ltb, le-ltb, length-append, length-take, length-drop, w64}
-use Rattle.std.proofs.lemmas.List.{get_or_append_left, get_or-take}
+use Rattle.std.proofs.Common.{◌≡◌, ℕ, ◌-◌, ◌*◌, ◌≤◌, List, ◌++◌, length, take, drop, ℤ, pos, refl, ◌∙◌, arith, lt-ltb, le-ltb, length-append, length-take, length-drop}
+use Rattle.std.proofs.lemmas.List.{get_or_append_left}
 use borrow.Rule.Slice.PartMut.{post_of}
-use Rattle.steps.proofs.Signed.{minus_fits}
 use Rattle.genotype_probs.specs.Posteriors.{normalized}
 use Rattle.genotype_probs.specs.Inner.Posteriors.{TableIn}
 use Rattle.genotype_probs.proofs.AlleleLaws.{nine}
@@ -12,15 +11,6 @@ use Rattle.genotype_probs.proofs.posteriors.normalize.Goals as goal
 -- the entries, as a part of the table
 part : {tab : List ℤ} {k : ℕ} → TableIn tab k → length (take (k * k - 0) tab) ≡ k * k
 part {tab} {k} t = simp length-take (omega (arith, nine k t.k_high, t.size))
-
-pub overflow_sub-x : goal.overflow_sub-x
-overflow_sub-x c =
-    let t = c.requires in
-    let k = c.args.k in
-    let p = c.loop-x.x-index in
-    let h : p < k * k = omega (arith, part t, c.loop-x-test.true) in
-    let e = c.loop-x.invariant.1 p (omega arith) ∙ get_or-take (k * k - 0) c.args.post.now p (pos 0) (omega arith) in
-    minus_fits w64 (get_or c.loop-x.x-items p (pos 0)) c.table_sum-total.result.0 (omega (arith, ap nat_abs e, t.small p h, c.table_sum-total.ensures.1))
 
 pub returns : goal.returns
 unfolding normalized
