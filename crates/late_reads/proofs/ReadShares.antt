@@ -11,7 +11,7 @@ use native.Mathlib.Decide.{dec_lt}
 use lib.IntN.{ℤ, pos, nat_abs, ◌+ℤ◌, +ℤ_idl}
 use mir.Syntax.{w32, w64}
 use mir.Val.{SFits, to_z, of_z}
-use Rattle.steps.proofs.Signed.{read_wide}
+use Rattle.steps.proofs.Signed.{plus_fits, read_wide}
 use borrow.Author.Tests.{eq-eqb, ne_eqb}
 use lib.Dec.{eqb}
 use lib.ListN.{get_or}
@@ -38,7 +38,7 @@ use Rattle.likelihoods.proofs.SweepCases.{likelihood_sum, cond_down}
 use Rattle.late_reads.specs.Arriving.{whole_calls, arriving_word, arriving_call, arriving_read, arriving_ok}
 use Rattle.late_reads.specs.Values.{Fixed, likelihood_on}
 use Rattle.late_reads.specs.Inner.Ready.{Arriving, CallArriving, arriving_left, share_on}
-use Rattle.likelihoods.proofs.RunningSums.{Running, running_start, running_fits, running_more}
+use Rattle.likelihoods.proofs.RunningSums.{Running, running_start, running_more}
 use Rattle.late_reads.proofs.ReadCalls.{arriving_next, arriving_none}
 use Rattle.late_reads.proofs.Room.{room_top}
 
@@ -189,25 +189,25 @@ module _ {strand : ℤ} {calls : List ℤ} {fixed : Fixed} {left : List CallHeld
     pub summing_in : {w : List ℤ} {sizes : Sizes} {f : ℕ} → Arriving w sizes f strand calls → CallArriving sizes (call_read call)
     summing_in {sizes = sizes} a = let n = summing_next in rw n.1 (arriving_in a s.i n.0)
 
-    module _ (few : whole_calls calls ≤ 16384) (h : ℕ) (x : ℤ) (is : x ≡ share_on fixed (arriving_read strand calls) h (call_read call)) (small : nat_abs x ≤ 262144) where
+    module _ (few : whole_calls calls ≤ 16384) (h : ℕ) (x : ℤ) (small : nat_abs x ≤ 262144) where
       more_fits : {sum : ℤ} → Running (arriving_share strand calls fixed h) s.i sum (262144 * s.i) → SFits w64 (to_z w64 (of_z w64 sum) +ℤ to_z w64 (of_z w64 x))
-      more_fits {sum} r = let n = summing_next in running_fits _ s.i sum x (262144 * (s.i + 1)) r (rw n.1 at is) (omega arith) (omega (arith, n.0))
+      more_fits {sum} r = let n = summing_next in plus_fits w64 sum x (omega (arith, r.small, n.0))
 
-      more_on : {sum : ℤ} → Running (arriving_share strand calls fixed h) s.i sum (262144 * s.i)
+      more_on : {sum : ℤ} → x ≡ share_on fixed (arriving_read strand calls) h (call_read call) → Running (arriving_share strand calls fixed h) s.i sum (262144 * s.i)
           → Running (arriving_share strand calls fixed h) (s.i + 1) (to_z w64 (of_z w64 (to_z w64 (of_z w64 sum) +ℤ to_z w64 (of_z w64 x)))) (262144 * (s.i + 1))
-      more_on {sum} r = let n = summing_next in running_more _ s.i sum x (262144 * (s.i + 1)) r (rw n.1 at is) (omega arith) (omega (arith, n.0))
+      more_on {sum} is r = let n = summing_next in running_more _ s.i sum x (262144 * (s.i + 1)) r (rw n.1 at is) (omega arith) (omega (arith, n.0))
 
-    pub first_fits : whole_calls calls ≤ 16384 → (x : ℤ) → x ≡ share_on fixed (arriving_read strand calls) 0 (call_read call) → nat_abs x ≤ 262144 → SFits w64 (to_z w64 (of_z w64 first) +ℤ to_z w64 (of_z w64 x))
-    first_fits few x is small = more_fits few 0 x is small s.on_first
+    pub first_fits : whole_calls calls ≤ 16384 → (x : ℤ) → nat_abs x ≤ 262144 → SFits w64 (to_z w64 (of_z w64 first) +ℤ to_z w64 (of_z w64 x))
+    first_fits few x small = more_fits few 0 x small s.on_first
 
-    pub second_fits : whole_calls calls ≤ 16384 → (x : ℤ) → x ≡ share_on fixed (arriving_read strand calls) 1 (call_read call) → nat_abs x ≤ 262144 → SFits w64 (to_z w64 (of_z w64 second) +ℤ to_z w64 (of_z w64 x))
-    second_fits few x is small = more_fits few 1 x is small s.on_second
+    pub second_fits : whole_calls calls ≤ 16384 → (x : ℤ) → nat_abs x ≤ 262144 → SFits w64 (to_z w64 (of_z w64 second) +ℤ to_z w64 (of_z w64 x))
+    second_fits few x small = more_fits few 1 x small s.on_second
 
     pub summing_on : whole_calls calls ≤ 16384 → (x y : ℤ) → (x ≡ share_on fixed (arriving_read strand calls) 0 (call_read call)) × (nat_abs x ≤ 262144) → (y ≡ share_on fixed (arriving_read strand calls) 1 (call_read call)) × (nat_abs y ≤ 262144)
         → Summing strand calls fixed rest (to_z w64 (of_z w64 (to_z w64 (of_z w64 first) +ℤ to_z w64 (of_z w64 x)))) (to_z w64 (of_z w64 (to_z w64 (of_z w64 second) +ℤ to_z w64 (of_z w64 y))))
     summing_on few x y p q =
         let n = summing_next in
-        record { i = s.i + 1; few = omega (arith, n.0); left_is = n.2; on_first = more_on few 0 x p.0 p.1 s.on_first; on_second = more_on few 1 y q.0 q.1 s.on_second }
+        record { i = s.i + 1; few = omega (arith, n.0); left_is = n.2; on_first = more_on few 0 x p.1 p.0 s.on_first; on_second = more_on few 1 y q.1 q.0 s.on_second }
 
   -- none is left
   module _ (e : left ≡ []) (few : whole_calls calls ≤ 16384) where

@@ -80,25 +80,20 @@ impl<'a> Arrival<'a> {
         ensures { outcome_of result ≡ each 4 (arriving_ok case.now.laid.words.now case.now.laid.sizes self.now.calls.now) 0 (whole_calls self.now.calls.now) (done tt) }
     {
         let known = case.with_variants();
-        for i in 0..self.count() {
-            if !known.call_words_ok(self.call_words(i)) {
-                return Err(Refusal::Call(i));
-            }
+        match (0..self.count()).find(|i| !known.call_words_ok(self.call_words(*i))) {
+            Some(i) => Err(Refusal::Call(i)),
+            None => Ok(()),
         }
-        Ok(())
     }
 
-    // 5: the variants of the whole calls rise; the place of a fault is the first call whose does not. A loop of its own: one for both, over a
-    // test and a refusal, is longer than the two.
+    // 5: the variants of the whole calls rise; the place of a fault is the first call whose does not.
     fn check_rises(&self) -> Result<(), Refusal>
         ensures { outcome_of result ≡ each 5 (arriving_rises self.now.calls.now) 0 (whole_calls self.now.calls.now) (done tt) }
     {
-        for i in 0..self.count() {
-            if !self.rises(i) {
-                return Err(Refusal::Chain(i));
-            }
+        match (0..self.count()).find(|i| !self.rises(*i)) {
+            Some(i) => Err(Refusal::Chain(i)),
+            None => Ok(()),
         }
-        Ok(())
     }
 }
 

@@ -9,7 +9,7 @@ use crate::arriving::{Arrival, test_arrival};
 use crate::counts::{count, fits};
 use crate::kept::check_kept;
 use crate::ranges::total_ok;
-use crate::reads::{likelihoods_of, moved, put_likelihoods};
+use crate::reads::moved;
 use crate::words::{lay_arrival, lay_departure};
 use likelihoods::likelihoods::ReadLikelihoods;
 use pileup::reader::ChainReader;
@@ -57,7 +57,7 @@ pub fn arrive(
     if !in_range {
         return Err(Refusal::Short(0));
     }
-    put_likelihoods(likelihoods, read.fragment, own);
+    own.put(likelihoods, read.fragment);
     count(case, side, read.iter(), counts, 1);
     lay_arrival(words, s, &read);
     Ok(sum)
@@ -85,7 +85,7 @@ pub fn depart(
         return Err(Refusal::Fragment(f));
     }
     let strand = case.laid.strand(f);
-    let own = likelihoods_of(likelihoods, f);
+    let own = ReadLikelihoods::at(likelihoods, f);
     let rest = moved(total, own.first.mix(own.second), -1);
     let in_range = total_ok(rest) & fits(case, strand, ChainReader::new(case, f), counts, -1);
     if !in_range {
@@ -95,7 +95,7 @@ pub fn depart(
         first: LogProb(0),
         second: LogProb(0),
     };
-    put_likelihoods(likelihoods, f, none);
+    none.put(likelihoods, f);
     count(case, strand, ChainReader::new(case, f), counts, -1);
     lay_departure(words, s, f);
     Ok(rest)

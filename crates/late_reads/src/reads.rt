@@ -57,26 +57,3 @@ pub fn moved(total: LogProb, share: LogProb, d: i64) -> LogProb
 {
     LogProb(total.0 + d * share.0)
 }
-
-// The likelihoods of fragment f, which are in range.
-pub fn likelihoods_of(likelihoods: &[i64], f: usize) -> ReadLikelihoods
-    requires there { (f ≤ 4096) × (2 * f + 1 < length likelihoods.now) }
-    requires small { (nat_abs (get_or likelihoods.now (2 * f) (pos 0)) ≤ 2 ^ 40) × (nat_abs (get_or likelihoods.now (2 * f + 1) (pos 0)) ≤ 2 ^ 40) }
-    ensures { (result.first.0 ≡ get_or likelihoods.now (2 * f) (pos 0)) × (result.second.0 ≡ get_or likelihoods.now (2 * f + 1) (pos 0)) }
-{
-    ReadLikelihoods {
-        first: LogProb(likelihoods[2 * f]),
-        second: LogProb(likelihoods[2 * f + 1]),
-    }
-}
-
-// Sets the likelihoods of fragment f.
-pub fn put_likelihoods(likelihoods: &mut [i64], f: usize, read: ReadLikelihoods)
-    requires { (f ≤ 4096) × (2 * f + 1 < length likelihoods.old) }
-    ensures { likelihoods.new ≡ put_likelihoods likelihoods.old f read.first.0 read.second.0 }
-{
-    let first = read.first.0;
-    let second = read.second.0;
-    likelihoods[2 * f] = first;
-    likelihoods[2 * f + 1] = second;
-}

@@ -1,8 +1,7 @@
 -- What is refused is refused by a test of the definition; past the tests the values and the words are written as it says.
 use Rattle.std.proofs.Common.{◌≡◌, sym, ◌∙◌, arith, to_z-of_z}
-use Rattle.std.proofs.lemmas.Result.{err_from_is_err_and}
 use Rattle.variants_and_fragments.specs.Refusals.{done}
-use Rattle.variants_and_fragments.proofs.Outcomes.{promise_refused}
+use Rattle.variants_and_fragments.proofs.Outcomes.{exit_is, promise_refused}
 use Rattle.late_reads.specs.Arriving.{arriving_read}
 use Rattle.late_reads.specs.Values.{values, likelihood_on}
 use Rattle.late_reads.specs.LateReads.{late_input, kept_outcome}
@@ -34,11 +33,11 @@ second_is c =
 
 pub returns-in_err-ready : goal.returns-in_err-ready
 returns-in_err-ready c =
-    let p = err_from_is_err_and c.from_residual.result c.from_residual.ensures.1 in rw (p.1, p.2) (promise_refused _ (arrive_stops _ _ _ _ _ c.in_err-ready.ensures.outcome))
+    rw (exit_is c.from_residual.ensures.1) (promise_refused _ (arrive_stops _ _ _ _ _ c.in_err-ready.ensures.outcome))
 
 pub returns-in_err-arrival : goal.returns-in_err-arrival
 returns-in_err-arrival c =
-    let p = err_from_is_err_and c.from_residual-in_err-arrival.result c.from_residual-in_err-arrival.ensures.1 in rw (p.1, p.2)
+    rw (exit_is c.from_residual-in_err-arrival.ensures.1)
     (promise_refused _ (arriving_stops _ _ _ _ _ (ready (goal.at.returns-in_err-arrival c).In_ok-ready) _ (rw (c.in_ok-ready.ensures.lent.0, to_z-of_z c.ranges.strand) at c.in_err-arrival.ensures.outcome)))
 
 pub moved-sum-requires : goal.moved-sum-requires
@@ -66,12 +65,11 @@ fits-requires-clause-lent c =
     let k = kept_past _ _ (ready (goal.at.fits-requires-clause-lent c).In_ok-ready) in
     record { long = k.counts_long; ranged = counts_in k; one = omega arith }
 
-pub put_likelihoods-requires : goal.put_likelihoods-requires
-put_likelihoods-requires c =
-    let at = goal.at.put_likelihoods-requires c in
+pub put-requires : goal.put-requires
+put-requires c =
+    let at = goal.at.put-requires c in
     let k = kept_past _ _ (ready at.In_ok-ready) in
-    let below = (arriving _ _ _ _ _ (ready at.In_ok-ready) _ (tested at.In_ok-arrival)).below in
-    (omega (arith, k.ready.case_in.sized.f_top, below), omega (arith, k.likelihoods_long, below))
+    omega (arith, k.likelihoods_long, (arriving _ _ _ _ _ (ready at.In_ok-ready) _ (tested at.In_ok-arrival)).below)
 
 pub count-requires-clause-rises : goal.count-requires-clause-rises
 count-requires-clause-rises c =
@@ -94,5 +92,5 @@ returns c =
     let counts = arriving_counted c.args.words.now n c.args.counts.now c.in_ok-ready.ensures.lent.0 c.args.strand c.args.calls.now c.iter.ensures side in
     arrive_updates _ _ _ _ _ (ready at.In_ok-ready) _ (tested at.In_ok-arrival) c.moved-sum.result e (rw (c.total_ok.ensures, c.fits.ensures, e, counts) at c.if-not-in_range.false)
     (rw (to_z-of_z c.ranges.strand) at c.lay_arrival.ensures)
-    (c.put_likelihoods.ensures ∙ same_put c.args.likelihoods.now c.args.fragment (first_is own) (second_is own))
+    (c.put.ensures ∙ same_put c.args.likelihoods.now c.args.fragment (first_is own) (second_is own))
     (c.count.ensures ∙ arriving_counted c.args.words.now n c.args.counts.now c.in_ok-ready.ensures.lent.0 c.args.strand c.args.calls.now c.iter-2.ensures side)

@@ -1,10 +1,9 @@
 -- What is refused is refused by a test of the definition; past the tests the values and the words are written as it says.
 use Rattle.std.proofs.Common.{◌≡◌, ◌+◌, ◌*◌, true, sym, ◌∙◌, arith}
-use Rattle.std.proofs.lemmas.Result.{err_from_is_err_and}
 use Rattle.variants_and_fragments.specs.declared.Refusal.TheVariants.{Fragment}
 use Rattle.variants_and_fragments.specs.Chain.{present_at}
 use Rattle.variants_and_fragments.specs.Refusals.{done}
-use Rattle.variants_and_fragments.proofs.Outcomes.{promise_refused}
+use Rattle.variants_and_fragments.proofs.Outcomes.{exit_is, promise_refused}
 use Rattle.late_reads.specs.Values.{values}
 use Rattle.late_reads.specs.LateReads.{late_input, kept_outcome}
 use Rattle.late_reads.proofs.KeptCase.{kept_past}
@@ -25,7 +24,7 @@ there c = rw c.in_ok-ready.ensures.lent.0 at (sym c.is_present.ensures ∙ c.if-
 
 pub returns-in_err-ready : goal.returns-in_err-ready
 returns-in_err-ready c =
-    let p = err_from_is_err_and c.from_residual.result c.from_residual.ensures.1 in rw (p.1, p.2) (promise_refused _ (depart_stops _ _ _ c.in_err-ready.ensures.outcome))
+    rw (exit_is c.from_residual.ensures.1) (promise_refused _ (depart_stops _ _ _ c.in_err-ready.ensures.outcome))
 
 pub returns-then-s-f : goal.returns-then-s-f
 returns-then-s-f c =
@@ -36,27 +35,21 @@ returns-then-s-f c =
           promise_refused (Fragment _) (depart_not_there _ _ _ ok w.if-s-f.false (rw c.in_ok-ready.ensures.lent.0 at (sym w.is_present.ensures ∙ w.if-not-is_present.true)))
     ]
 
-pub likelihoods_of-own-requires : goal.likelihoods_of-own-requires
-likelihoods_of-own-requires c =
-    let k = kept_past _ _ (ready (goal.at.likelihoods_of-own-requires c).In_ok-ready) in
-    let f = c.args.fragment in
-    record {
-      there = (omega (arith, k.ready.case_in.sized.f_top, c.if-s-f.false), omega (arith, k.likelihoods_long, c.if-s-f.false));
-      small = (likelihood_small k (2 * f) (omega (arith, c.if-s-f.false)), likelihood_small k (2 * f + 1) (omega (arith, c.if-s-f.false)));
-    }
+pub at-own-requires : goal.at-own-requires
+at-own-requires c = let k = kept_past _ _ (ready (goal.at.at-own-requires c).In_ok-ready) in omega (arith, k.likelihoods_long, c.if-s-f.false)
 
 pub mix-requires : goal.mix-requires
 mix-requires c =
     let k = kept_past _ _ (ready (goal.at.mix-requires c).In_ok-ready) in
     let f = c.args.fragment in
-    let own = c.likelihoods_of-own.ensures in
+    let own = c.at-own.ensures in
     (rw own.0 (likelihood_small k (2 * f) (omega (arith, c.if-s-f.false))), rw own.1 (likelihood_small k (2 * f + 1) (omega (arith, c.if-s-f.false))))
 
 pub moved-rest-requires : goal.moved-rest-requires
 moved-rest-requires c =
     let k = kept_past _ _ (ready (goal.at.moved-rest-requires c).In_ok-ready) in
     let f = c.args.fragment in
-    let own = c.likelihoods_of-own.ensures in
+    let own = c.at-own.ensures in
     let a = likelihood_small k (2 * f) (omega (arith, c.if-s-f.false)) in
     let b = likelihood_small k (2 * f + 1) (omega (arith, c.if-s-f.false)) in
     (total_small k, omega (arith, rw (own.0, own.1) at c.mix.ensures.bound, a, b), omega arith)
@@ -67,7 +60,7 @@ returns-then-not-in_range c =
     let ok = ready at.In_ok-ready in
     let s = c.in_ok-ready.ready.case.laid.sizes in
     let p = there at.Else-not-is_present in
-    let e = total_less c.args.total.0 c.mix.ensures.value c.likelihoods_of-own.ensures.0 c.likelihoods_of-own.ensures.1 c.moved-rest.ensures in
+    let e = total_less c.args.total.0 c.mix.ensures.value c.at-own.ensures.0 c.at-own.ensures.1 c.moved-rest.ensures in
     let counts = departing_counted c.args.words.now s.n c.args.counts.now c.in_ok-ready.ensures.lent.0 s c.args.fragment p c.new.ensures c.strand-strand.ensures in
     depart_refuses _ _ _ ok c.if-s-f.false p (rw (c.total_ok.ensures, c.fits.ensures, e, counts) at c.if-not-in_range.true)
 
@@ -79,10 +72,10 @@ fits-requires-clause-lent c =
     let k = kept_past _ _ (ready (goal.at.fits-requires-clause-lent c).In_ok-ready) in
     record { long = k.counts_long; ranged = counts_in k; one = omega arith }
 
-pub put_likelihoods-requires : goal.put_likelihoods-requires
-put_likelihoods-requires c =
-    let k = kept_past _ _ (ready (goal.at.put_likelihoods-requires c).In_ok-ready) in
-    (omega (arith, k.ready.case_in.sized.f_top, c.if-s-f.false), omega (arith, k.likelihoods_long, c.if-s-f.false))
+pub put-requires : goal.put-requires
+put-requires c =
+    let k = kept_past _ _ (ready (goal.at.put-requires c).In_ok-ready) in
+    omega (arith, k.likelihoods_long, c.if-s-f.false)
 
 pub count-requires-clause-rises : goal.count-requires-clause-rises
 count-requires-clause-rises c = chain_held c.in_ok-ready.ready.case.case_in c.args.fragment c.if-s-f.false c.new-2.ensures
@@ -99,9 +92,9 @@ returns c =
     let s = c.in_ok-ready.ready.case.laid.sizes in
     let w = c.in_ok-ready.ensures.lent.0 in
     let p = there at.Else-not-is_present in
-    let e = total_less c.args.total.0 c.mix.ensures.value c.likelihoods_of-own.ensures.0 c.likelihoods_of-own.ensures.1 c.moved-rest.ensures in
+    let e = total_less c.args.total.0 c.mix.ensures.value c.at-own.ensures.0 c.at-own.ensures.1 c.moved-rest.ensures in
     let counts = departing_counted c.args.words.now s.n c.args.counts.now w s c.args.fragment p c.new.ensures c.strand-strand.ensures in
     depart_updates _ _ _ ok c.if-s-f.false p c.moved-rest.result e (rw (c.total_ok.ensures, c.fits.ensures, e, counts) at c.if-not-in_range.false)
     c.lay_departure.ensures
-    c.put_likelihoods.ensures
+    c.put.ensures
     (c.count.ensures ∙ departing_counted c.args.words.now s.n c.args.counts.now w s c.args.fragment p c.new-2.ensures c.strand-strand.ensures)

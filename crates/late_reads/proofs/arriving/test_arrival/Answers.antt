@@ -1,12 +1,11 @@
 -- At each return the tests before it went on and its own stopped, or none did.
 use Rattle.std.proofs.Common.{◌≡◌, Bool, not, ◌&&◌, ◌||◌, refl, sym, ap, ◌∙◌, length, pos, ◌*◌, ℕ, ℤ, List, rules, to_z, of_z, to_z-of_z, FitsSigned, w32}
-use Rattle.std.proofs.lemmas.Result.{err_from_is_err_and}
 use borrow.Author.Tests.{le-ltb, lt-ltb}
 use lib.Dec.{eqb, ltb}
 use Rattle.variants_and_fragments.specs.Layout.{max_strand}
 use Rattle.variants_and_fragments.specs.Refusals.{refused, done}
 use Rattle.variants_and_fragments.specs.Words.{nat_of, within}
-use Rattle.variants_and_fragments.proofs.Outcomes.{each_stops, each_passes, unless_on, unless_at}
+use Rattle.variants_and_fragments.proofs.Outcomes.{exit_is, each_stops, each_passes, unless_on, unless_at}
 use Rattle.late_reads.specs.Arriving.{whole_calls, arriving_words}
 use Rattle.late_reads.specs.Inner.Ready.{arriving_tests}
 use Rattle.late_reads.proofs.ArrivalTests.{length_and_strand, tests_past}
@@ -23,12 +22,12 @@ whole_is calls strand fits e h = rw (e, h, to_z-of_z fits) (length_and_strand (l
 pub returns-in_err-check_calls-clause-outcome : goal.returns-in_err-check_calls-clause-outcome
 unfolding arriving_tests
 returns-in_err-check_calls-clause-outcome c =
-    let p = err_from_is_err_and c.from_residual.result c.from_residual.ensures.1 in rw (p.1, p.2) (each_stops 4 _ 0 _ _ _ c.in_err-check_calls.ensures)
+    rw (exit_is c.from_residual.ensures.1) (each_stops 4 _ 0 _ _ _ c.in_err-check_calls.ensures)
 
 pub returns-in_err-check_rises-clause-outcome : goal.returns-in_err-check_rises-clause-outcome
 unfolding arriving_tests
 returns-in_err-check_rises-clause-outcome c =
-    let p = err_from_is_err_and c.from_residual-in_err-check_rises.result c.from_residual-in_err-check_rises.ensures.1 in rw (p.1, p.2)
+    rw (exit_is c.from_residual-in_err-check_rises.ensures.1)
     (each_stops 5 _ 0 _ _ _ c.in_err-check_rises.ensures ∙ each_passes 4 _ 0 _ _ c.in_ok-check_calls.ensures)
 
 pub returns-then-read-m-clause-outcome : goal.returns-then-read-m-clause-outcome

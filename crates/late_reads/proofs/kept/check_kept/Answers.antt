@@ -1,7 +1,6 @@
 -- At each return the tests before it went on and its own stopped, or none did.
 use Rattle.std.proofs.Common.{sym, ◌∙◌, eq-eqb, ne_eqb}
-use Rattle.std.proofs.lemmas.Result.{err_from_is_err_and}
-use Rattle.variants_and_fragments.proofs.Outcomes.{check_past, then_refused, unless_on, unless_at, enough_past, enough_stops, enough_passes}
+use Rattle.variants_and_fragments.proofs.Outcomes.{exit_is, check_past, then_refused, unless_on, unless_at, enough_past, enough_stops, enough_passes}
 use Rattle.variants_and_fragments.proofs.Short.{short_fits}
 use Rattle.late_reads.specs.LateReads.{kept_outcome}
 use Rattle.late_reads.proofs.kept.check_kept.Goals as goal
@@ -9,7 +8,7 @@ use Rattle.late_reads.proofs.kept.check_kept.Goals as goal
 pub returns-in_err-case-clause-outcome : goal.returns-in_err-case-clause-outcome
 unfolding kept_outcome
 returns-in_err-case-clause-outcome c =
-    let p = err_from_is_err_and c.from_residual.result c.from_residual.ensures.1 in rw (p.1, p.2) (then_refused _ _ _ c.in_err-case.ensures.outcome)
+    rw (exit_is c.from_residual.ensures.1) (then_refused _ _ _ c.in_err-case.ensures.outcome)
 
 pub returns-then-phase-s-clause-outcome : goal.returns-then-phase-s-clause-outcome
 unfolding kept_outcome
@@ -18,7 +17,7 @@ returns-then-phase-s-clause-outcome c = unless_at _ 7 _ _ (ne_eqb _ _ c.if-phase
 pub returns-in_err-long_enough-clause-outcome : goal.returns-in_err-long_enough-clause-outcome
 unfolding kept_outcome
 returns-in_err-long_enough-clause-outcome c =
-    let p = err_from_is_err_and c.from_residual-in_err-long_enough.result c.from_residual-in_err-long_enough.ensures.1 in rw (p.1, p.2)
+    rw (exit_is c.from_residual-in_err-long_enough.ensures.1)
     (enough_stops _ _ _ c.in_err-long_enough.ensures ∙ unless_on _ 7 _ _ (eq-eqb _ _ c.if-phase-s.false) ∙ check_past _ _ c.in_ok-case.case c.in_ok-case.ensures.outcome)
 
 pub in_range-requires : goal.in_range-requires

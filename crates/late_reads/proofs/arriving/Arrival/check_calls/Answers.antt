@@ -1,18 +1,19 @@
 -- The first call that is not right is the place.
-use Rattle.std.proofs.Common.{arith, sym, ◌∙◌, below_more}
+use Rattle.std.proofs.Common.{◌≡◌, true, false, arith, rules, tests}
+use Rattle.std.proofs.lemmas.Iterator.{first_from_Range}
+use Rattle.variants_and_fragments.proofs.Outcomes.{FirstFault, fault_found, no_fault}
 use Rattle.late_reads.specs.Arriving.{arriving_ok}
-use Rattle.variants_and_fragments.proofs.Outcomes.{each_fails, each_holds}
 use Rattle.late_reads.proofs.arriving.Arrival.check_calls.Goals as goal
+use Rattle.late_reads.proofs.arriving.Arrival.check_calls.Goals.{After-find}
 
-pub returns-then-not-call_words_ok : goal.returns-then-not-call_words_ok
+first : (c : After-find) → FirstFault (arriving_ok c.args.case.now.laid.words.now c.args.case.now.laid.sizes c.args.self.now.calls.now) 0 c.count.result c.find.result
 unfolding arriving_ok
-returns-then-not-call_words_ok c =
-    each_fails 4 _ 0 _ _ c.loop-i.i (omega arith) (omega arith) (λ j _ l. c.loop-i.invariant j l)
-    (sym (rw (c.with_variants-known.ensures, c.call_words.ensures) at c.call_words_ok.ensures) ∙ c.if-not-call_words_ok.true)
+first c =
+    let right = arriving_ok c.args.case.now.laid.words.now c.args.case.now.laid.sizes c.args.self.now.calls.now in
+    first_from_Range _ _ _ _ (λ i. right i ≡ false) (λ i. right i ≡ true) c.find.ensures.ran (λ i q called. search (rules, tests)) (λ i q called. search (rules, tests))
 
-pub loop-i-preserved : goal.loop-i-preserved
-unfolding arriving_ok
-loop-i-preserved c = below_more _ _ c.loop-i.invariant (sym (rw (c.with_variants-known.ensures, c.call_words.ensures) at c.call_words_ok.ensures) ∙ c.if-not-call_words_ok.false)
+pub returns-in-Some : goal.returns-in-Some
+returns-in-Some c = fault_found 4 _ 0 _ _ _ (omega (arith, c.count.ensures)) _ (first (goal.at.returns-in-Some c).After-find) c.in-Some.i c.in-Some.is
 
-pub returns : goal.returns
-returns c = each_holds 4 _ 0 _ _ (λ j _ l. c.loop-i.invariant j (omega arith))
+pub returns-in-None : goal.returns-in-None
+returns-in-None c = no_fault 4 _ 0 _ _ _ (omega (arith, c.count.ensures)) _ (first (goal.at.returns-in-None c).After-find) c.in-None.is

@@ -1,7 +1,0 @@
--- The calls passed are right.
-use Rattle.std.proofs.Common.{◌≡◌, ℕ, ◌<◌, true}
-use Rattle.late_reads.specs.Arriving.{arriving_rises}
-use Rattle.late_reads.proofs.arriving.Arrival.check_rises.Given as goal
-
-abbrev pub invariant-loop-i : goal.invariant-loop-i
-invariant-loop-i l = (j : ℕ) → j < l.i → arriving_rises l.self.calls.now j ≡ true
