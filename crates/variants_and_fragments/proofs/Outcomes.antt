@@ -86,6 +86,18 @@ abbrev pub FirstFault : (ℕ → Bool) → ℕ → ℕ → Option ℕ → Type 0
 FirstFault test i end found =
     MatchOption found ((j : ℕ) → i ≤ j → j < end → test j ≡ true) (λ r. (i ≤ r) × (r < end) × (test r ≡ false) × ((j : ℕ) → i ≤ j → j < r → test j ≡ true))
 
+-- from what `first_fault` says of the calls of its closure, which answer the test
+pub first_is : (test : ℕ → Bool) (Right Wrong : ℕ → Type 0) (i end : ℕ) (found : Option ℕ)
+    → MatchOption found ((j : ℕ) → i ≤ j → j < end → Right j) (λ r. (i ≤ r) × (r < end) × Wrong r × ((j : ℕ) → i ≤ j → j < r → Right j))
+    → ((r : ℕ) → Right r → test r ≡ true) → ((r : ℕ) → Wrong r → test r ≡ false) → FirstFault test i end found
+first_is test Right Wrong i end None h right wrong = λ j lo hi. right j (h j lo hi)
+first_is test Right Wrong i end (Some r) h right wrong = (h.0, h.1, wrong r h.2, λ j lo hi. right j (h.3 j lo hi))
+
+-- of two tests that are the same at these numbers
+pub first_same : (p q : ℕ → Bool) (i end : ℕ) (found : Option ℕ) → FirstFault p i end found → ((r : ℕ) → i ≤ r → r < end → p r ≡ q r) → FirstFault q i end found
+first_same p q i end None h e = λ j lo hi. sym (e j lo hi) ∙ h j lo hi
+first_same p q i end (Some r) h e = (h.0, h.1, sym (e r h.0 h.1) ∙ h.2, λ j lo hi. sym (e j lo (omega (arith, h.1))) ∙ h.3 j lo hi)
+
 module _ {X : Type 0} (n : ℕ) (test : ℕ → Bool) (i k end : ℕ) (rest : Outcome X) (e : i + k ≡ end) (found : Option ℕ) (first : FirstFault test i end found) where
   pub fault_found : (r : ℕ) → found ≡ Some r → refused n r ≡ each n test i k rest
   fault_found r h = let f = MatchOption-at_some _ _ r h first in each_fails n test i k rest r f.0 (omega (arith, f.1)) f.3 f.2

@@ -3,7 +3,7 @@
 -- has nowhere else to go: one record more would be C + 1 distinct numbers of 1..C.
 -- Assumes nothing.
 use mathlib.Core.Path.{◌≡◌, refl, sym, ◌∙◌}
-use mathlib.Core.Bool.{Bool, true, false, cond, ◌||◌}
+use mathlib.Core.Bool.{Bool, true, false, not, cond, ◌||◌}
 use mathlib.Core.List.{List, [], ◌∷◌, ◌++◌}
 use Prim.Native.Nat.{ℕ, zero, suc, ◌+◌, ◌-◌, ◌≤◌, ◌<◌}
 use native.Mathlib.Omega.{arith}
@@ -156,11 +156,6 @@ unfolding reached memb
 reach_none w s seen m = record { marked = m; whole = record { closed = λ x h z. true_false h refl } }
 
 -- a record that is marked as reached is tested, and no other
-module _ (w : List ℤ) (s : Sizes) (seen : List Bool) (r : ℕ) (top : r ≤ 16384) (m : Marked seen (reached w s s.f)) where
-  pub call_tested : get_or seen r false ≡ true → call_ok w s r ≡ reached_call_ok w s r
-  unfolding reached_call_ok is_reached
-  call_tested h = rw (sym (m.marks r top) ∙ h) refl
-
-  pub call_untested : get_or seen r false ≡ false → true ≡ reached_call_ok w s r
-  unfolding reached_call_ok is_reached
-  call_untested h = rw (sym (m.marks r top) ∙ h) refl
+pub call_tested : (w : List ℤ) (s : Sizes) (seen : List Bool) → Marked seen (reached w s s.f) → (r : ℕ) → r ≤ 16384 → (not (get_or seen r false) || call_ok w s r) ≡ reached_call_ok w s r
+unfolding reached_call_ok is_reached
+call_tested w s seen m r top = rw (m.marks r top) refl

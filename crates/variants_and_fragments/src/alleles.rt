@@ -43,7 +43,7 @@ fn are_bases(bases: &[u8]) -> bool
 }
 
 // The bytes are as many as the alleles have, and each is a base; the place of a fault is N for a wrong length, else the first variant
-// that has one. At the loop's head `at` is where variant v's bytes start.
+// that has one. At the loop's head `at` is where variant v's bytes start. A loop: the closure of `first_fault` changes nothing, and `at` runs on.
 pub fn check_alleles(known: &WithVariants<'_>, bases: &[u8]) -> Result<(), Refusal>
     ensures { outcome_of result ≡ alleles_outcome known.now.laid.words.now bases.now known.now.laid.sizes }
 {

@@ -6,6 +6,7 @@ ghost use Rattle.variants_and_fragments.specs.Chain.{reached};
 ghost use Rattle.variants_and_fragments.specs.Inner.Answers.{calls_outcome};
 ghost use Rattle.variants_and_fragments.specs.Inner.Chain.{Marked};
 
+use crate::faults::first_fault;
 use crate::layout::{is_quality, nat_of};
 use crate::{CallWords, Refusal, WithVariants};
 
@@ -39,11 +40,9 @@ pub fn check_calls(known: &WithVariants<'_>, seen: &[bool]) -> Result<(), Refusa
     requires { Marked seen.now (reached known.now.laid.words.now known.now.laid.sizes known.now.laid.sizes.f) }
     ensures { outcome_of result ≡ calls_outcome known.now.laid.words.now known.now.laid.sizes }
 {
-    let used = known.laid.sizes.used;
-    for r in 1..used + 1 {
-        if seen[r] && !known.call_ok(r) {
-            return Err(Refusal::Call(r));
-        }
+    let end = known.laid.sizes.used + 1;
+    match first_fault(1, end, |r| !seen[r] || known.call_ok(r)) {
+        Some(r) => Err(Refusal::Call(r)),
+        None => Ok(()),
     }
-    Ok(())
 }

@@ -9,7 +9,7 @@ use crate::calls::check_calls;
 use crate::layout::MAX_STRAND;
 use crate::{Laid, Refusal, WithVariants};
 
-// A flag for each record, and one for none.
+// A flag for each record, and one for none. `Marked` is a clause: beside a ghost field each contract would say as long which list it is.
 const FLAGS: usize = 16385;
 
 // Record r's next is right: 0, or a record at a larger variant.
@@ -41,7 +41,7 @@ fn after_ok(laid: &Laid<'_>, r: usize) -> bool
 
 // Fragment f's chain is right; then seen marks its records too. At the loop's head the k records
 // before r are right and marked. A chain mostly goes on at the record after: the arm of its own lets the machine guess that and run
-// ahead, where `r = next` waits for the word.
+// ahead, where `r = next` waits for the word (62 µs for 75). Not one walker with mark_chain and walk_free: they test other things of a link, or none.
 fn walk_chain(laid: &Laid<'_>, f: usize, seen: &mut [bool]) -> bool
     requires f_lt_f { f < laid.now.sizes.f }
     requires marked { Marked seen.old (reached laid.now.words.now laid.now.sizes f) }
@@ -84,7 +84,8 @@ fn fragment_ok(laid: &Laid<'_>, f: usize, seen: &mut [bool]) -> bool
     laid.strand(f) <= MAX_STRAND && laid.first_ok(f) && walk_chain(laid, f, seen)
 }
 
-// Every fragment is right; then seen marks what they reach. The place of a fault is the first fragment that has one.
+// Every fragment is right; then seen marks what they reach. The place of a fault is the first fragment that has one. A loop: the closure of
+// `first_fault` changes nothing, and this test marks.
 fn check_fragments(laid: &Laid<'_>, seen: &mut [bool]) -> Result<(), Refusal>
     requires { Marked seen.old [] }
     ensures { FragmentsChecked laid.now.words.now laid.now.sizes seen.new (outcome_of result) }

@@ -11,8 +11,7 @@ ghost use Rattle.variants_and_fragments.specs.Case.{direction};
 
 use crate::{CallWords, Laid, Sizes};
 
-// What a word that passes no range reads as. A number and no Option, as 0 is for no record: so it is in the words, and a walk would make an
-// Option of each word and take it apart at once.
+// What a word that passes no range reads as. No Option: each reader tests its number against an upper bound, which NONE fails as any too large one does.
 pub const NONE: usize = 4294967296;
 
 // Words of the head and of each record.
@@ -77,7 +76,8 @@ pub const MAX_ALLELE_LENGTH: usize = 64;
 
 pub const LOWEST_QUALITY: i32 = -262144;
 
-// The last strand, and the first one of muted fragments: 2 forward, 3 reverse.
+// The last strand, and the first one of muted fragments: 2 forward, 3 reverse. A number and no enum: the
+// words, the rows and the place of a count (3 · (1 + direction)) have it as one.
 pub const MAX_STRAND: usize = 3;
 
 pub const MUTED: usize = 2;
@@ -190,6 +190,7 @@ pub fn direction_of(strand: usize) -> usize
 
 // ---- the readings of a case's words
 
+// A record is a usize, and 1 ≤ r ≤ C a clause: a type of records would ask more of a caller, who has a word's number.
 impl Laid<'_> {
     // The cutoff.
     pub fn cutoff(&self) -> i32
@@ -361,6 +362,7 @@ impl Laid<'_> {
 // They take the words and the sizes: of a struct with both, each contract would have to say too that the words lent are the same.
 
 // Sets a word of the head to a number of records or a record.
+// That the head is there is a clause: a type for it would be two, of a & for read_sizes and of a &mut here.
 fn put_head(words: &mut [i32], field: usize, x: usize)
     requires { (head_words ≤ length words.old) × (field < head_words) × (x ≤ max_calls) }
     ensures { words.new ≡ head_set words.old field (pos x) }
@@ -385,6 +387,7 @@ pub fn put_free(words: &mut [i32], free: usize)
 }
 
 // Sets fragment f's first call: a record, 0 for none, or −1 where the fragment is absent.
+// The word and no Option of a record, which would ask more of a caller: any word may be written.
 pub fn put_first(words: &mut [i32], s: Sizes, f: usize, first: i32)
     requires sized { Sized words.old s }
     requires f_lt_f { f < s.f }

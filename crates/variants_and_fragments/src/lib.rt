@@ -8,12 +8,14 @@ use crate::alleles::check_alleles;
 use crate::chains::check_chains;
 use crate::head::read_head;
 use crate::variants::check_variants;
+pub use faults::first_fault;
 pub use laid::{Case, CaseWords, Laid, WithVariants};
 pub use refusals::long_enough;
 
 pub mod alleles;
 pub mod calls;
 mod chains;
+mod faults;
 mod head;
 pub mod laid;
 pub mod layout;
@@ -31,7 +33,7 @@ pub struct Sizes {
     pub cutoff: i32,
 }
 
-// The first four words of a call's record.
+// The first four words of a call's record. Not one generic struct with pileup's `Call`, which has a checked call's numbers: no function takes both.
 #[derive(Clone, Copy)]
 pub struct CallWords {
     pub variant: i32,
@@ -77,6 +79,7 @@ pub fn check_case<'a>(words: &'a [i32], bases: &'a [u8]) -> Result<Case<'a>, Ref
     ensures outcome { outcome_of result ≡ check_case_outcome words.now bases.now }
     ensures lent { IfOk result (λ case. (case.laid.words.now ≡ words.now) × (case.bases.now ≡ bases.now)) }
 {
+    // No haplotypes, and no Option of them: number 2 asks nothing of what lies past the slice's end.
     check_case_and_haplotypes(words, bases, &[])
 }
 

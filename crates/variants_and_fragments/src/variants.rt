@@ -5,6 +5,7 @@ ghost use Rattle.variants_and_fragments.specs.Layout.{prior_pos0_at, haplotype_o
 ghost use Rattle.variants_and_fragments.specs.Inner.Layout.{length_test};
 ghost use Rattle.variants_and_fragments.specs.Inner.Answers.{variants_outcome};
 
+use crate::faults::first_fault;
 use crate::layout::{MAX_ALLELE_LENGTH, MAX_ALLELES};
 use crate::{Laid, Refusal, WithVariants};
 
@@ -74,7 +75,7 @@ pub fn check_variants<'a>(laid: &Laid<'a>, haplotypes: &[u8]) -> Result<WithVari
     ensures outcome { answered (λ _. tt) result ≡ variants_outcome laid.now.words.now haplotypes.now laid.now.sizes }
     ensures same { IfOk result (λ known. known.laid ≡ laid.now) }
 {
-    match (0..laid.sizes.n).find(|v| !variant_ok(laid, haplotypes, *v)) {
+    match first_fault(0, laid.sizes.n, |v| variant_ok(laid, haplotypes, v)) {
         Some(v) => Err(Refusal::Variant(v)),
         None => Ok(WithVariants { laid: *laid }),
     }
