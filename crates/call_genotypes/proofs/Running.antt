@@ -18,11 +18,10 @@ use Rattle.sweeps.proofs.Posts.{length_recorded}
 use Rattle.sweeps.proofs.Run.{demand3}
 use Rattle.sweeps.proofs.Sweep.{sweep_swept}
 use Rattle.likelihoods.specs.Inner.Held.{SweepReads, Liks}
-use Rattle.call_genotypes.specs.declared.run.Plan.{Plan}
 use Rattle.call_genotypes.specs.declared.run.RunAnswer.{RunAnswer}
 use Rattle.call_genotypes.specs.Inner.Scores.{over_first, SweepState}
 use Rattle.call_genotypes.specs.Inner.Visits.{SweepStart, Swept}
-use Rattle.call_genotypes.specs.Inner.Runs.{order_of, RunStart, result_of, Ran}
+use Rattle.call_genotypes.specs.Inner.Runs.{Plan, order_of, RunStart, result_of, Ran}
 
 -- s sweeps are made
 pub record Running (C : SweepCase) (o : ℕ → List ℕ) (limit : ℕ) (before state : SweepState) (s : ℕ) : Type 0 where
@@ -32,6 +31,11 @@ pub record Running (C : SweepCase) (o : ℕ → List ℕ) (limit : ℕ) (before 
   pub left : run C o limit 0 before.hap ≡ run C o (limit - s) s state.hap
   pub stood : state.hap ≡ after C o before.hap s
   pub scores : state.post ≡ posts over_first C o before.hap before.post s
+
+-- the part that the code hands over
+pub part_is : (orders : List ℕ) (n m s a : ℕ) → a ≡ s % m * n → take (a + n - a) (drop a orders) ≡ order_of orders n m s
+unfolding order_of order_at
+part_is orders n m s a at = let e : s % m * n + n - s % m * n ≡ n = omega arith in rw (at, e)
 
 module _ {C : SweepCase} {reads : SweepReads} {before : SweepState} {orders : List ℕ} {plan : Plan} (R : RunStart C reads before orders plan) where
   abbrev n : ℕ
@@ -47,11 +51,6 @@ module _ {C : SweepCase} {reads : SweepReads} {before : SweepState} {orders : Li
   o = order_of orders n m
 
   -- ---- the orders
-  -- the part that the code hands over
-  pub part_is : (s : ℕ) → take (s % m * n + n - s % m * n) (drop (s % m * n) orders) ≡ o s
-  unfolding order_of order_at
-  part_is s = let e : s % m * n + n - s % m * n ≡ n = omega arith in rw e
-
   order_good : (s : ℕ) → Permutation C.n (o s)
   order_good s = subst (λ (x : ℕ). Permutation x (o s)) R.n_is (R.orders_good s)
 
@@ -78,17 +77,13 @@ module _ {C : SweepCase} {reads : SweepReads} {before : SweepState} {orders : Li
     run_out answer l es e = let z : limit - s ≡ 0 = omega arith in ran (rw (es, e) (rw z at r.left)) r.liks (rw es r.scores)
 
     -- a sweep can start by any order
-    pub running_sweep : (x : ℕ) → SweepStart C reads state (take (x % m * n + n - x % m * n) (drop (x % m * n) orders))
-    running_sweep x = rw (part_is x) (record {
+    pub running_sweep : (x : ℕ) → SweepStart C reads state (o x)
+    running_sweep x = record {
       standing = record { held = R.standing.held; haps = r.good; liks = r.liks; room = omega (arith, r.long, R.standing.room) };
       order_in = permutation_below (order_good x);
-    })
+    }
 
-    -- by the part that starts at a
-    module _ (l : s < limit) {state' : SweepState} {flag : Bool} (a : ℕ) (at : a ≡ s % m * n) (w' : Swept C (take (a + n - a) (drop a orders)) state state' flag) where
-      w : Swept C (o s) state state' flag
-      w = rw (at, part_is s) at w'
-
+    module _ (l : s < limit) {state' : SweepState} {flag : Bool} (w : Swept C (o s) state state' flag) where
       -- the flag says which way the run goes
       run_step : run C o limit 0 before.hap ≡ cond (not flag) (result_of (s + 1) true state'.hap) (run C o (limit - (s + 1)) (s + 1) state'.hap)
       unfolding run

@@ -1,9 +1,9 @@
 // The run of sweeps. The three slices that are written stay parameters here and below: with them in a struct, each contract would say besides
 // that the loans stay the same. That there is a case (`Some`) stays a clause, and is no ghost field of what is read: it speaks of them too.
-ghost use Rattle.std.specs.Prelude.{◌≡◌};
+ghost use Rattle.std.specs.Prelude.{◌≡◌, ◌*◌, ◌≤◌, length};
 ghost use Rattle.call_genotypes.specs.Inner.Reads.{reads_of};
 ghost use Rattle.call_genotypes.specs.Inner.Scores.{Some, sweep_state};
-ghost use Rattle.call_genotypes.specs.Inner.Runs.{RunStart, RanFrom};
+ghost use Rattle.call_genotypes.specs.Inner.Runs.{order_of, plan_of, RunStart, RanFrom};
 
 use crate::reads::SweepReads;
 use crate::visit::sweep;
@@ -15,33 +15,39 @@ pub struct RunAnswer {
     pub settled: bool,
 }
 
-// How many variants an order has, how many orders are lent, and the most sweeps.
+// Lent orders of n variants each, one after the other, m of them.
 #[derive(Clone, Copy)]
-pub struct Plan {
+pub struct Orders<'a> {
+    pub entries: &'a [u32],
     pub n: usize,
     pub m: usize,
-    pub limit: usize,
 }
 
-// Sweeps until one changes nothing, at most `plan.limit` of them; sweep s goes by part s mod m of the orders, of n entries each.
-// At the loop's head s sweeps are made, and each changed something.
+impl<'a> Orders<'a> {
+    // The order of sweep s: they go round.
+    pub fn of_sweep(&self, s: usize) -> &'a [u32]
+        requires { (1 ≤ self.now.m) × (length self.now.entries.now ≡ self.now.m * self.now.n) }
+        ensures { result.now ≡ order_of self.now.entries.now self.now.n self.now.m s }
+    {
+        let a = (s % self.m) * self.n;
+        &self.entries[a..a + self.n]
+    }
+}
+
+// Sweeps by the orders in turn until one changes nothing, at most `limit` of them. At the loop's head s sweeps are made, and each changed something.
 pub fn run_sweeps(
     reads: &SweepReads<'_>,
-    orders: &[u32],
-    plan: Plan,
+    orders: &Orders<'_>,
+    limit: usize,
     hap: &mut [u8],
     lik: &mut [i64],
     post: &mut [i64],
 ) -> RunAnswer
-    requires some { Some (λ C. RunStart C (reads_of reads.now) (sweep_state hap.old lik.old post.old) orders.now plan) }
-    ensures { RanFrom (reads_of reads.now) (sweep_state hap.old lik.old post.old) orders.now plan (sweep_state hap.new lik.new post.new) result }
+    requires some { Some (λ C. RunStart C (reads_of reads.now) (sweep_state hap.old lik.old post.old) orders.now.entries.now (plan_of orders.now limit)) }
+    ensures { RanFrom (reads_of reads.now) (sweep_state hap.old lik.old post.old) orders.now.entries.now (plan_of orders.now limit) (sweep_state hap.new lik.new post.new) result }
 {
-    let Plan { n, m, limit } = plan;
     for s in 0..limit {
-        let a = (s % m) * n;
-        let e = a + n;
-        let part = &orders[a..e];
-        if !sweep(reads, part, hap, lik, post) {
+        if !sweep(reads, orders.of_sweep(s), hap, lik, post) {
             return RunAnswer {
                 sweeps: s + 1,
                 settled: true,

@@ -30,6 +30,14 @@ pub struct Mixes {
     pub neither: i64,
 }
 
+// The sums of the four numbers over a pile's calls, four per allele: with them a pair's score takes a few additions, and no second walk over the
+// calls.
+#[derive(Clone, Copy)]
+pub struct Sums {
+    pub acc: [i64; 12],
+    pub ghost within: { Within (2 ^ 50) acc },
+}
+
 // Whether ln(1 + exp(..)) is straight at d and as far around it as a gap goes: 313,472 is 51,328, from where on A is 0, and 262,144, the
 // largest gap.
 fn is_far(d: i64) -> bool
@@ -139,12 +147,11 @@ fn add_four(r: Mixes, acc: &mut [i64; 12], x: usize)
     raise(acc, at + 3, r.neither);
 }
 
-// The sums of the four numbers of a pile's calls, four per allele: with them a pair's score takes a few additions, and no second walk over the
-// calls. At the loop's head the calls so far are in the sums.
-fn score_calls(pile: &[u64], lik: &[i64], turns: &[i64; 4]) -> [i64; 12]
+// The sums of the four numbers of a pile's calls. At the loop's head the calls so far are in them.
+fn score_calls(pile: &[u64], lik: &[i64], turns: &[i64; 4]) -> Sums
     requires pile_fits { PileFits lik.now pile.now 0 (length pile.now) }
     requires within { Within (2 ^ 32) lik.now × Within 1 turns.now }
-    ensures { AlleleSums (row_mixes turns.now lik.now) (rows_at pile.now 0 (length pile.now)) result }
+    ensures { AlleleSums (row_mixes turns.now lik.now) (rows_at pile.now 0 (length pile.now)) result.acc }
 {
     let mut acc = [0i64; 12];
     for word in pile {
@@ -152,7 +159,7 @@ fn score_calls(pile: &[u64], lik: &[i64], turns: &[i64; 4]) -> [i64; 12]
         let r = call_mixes(row, lik, turns);
         add_four(r, &mut acc, row.allele);
     }
-    acc
+    Sums { acc }
 }
 
 // Each allele's turn at a variant that is at this pair: nothing at an unphased one, whose calls are not in the likelihoods.
@@ -168,62 +175,62 @@ fn turns_of(phased: bool, pair: Pair) -> [i64; 4]
     turns
 }
 
-// How far a score rises, by the sums of allele x, if the first haplotype has x and the second has not.
-fn first_rise(acc: &[i64; 12], x: usize) -> i64
-    requires { (x < 3) × Within (2 ^ 50) acc.now }
-    ensures { (result ≡ rise_of (sums_at acc.now x) 0) × (nat_abs result ≤ 2 ^ 51) }
-{
-    acc[4 * x] - acc[4 * x + 3]
-}
-
-// The same if the second has it and the first has not.
-fn second_rise(acc: &[i64; 12], x: usize) -> i64
-    requires { (x < 3) × Within (2 ^ 50) acc.now }
-    ensures { (result ≡ rise_of (sums_at acc.now x) 1) × (nat_abs result ≤ 2 ^ 52) }
-{
-    acc[4 * x + 1] - acc[4 * x + 3] + acc[4 * x + 2]
-}
-
-// How far the score of (i, j) is above the one where neither haplotype has a call's allele.
-fn pair_rise(acc: &[i64; 12], i: usize, j: usize) -> i64
-    requires { (i < 3) × (j < 3) × Within (2 ^ 50) acc.now }
-    ensures { result ≡ pair_rise acc.now i j }
-{
-    if i == j {
-        acc[4 * i + 2]
-    } else {
-        first_rise(acc, i) + second_rise(acc, j)
+impl Sums {
+    // How far a score rises, by the sums of allele x, if the first haplotype has x and the second has not.
+    fn first_rise(&self, x: usize) -> i64
+        requires { x < 3 }
+        ensures { (result ≡ rise_of (sums_at self.now.acc x) 0) × (nat_abs result ≤ 2 ^ 51) }
+    {
+        self.acc[4 * x] - self.acc[4 * x + 3]
     }
-}
 
-// What brings the score of v's first pair to 0.
-fn below_first(pri: &[i64], acc: &[i64; 12], v: usize) -> i64
-    requires { (v < 1024) × (9 * v < length pri.now) × (nat_abs (get_or pri.now (9 * v) (pos 0)) ≤ 2 ^ 21) × Within (2 ^ 50) acc.now }
-    ensures { (result ≡ below_first pri.now acc.now v) × (nat_abs result ≤ 2 ^ 53) }
-{
-    0 - (pri[9 * v] + acc[2])
-}
+    // The same if the second has it and the first has not.
+    fn second_rise(&self, x: usize) -> i64
+        requires { x < 3 }
+        ensures { (result ≡ rise_of (sums_at self.now.acc x) 1) × (nat_abs result ≤ 2 ^ 52) }
+    {
+        self.acc[4 * x + 1] - self.acc[4 * x + 3] + self.acc[4 * x + 2]
+    }
 
-// The score of (i, j), whose prior stands at `at`.
-fn pair_score(pri: &[i64], acc: &[i64; 12], base: i64, at: usize, i: usize, j: usize) -> LogProb
-    requires at_in_bounds { (at < length pri.now) × (nat_abs (get_or pri.now at (pos 0)) ≤ 2 ^ 21) × (nat_abs base ≤ 2 ^ 53) × (i < 3) × (j < 3) }
-    requires within { Within (2 ^ 50) acc.now }
-    ensures { result.0 ≡ (get_or pri.now at (pos 0) +ℤ base) +ℤ pair_rise acc.now i j }
-{
-    LogProb(pri[at] + base + pair_rise(acc, i, j))
-}
+    // How far the score of (i, j) is above the one where neither haplotype has a call's allele.
+    fn pair_rise(&self, i: usize, j: usize) -> i64
+        requires { (i < 3) × (j < 3) }
+        ensures { result ≡ pair_rise self.now.acc i j }
+    {
+        if i == j {
+            self.acc[4 * i + 2]
+        } else {
+            self.first_rise(i) + self.second_rise(j)
+        }
+    }
 
-// Writes the k by k scores at 9 * v, row after row. At the outer loop's head i rows of them are written, at the inner's j more.
-fn write_scores(pri: &[i64], post: &mut [i64], acc: &[i64; 12], base: i64, v: usize, k: usize)
-    requires scores_room { ScoresRoom pri.now post.old v k × (nat_abs base ≤ 2 ^ 53) }
-    requires within { Within (2 ^ 50) acc.now }
-    ensures { post.new ≡ sets post.old (9 * v) (scores_of pri.now acc.now base v k) }
-{
-    for i in 0..k {
-        for j in 0..k {
-            let at = 9 * v + (i * k + j);
-            let score = pair_score(pri, acc, base, at, i, j).0;
-            post[at] = score;
+    // What brings the score of v's first pair to 0.
+    fn below_first(&self, pri: &[i64], v: usize) -> i64
+        requires { (v < 1024) × (9 * v < length pri.now) × (nat_abs (get_or pri.now (9 * v) (pos 0)) ≤ 2 ^ 21) }
+        ensures { (result ≡ below_first pri.now self.now.acc v) × (nat_abs result ≤ 2 ^ 53) }
+    {
+        0 - (pri[9 * v] + self.acc[2])
+    }
+
+    // The score of (i, j), whose prior stands at `at`.
+    fn pair_score(&self, pri: &[i64], base: i64, at: usize, i: usize, j: usize) -> LogProb
+        requires { (at < length pri.now) × (nat_abs (get_or pri.now at (pos 0)) ≤ 2 ^ 21) × (nat_abs base ≤ 2 ^ 53) × (i < 3) × (j < 3) }
+        ensures { result.0 ≡ (get_or pri.now at (pos 0) +ℤ base) +ℤ pair_rise self.now.acc i j }
+    {
+        LogProb(pri[at] + base + self.pair_rise(i, j))
+    }
+
+    // Writes the k by k scores at 9 * v, row after row. At the outer loop's head i rows of them are written, at the inner's j more.
+    fn write_scores(&self, pri: &[i64], post: &mut [i64], base: i64, v: usize, k: usize)
+        requires { ScoresRoom pri.now post.old v k × (nat_abs base ≤ 2 ^ 53) }
+        ensures { post.new ≡ sets post.old (9 * v) (scores_of pri.now self.now.acc base v k) }
+    {
+        for i in 0..k {
+            for j in 0..k {
+                let at = 9 * v + (i * k + j);
+                let score = self.pair_score(pri, base, at, i, j).0;
+                post[at] = score;
+            }
         }
     }
 }
@@ -264,7 +271,7 @@ pub fn scores(reads: &SweepReads<'_>, hap: &[u8], lik: &[i64], post: &mut [i64],
     let phased = reads.ph[v] != 0;
     let old = pair_at(hap, v);
     let turns = turns_of(phased, old);
-    let acc = score_calls(reads.pile(v), lik, &turns);
-    let base = below_first(reads.pri, &acc, v);
-    write_scores(reads.pri, post, &acc, base, v, k);
+    let sums = score_calls(reads.pile(v), lik, &turns);
+    let base = sums.below_first(reads.pri, v);
+    sums.write_scores(reads.pri, post, base, v, k);
 }

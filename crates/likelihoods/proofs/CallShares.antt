@@ -1,5 +1,5 @@
 -- What a row's call adds to a likelihood, at a flagged variant and elsewhere. Assumes nothing.
-use mathlib.Core.Path.{◌≡◌, refl, sym, ap, ◌∙◌, subst}
+use mathlib.Core.Path.{◌≡◌, refl, ap, ◌∙◌}
 use mathlib.Core.Bool.{Bool, true, false, cond}
 use mathlib.Core.List.{List}
 use Prim.Native.Nat.{ℕ, zero, suc, ◌+◌, ◌*◌, ◌-◌, ◌/◌, ◌%◌, ◌≤◌, ◌<◌}
@@ -12,8 +12,7 @@ use lib.IntN.{ℤ, pos, nat_abs}
 use lib.ListN.{length, get_or}
 use Rattle.variants_and_fragments.specs.Case.{Call}
 use Rattle.variants_and_fragments.proofs.Sums.{sum_map, sum_to_cong}
-use Rattle.pileup.specs.declared.row.Row.{Row as RowHeld}
-use Rattle.pileup.specs.Inner.Packed.{row_at, rows_at, group_start, group_words, GroupThere, held_row, row_from, unpacked}
+use Rattle.pileup.specs.Inner.Packed.{row_at, rows_at, group_start, group_words, GroupThere}
 use Rattle.variants_and_fragments.specs.Sums.{sum_to}
 use Rattle.sweeps.specs.Sweeps.{allele0, call_term, likelihood}
 use Rattle.sweeps.proofs.Basics.{lik_cong}
@@ -89,20 +88,14 @@ ends_within ends (suc n) rises f h = elim (ℕ_discrete f n) [
   | no e ↦ omega (arith, ends_within ends n (λ g k. rises g (omega arith)) f (omega arith), rises n (omega arith))
 ]
 
--- ---- row j of a read's
-module _ {rows hap mask : List ℕ} (k : CallsIn rows (length rows) hap mask) (j : ℕ) (l : j < length rows) (row : RowHeld) (e : row ≡ held_row (unpacked (get_or rows j 0))) where
-  pub row_is : row_call (row_from row) ≡ call_at rows j
-  row_is = ap (λ (r : RowHeld). row_call (row_from r)) e
-
-  pub row_in : CallIn (row_call (row_from row)) hap mask
-  row_in =
-      let there : CallIn (call_at rows j) hap mask = record {
-        pair_there = k.pair_there j l;
-        flag_there = k.flag_there j l;
-        qual_small = k.qual_small j l;
-        one_minus_qual_small = k.one_minus_qual_small j l;
-      } in
-      subst (λ (x : Call). CallIn x hap mask) (sym row_is) there
+-- row j of a read's
+pub row_in : {rows hap mask : List ℕ} → CallsIn rows (length rows) hap mask → (j : ℕ) → j < length rows → CallIn (call_at rows j) hap mask
+row_in k j l = record {
+  pair_there = k.pair_there j l;
+  flag_there = k.flag_there j l;
+  qual_small = k.qual_small j l;
+  one_minus_qual_small = k.one_minus_qual_small j l;
+}
 
 -- ---- the rows of read f
 module _ {rows ends hap mask : List ℕ} {n : ℕ} (k : CallsIn rows (group_start ends n) hap mask) (o : EndsIn ends n) (f : ℕ) (h : f < n) where

@@ -14,14 +14,14 @@ use steps::one_plus::ln_one_plus_exp;
 
 // Each variant's number of alleles and its nine priors, and the haplotypes.
 #[derive(Clone, Copy)]
-pub struct PairPriors<'a> {
-    pub ks: &'a [u8],
-    pub pri: &'a [i64],
-    pub on: Haplotypes<'a>,
+pub struct PairPriors<'r, 'h> {
+    pub ks: &'r [u8],
+    pub pri: &'r [i64],
+    pub on: Haplotypes<'h>,
     pub ghost priors_in: { PriorsIn (length ks.now) ks.now pri.now on.hap.now on.mask.now },
 }
 
-impl PairPriors<'_> {
+impl PairPriors<'_, '_> {
     // What variant v adds: the prior of its pair where its flag is 1.
     fn share(&self, v: usize) -> LogProb
         requires { v < length self.now.ks.now }
@@ -61,7 +61,7 @@ fn mixed(r: ReadLikelihoods) -> LogProb
 
 // The mixed likelihoods of the reads. At the loop's head those of the first f are added. `mixes_total` is no plainer with this loop in common: all rows
 // together keep this sum within 2^39, and a loop over any reads' likelihoods knows no more than the range of each.
-fn fragments_total(reads: &ReadRows<'_>) -> LogProb
+fn fragments_total(reads: &ReadRows<'_, '_>) -> LogProb
     requires { length reads.now.rows.ends.now ≤ 4096 }
     ensures { (result.0 ≡ sum_to (length reads.now.rows.ends.now) (fragment_share reads.now.rows.words.now reads.now.rows.ends.now reads.now.on.hap.now reads.now.on.mask.now)) × (nat_abs result.0 ≤ 2 ^ 39) }
 {
@@ -73,7 +73,7 @@ fn fragments_total(reads: &ReadRows<'_>) -> LogProb
 }
 
 // The total of the haplotypes over the flagged variants: their priors plus, per read, its mixed likelihoods.
-pub fn total(priors: &PairPriors<'_>, reads: &ReadRows<'_>) -> LogProb
+pub fn total(priors: &PairPriors<'_, '_>, reads: &ReadRows<'_, '_>) -> LogProb
     requires few { length reads.now.rows.ends.now ≤ 4096 }
     requires same { (reads.now.on.hap.now ≡ priors.now.on.hap.now) × (reads.now.on.mask.now ≡ priors.now.on.mask.now) }
     ensures { (result.0 ≡ total_of (held_case (length priors.now.ks.now) (length reads.now.rows.ends.now) priors.now.ks.now priors.now.pri.now reads.now.rows.words.now reads.now.rows.ends.now priors.now.on.mask.now) (flagged priors.now.on.mask.now) priors.now.on.hap.now) × (nat_abs result.0 ≤ 2 ^ 40) }
@@ -96,7 +96,7 @@ fn mixes_total(lik: &[i64]) -> LogProb
 }
 
 // The total over the flagged variants, of the likelihoods that stand: their priors plus, per read, its mixed likelihoods.
-pub fn standing_total(priors: &PairPriors<'_>, lik: &[i64]) -> LogProb
+pub fn standing_total(priors: &PairPriors<'_, '_>, lik: &[i64]) -> LogProb
     requires { (length lik.now ≤ 8192) × Within (2 ^ 32) lik.now }
     ensures { result.0 ≡ standing_total (length priors.now.ks.now) (length lik.now / 2) priors.now.ks.now priors.now.pri.now lik.now priors.now.on.hap.now priors.now.on.mask.now }
 {

@@ -31,7 +31,7 @@ use Rattle.sweeps.proofs.Posts.{length_posts}
 use Rattle.with_haplotypes.specs.Finals.{final_of}
 use Rattle.with_haplotypes.specs.Inner.Finals.{final_at, TablesIn, FinalsWritten}
 use Rattle.likelihoods.specs.Inner.Likelihoods.{allele_on}
-use Rattle.call_genotypes.specs.Inner.Runs.{result_of}
+use Rattle.call_genotypes.specs.Inner.Runs.{Plan, result_of}
 use Rattle.call_genotypes.specs.Inner.Scores.{over_first, SweepState}
 use Rattle.with_haplotypes.specs.Inner.NormalizedPosteriors.{normalized_at, TablesAt}
 use Rattle.genotype_probs.proofs.SameTables.{genotype_same, qual_same, gq_same}
@@ -42,7 +42,6 @@ use Rattle.genotype_probs.proofs.TableSums.{normalized_same}
 use Rattle.likelihoods.proofs.SweepCases as cases
 use Rattle.with_haplotypes.specs.declared.RoundAnswer.{RoundAnswer}
 use Rattle.variants_and_fragments.specs.declared.Sizes.{Sizes}
-use Rattle.call_genotypes.specs.declared.run.Plan.{Plan}
 use Rattle.with_haplotypes.specs.Round.{RunInput, run_input, sweep_case, order_of_sweep, result, returned, haplotype_at, likelihood_at, latest_score, posteriors, posterior_at, final}
 use Rattle.with_haplotypes.specs.Inner.Steps.{CaseGiven, OrdersGiven, AlleleCounts, RunMade}
 use Rattle.with_haplotypes.proofs.Latest.{posts_latest, posts_past}

@@ -36,8 +36,8 @@ use Rattle.sweeps.proofs.Run.{after_good}
 use Rattle.likelihoods.proofs.SweepCases.{good_sweep_case}
 use Rattle.genotype_probs.specs.Normalized.{is_normal}
 use Rattle.genotype_probs.proofs.NormalizedLaws.{all_normal}
+use Rattle.call_genotypes.specs.Inner.Runs.{Plan}
 use Rattle.with_haplotypes.specs.declared.RoundAnswer.{RoundAnswer}
-use Rattle.call_genotypes.specs.declared.run.Plan.{Plan}
 use Rattle.with_haplotypes.specs.Round.{RoundInput, case_of_round, run_of, sweep_case, order_of_sweep, result, returned, posteriors, latest_score, final}
 use Rattle.with_haplotypes.specs.Promise.{RoundSlices, round_slices, round_needs, max_limit, call_genotypes_with_haplotypes_outcome, call_genotypes_with_haplotypes_written, ToldTotals, pair_on, CalledWithHaplotypes}
 use Rattle.with_haplotypes.specs.Inner.Checks.{limit_checks, round_checks}

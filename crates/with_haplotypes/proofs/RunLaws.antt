@@ -28,10 +28,9 @@ use Rattle.likelihoods.proofs.CallsHeld.{calls_in, ends_in_order}
 use Rattle.likelihoods.proofs.HeldCases.{counted, held, frags_counted}
 use Rattle.likelihoods.proofs.LikelihoodsHeld.{liks_held}
 use Rattle.likelihoods.proofs.TotalsHeld.{priors_in, standing_total_held, source_total_held}
-use Rattle.call_genotypes.specs.declared.run.Plan.{Plan}
 use Rattle.call_genotypes.specs.declared.run.RunAnswer.{RunAnswer}
 use Rattle.call_genotypes.specs.Inner.Scores.{SweepState, sweep_state}
-use Rattle.call_genotypes.specs.Inner.Runs.{order_of, RunStart, Ran}
+use Rattle.call_genotypes.specs.Inner.Runs.{Plan, order_of, RunStart, Ran}
 use Rattle.call_genotypes.proofs.Linked.{lik_within}
 use Rattle.with_haplotypes.specs.declared.RoundAnswer.{RoundAnswer}
 use Rattle.with_haplotypes.specs.Round.{RunInput, run_input, sweep_case, order_of_sweep, result}

@@ -18,10 +18,10 @@ use Rattle.haplotype_assembly.proofs.Decodes.{count_is, start_is, flag_is}
 use Rattle.haplotype_assembly.proofs.Start.{start_length, start_written, start_first_below, start_second_below}
 use Rattle.sweeps.specs.Inner.Sweeps.{GoodHaps}
 use Rattle.likelihoods.specs.SweepCaseOf.{sweep_case_of}
+use Rattle.call_genotypes.specs.Inner.Runs.{Plan}
 use Rattle.call_genotypes.specs.Inner.Scores.{SweepState, sweep_state}
 use Rattle.with_haplotypes.specs.declared.RoundAnswer.{RoundAnswer}
 use Rattle.variants_and_fragments.specs.declared.Sizes.{Sizes}
-use Rattle.call_genotypes.specs.declared.run.Plan.{Plan}
 use Rattle.with_haplotypes.specs.Round.{run_input, RoundInput, case_of_round, run_of, sweep_case}
 use Rattle.with_haplotypes.specs.Inner.Steps.{Admitted, StateGiven, RunMade}
 

@@ -31,7 +31,7 @@ impl AcceptedRound<'_> {
         let ks = &mut counts[..n];
         write_allele_counts(&self.case.with_variants(), ks);
         let mut ph = [0u8; MAX_VARIANTS];
-        write_phase(&self.case, self.phase, haplotypes, &mut ph);
+        write_phase(&self.case.accepted_words(), self.phase, haplotypes, &mut ph);
         let reads = RunReads {
             round: *self,
             ks,
@@ -43,7 +43,7 @@ impl AcceptedRound<'_> {
             posteriors,
         );
         normalize_all(ks, posteriors);
-        write_finals(&self.case, posteriors, quals, gqs);
+        write_finals(&self.case.laid, posteriors, quals, gqs);
         answer
     }
 }

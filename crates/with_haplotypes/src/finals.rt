@@ -5,7 +5,7 @@ ghost use Rattle.with_haplotypes.specs.Inner.Finals.{TablesIn, FinalsWritten};
 
 use genotype_probs::posteriors::{Genotype, Table};
 use steps::PHREDProb;
-use variants_and_fragments::{Case, VarFilter};
+use variants_and_fragments::{Laid, VarFilter};
 
 // The called pair, the quality of the variant, that of the pair, and the filter.
 #[derive(Clone, Copy)]
@@ -31,15 +31,15 @@ pub fn final_answer(table: &Table<'_>) -> FinalAnswer
 }
 
 // Writes the qualities of each variant, whose normalised posteriors stand at nine places. At the loop's head those before v are written.
-pub fn write_finals(case: &Case<'_>, post: &[i64], quals: &mut [f64], gqs: &mut [f64])
-    requires tables_in { TablesIn case.now.laid.words.now post.now case.now.laid.sizes.n }
-    requires n_in_bounds { (case.now.laid.sizes.n ≤ length quals.old) × (case.now.laid.sizes.n ≤ length gqs.old) }
-    ensures { FinalsWritten case.now.laid.words.now post.now case.now.laid.sizes.n quals.old gqs.old quals.new gqs.new }
+pub fn write_finals(laid: &Laid<'_>, post: &[i64], quals: &mut [f64], gqs: &mut [f64])
+    requires tables_in { TablesIn laid.now.words.now post.now laid.now.sizes.n }
+    requires n_in_bounds { (laid.now.sizes.n ≤ length quals.old) × (laid.now.sizes.n ≤ length gqs.old) }
+    ensures { FinalsWritten laid.now.words.now post.now laid.now.sizes.n quals.old gqs.old quals.new gqs.new }
 {
-    for v in 0..case.laid.sizes.n {
+    for v in 0..laid.sizes.n {
         let table = Table {
             post: &post[9 * v..9 * v + 9],
-            k: case.laid.allele_count(v),
+            k: laid.allele_count(v),
         };
         let answer = final_answer(&table);
         quals[v] = answer.qual.0;

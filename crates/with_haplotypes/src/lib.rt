@@ -7,7 +7,7 @@ ghost use Rattle.with_haplotypes.specs.Round.{round_input};
 ghost use Rattle.with_haplotypes.specs.Promise.{max_limit, round_slices, outcome_of, CalledWithHaplotypes};
 
 use crate::reads::AcceptedRound;
-use call_genotypes::run::Plan;
+use call_genotypes::run::Orders;
 use genotype_probs::Rates;
 use haplotype_assembly::phase::check_phase;
 use shuffle::check_orders;
@@ -84,8 +84,12 @@ pub fn call_genotypes_with_haplotypes(
         case,
         rates,
         phase,
-        orders,
-        plan: Plan { n, m, limit },
+        orders: Orders {
+            entries: orders,
+            n,
+            m,
+        },
+        limit,
     };
     Ok(round.call(haplotypes, likelihoods, posteriors, quals, gqs))
 }

@@ -14,7 +14,7 @@ use crate::RoundAnswer;
 use crate::reads::{PreparedRun, RunReads};
 use call_genotypes::reads::SweepReads;
 use call_genotypes::run::run_sweeps;
-use likelihoods::likelihoods::ReadRows;
+use likelihoods::likelihoods::{Haplotypes, ReadRows};
 use likelihoods::totals::{PairPriors, standing_total, total};
 use steps::LogProb;
 use variants_and_fragments::layout::MAX_VARIANTS;
@@ -29,30 +29,30 @@ impl PreparedRun<'_> {
         let priors = PairPriors {
             ks: self.reads.ks,
             pri: self.pri,
-            hap,
-            mask: self.reads.ph,
+            on: Haplotypes {
+                hap,
+                mask: self.reads.ph,
+            },
         };
         standing_total(&priors, lik)
     }
 
     // The total of these haplotypes over all variants, recomputed from the rows.
     fn source_total(&self, hap: &[u8]) -> LogProb
-        requires rows_in { CallsIn self.now.rows.now (group_start self.now.row_ends.now (length self.now.row_ends.now)) hap.now (replicate 1024 1) × EndsIn self.now.row_ends.now (length self.now.row_ends.now) × (length self.now.row_ends.now ≤ 4096) }
+        requires rows_in { CallsIn self.now.rows.words.now (group_start self.now.rows.ends.now (length self.now.rows.ends.now)) hap.now (replicate 1024 1) × EndsIn self.now.rows.ends.now (length self.now.rows.ends.now) × (length self.now.rows.ends.now ≤ 4096) }
         requires priors_in { PriorsIn (length self.now.reads.ks.now) self.now.reads.ks.now self.now.pri.now hap.now (replicate 1024 1) }
-        ensures { result.0 ≡ total_of (held_case (length self.now.reads.ks.now) (length self.now.row_ends.now) self.now.reads.ks.now self.now.pri.now self.now.rows.now self.now.row_ends.now (replicate 1024 1)) (flagged (replicate 1024 1)) hap.now }
+        ensures { result.0 ≡ total_of (held_case (length self.now.reads.ks.now) (length self.now.rows.ends.now) self.now.reads.ks.now self.now.pri.now self.now.rows.words.now self.now.rows.ends.now (replicate 1024 1)) (flagged (replicate 1024 1)) hap.now }
     {
         let all = [1u8; MAX_VARIANTS];
+        let on = Haplotypes { hap, mask: &all };
         let priors = PairPriors {
             ks: self.reads.ks,
             pri: self.pri,
-            hap,
-            mask: &all,
+            on,
         };
         let rows = ReadRows {
             rows: self.rows,
-            ends: self.row_ends,
-            hap,
-            mask: &all,
+            on,
         };
         total(&priors, &rows)
     }
@@ -60,16 +60,14 @@ impl PreparedRun<'_> {
     // The run from the haplotypes that stand in hap: the phased totals are those of the likelihoods that stand, the source's is recomputed from
     // the rows.
     pub fn sweep(&self, hap: &mut [u8], lik: &mut [i64], post: &mut [i64]) -> RoundAnswer
-        requires prepared { Prepared self.now.reads.round.case.laid.words.now self.now.reads.round.case.bases.now self.now.reads.round.rates.rates self.now.reads.round.case.laid.sizes (scratch self.now.rows.now self.now.row_ends.now self.now.piles.now self.now.pile_ends.now self.now.pri.now) }
+        requires prepared { Prepared self.now.reads.round.case.laid.words.now self.now.reads.round.case.bases.now self.now.reads.round.rates.rates self.now.reads.round.case.laid.sizes (scratch self.now.rows.words.now self.now.rows.ends.now self.now.piles.words.now self.now.piles.ends.now self.now.pri.now) }
         requires state { StateGiven (sweep_case (run_from self.now.reads hap.old)) self.now.reads.round.case.laid.sizes (sweep_state hap.old lik.old post.old) }
         ensures { RunMade (run_from self.now.reads hap.old) (sweep_state hap.old lik.old post.old) (sweep_state hap.new lik.new post.new) result }
     {
         let RunReads { round, ks, ph } = self.reads;
         let rows = ReadRows {
             rows: self.rows,
-            ends: self.row_ends,
-            hap,
-            mask: ph,
+            on: Haplotypes { hap, mask: ph },
         };
         rows.write_likelihoods(lik);
         let start = self.phased_total(hap, lik);
@@ -77,10 +75,9 @@ impl PreparedRun<'_> {
             ks,
             ph,
             pri: self.pri,
-            ends: self.pile_ends,
             piles: self.piles,
         };
-        let r = run_sweeps(&reads, round.orders, round.plan, hap, lik, post);
+        let r = run_sweeps(&reads, &round.orders, round.limit, hap, lik, post);
         let end = self.phased_total(hap, lik);
         let source = self.source_total(hap);
         RoundAnswer {

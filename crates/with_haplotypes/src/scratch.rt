@@ -8,6 +8,7 @@ ghost use Rattle.with_haplotypes.specs.Inner.Reads.{run_from};
 use crate::RoundAnswer;
 use crate::reads::{PreparedRun, RunReads};
 use genotype_probs::case_priors::make_priors;
+use pileup::grouped::Groups;
 use pileup::piles::pile_calls;
 use variants_and_fragments::layout::{MAX_CALLS, MAX_FRAGMENTS, MAX_VARIANTS};
 
@@ -43,7 +44,7 @@ impl RunReads<'_> {
         let mut piles = [0u64; RECORDS];
         let mut pile_ends = [0usize; VARIANTS];
         pile_calls(
-            case,
+            &case.accepted_words(),
             &mut rows,
             row_ends,
             &mut [],
@@ -54,10 +55,14 @@ impl RunReads<'_> {
         make_priors(case, self.round.rates, &mut pri);
         let prepared = PreparedRun {
             reads: *self,
-            rows: &rows,
-            row_ends,
-            piles: &piles,
-            pile_ends: &pile_ends,
+            rows: Groups {
+                words: &rows,
+                ends: row_ends,
+            },
+            piles: Groups {
+                words: &piles,
+                ends: &pile_ends,
+            },
             pri: &pri,
         };
         prepared.sweep(hap, lik, post)

@@ -6,13 +6,22 @@ use Rattle.sweeps.specs.Sweeps.{SweepCase, RunResult, run}
 use Rattle.sweeps.specs.Demand3.{Demand3}
 use Rattle.sweeps.specs.Inner.Posts.{posts}
 use Rattle.likelihoods.specs.Inner.Held.{SweepReads, Liks}
-use Rattle.call_genotypes.specs.declared.run.Plan.{Plan}
+use Rattle.call_genotypes.specs.declared.run.Orders.{Orders}
 use Rattle.call_genotypes.specs.declared.run.RunAnswer.{RunAnswer}
 use Rattle.call_genotypes.specs.Inner.Scores.{over_first, SweepState, Standing}
 
 -- sweep s (from 0) uses lent order s mod m, of m orders of n entries each
 unfoldable pub order_of : List ℕ → ℕ → ℕ → ℕ → List ℕ
 order_of orders n m s = order_at n orders (s % m)
+
+-- how many variants an order has, how many orders are lent, and the most sweeps
+pub record Plan : Type 0 where
+  pub n : ℕ
+  pub m : ℕ
+  pub limit : ℕ
+
+abbrev pub plan_of : Orders → ℕ → Plan
+plan_of orders limit = record { n = orders.n; m = orders.m; limit = limit }
 
 -- what stands before the run: each order has every variant once, and the limit is one of 1 to 1,000,000 sweeps
 pub record RunStart (C : SweepCase) (reads : SweepReads) (state : SweepState) (orders : List ℕ) (plan : Plan) : Type 0 where

@@ -20,9 +20,8 @@ use Rattle.sweeps.specs.Demand3.{Demand3}
 use Rattle.sweeps.specs.Inner.Posts.{posts}
 use Rattle.likelihoods.specs.Inner.Held.{Liks}
 use Rattle.call_genotypes.specs.Inner.Scores.{over_first, SweepState}
-use Rattle.call_genotypes.specs.Inner.Runs.{result_of}
+use Rattle.call_genotypes.specs.Inner.Runs.{Plan, result_of}
 use Rattle.with_haplotypes.specs.declared.RoundAnswer.{RoundAnswer}
-use Rattle.call_genotypes.specs.declared.run.Plan.{Plan}
 use Rattle.with_haplotypes.specs.Round.{RunInput, RoundInput, sweep_case, order_of_sweep, result, returned, haplotype_at, likelihood_at, posterior_at, final}
 use Rattle.with_haplotypes.specs.Promise.{RoundSlices, max_limit}
 

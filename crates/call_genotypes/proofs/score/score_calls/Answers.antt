@@ -33,5 +33,8 @@ loop-word-preserved c =
     summing_step _ _ _ _ _ _ _ (value_of c.call_mixes-r.result) c.unpack-row.result.allele c.loop-word.invariant c.loop-word-test.true (omega (arith, c.requires.pile_fits.few))
     a (rw a i.allele_in) v (λ w. rw (v w) (row_size i c.args.turns.now c.args.lik.now c.requires.within.0 c.requires.within.1 w)) c.add_four.ensures
 
+pub invariant_of-result : goal.invariant_of-result
+invariant_of-result c = record { within = (summing_end _ _ _ _ _ _ c.loop-word.invariant c.loop-word-test.false).small }
+
 pub returns : goal.returns
 returns c = summing_end _ _ _ _ _ _ c.loop-word.invariant c.loop-word-test.false

@@ -19,7 +19,7 @@ pub loop-v-preserved : goal.loop-v-preserved
 unfolding final_at final_of
 loop-v-preserved c =
     let v = c.loop-v.v in
-    let w = c.args.case.now.laid.words.now in
+    let w = c.args.laid.now.words.now in
     let post = c.args.post.now in
     let t = c.requires.tables_in v c.loop-v-test.true in
     let e : c.final_answer-answer.result ≡ final_at w post v = c.final_answer-answer.ensures ∙ rw (c.allele_count.ensures, own_genotype t true, own_qual t, own_gq t) in

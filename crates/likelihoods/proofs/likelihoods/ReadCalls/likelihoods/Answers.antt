@@ -1,20 +1,18 @@
 -- One more row is added to either likelihood. Assumes nothing.
-use Rattle.std.proofs.Common.{◌≡◌, length, sym, ap, ◌∙◌, arith, rules, w64}
+use Rattle.std.proofs.Common.{◌≡◌, length, sym, ◌∙◌, arith, w64}
 use Rattle.steps.proofs.Signed.{plus_fits}
-use Rattle.pileup.specs.Inner.Packed.{row_from}
-use Rattle.likelihoods.specs.Inner.Likelihoods.{row_call, flagged, allele_on, call_share}
 use Rattle.likelihoods.proofs.RunningSums.{running_start, running_more}
-use Rattle.likelihoods.proofs.CallShares.{row_is, row_in, rows_sum}
+use Rattle.likelihoods.proofs.CallShares.{row_in, rows_sum}
 use Rattle.likelihoods.proofs.likelihoods.ReadCalls.likelihoods.Goals as goal
 
 pub loop-word-init : goal.loop-word-init
 loop-word-init c = record { first = running_start _ _; second = running_start _ _ }
 
 pub call_share-requires : goal.call_share-requires
-call_share-requires c = (row_in c.args.self.now.calls_in c.loop-word.word-index c.loop-word-test.true _ c.unpack-row.ensures, omega arith)
+call_share-requires c = (row_in c.args.self.now.calls_in c.loop-word.word-index c.loop-word-test.true, omega arith)
 
 pub call_share-requires-in-loop-word : goal.call_share-requires-in-loop-word
-call_share-requires-in-loop-word c = (row_in c.args.self.now.calls_in c.loop-word.word-index c.loop-word-test.true _ c.unpack-row.ensures, omega arith)
+call_share-requires-in-loop-word c = (row_in c.args.self.now.calls_in c.loop-word.word-index c.loop-word-test.true, omega arith)
 
 pub overflow_add-first : goal.overflow_add-first
 overflow_add-first c =
@@ -28,15 +26,10 @@ overflow_add-second c =
 
 pub loop-word-preserved : goal.loop-word-preserved
 loop-word-preserved c =
-    let s = c.args.self.now in
-    let e = row_is s.calls_in c.loop-word.word-index c.loop-word-test.true _ c.unpack-row.ensures in
-    let few = s.calls_in.count_top in
-    let call = row_call (row_from c.unpack-row.result) in
-    let x : c.call_share.result.0 ≡ call_share (flagged s.on.mask.now) (allele_on s.on.hap.now 0) call = search rules in
-    let y : c.call_share-in-loop-word.result.0 ≡ call_share (flagged s.on.mask.now) (allele_on s.on.hap.now 1) call = search rules in
+    let few = c.args.self.now.calls_in.count_top in
     record {
-      first = running_more _ _ _ _ _ c.loop-word.invariant.first (x ∙ ap (call_share (flagged s.on.mask.now) (allele_on s.on.hap.now 0)) e) (omega (arith, c.call_share.ensures.1)) (omega (arith, c.loop-word-test.true));
-      second = running_more _ _ _ _ _ c.loop-word.invariant.second (y ∙ ap (call_share (flagged s.on.mask.now) (allele_on s.on.hap.now 1)) e) (omega (arith, c.call_share-in-loop-word.ensures.1)) (omega (arith, c.loop-word-test.true));
+      first = running_more _ _ _ _ _ c.loop-word.invariant.first c.call_share.ensures.0 (omega (arith, c.call_share.ensures.1)) (omega (arith, c.loop-word-test.true));
+      second = running_more _ _ _ _ _ c.loop-word.invariant.second c.call_share-in-loop-word.ensures.0 (omega (arith, c.call_share-in-loop-word.ensures.1)) (omega (arith, c.loop-word-test.true));
     }
 
 pub returns : goal.returns

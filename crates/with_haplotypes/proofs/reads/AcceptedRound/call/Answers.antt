@@ -1,6 +1,7 @@
 -- The run from section 5's haplotypes over lent fronts, the normalised posteriors, the final answers. Assumes nothing.
 use Rattle.std.proofs.Common.{ℕ, ◌*◌, ◌≤◌, length, take, refl, ◌∙◌, arith, length-take}
 use Rattle.call_genotypes.specs.Inner.Scores.{sweep_state}
+use Rattle.call_genotypes.specs.Inner.Runs.{plan_of}
 use Rattle.with_haplotypes.specs.Round.{run_of}
 use Rattle.with_haplotypes.specs.Inner.Steps.{AlleleCounts, RunMade}
 use Rattle.with_haplotypes.specs.Inner.Reads.{input_of}
@@ -28,20 +29,20 @@ invariant_of-reads c =
         good_orders = A.good_orders;
         counts = counts (goal.at.invariant_of-reads c).After-write_phase;
         ph_long = omega (arith, n_top, c.write_phase.auto.phased);
-        ph_are = flags_here A _ _ (omega (arith, n_top)) c.write_phase.ensures.phased_after;
+        ph_are = flags_here A _ _ (omega (arith, n_top)) (rw c.accepted_words.ensures at c.write_phase.ensures.phased_after);
       };
     }
 
 pub run-answer-requires : goal.run-answer-requires
 run-answer-requires c =
     let A = c.args.self.now.admitted in
-    state_here A (start_here A _ _ _ refl c.requires.haplotypes_long c.write_phase.ensures.haplotypes_after) (finish.part_long _ _ _ refl c.requires.likelihoods_long) c.requires.posteriors_long
+    state_here A (start_here A _ _ _ refl c.requires.haplotypes_long (rw c.accepted_words.ensures at c.write_phase.ensures.haplotypes_after)) (finish.part_long _ _ _ refl c.requires.likelihoods_long) c.requires.posteriors_long
 
 -- the run from the start's haplotypes
 made : (c : After-run-answer) → RunMade (run_of (input_of c.args.self.now)) (sweep_state (take (2 * c.args.self.now.case.laid.sizes.n) c.write_phase.new.haplotypes) (take (2 * c.args.self.now.case.laid.sizes.f) c.args.likelihoods.now) c.args.posteriors.now) (sweep_state c.run-answer.new.hap c.run-answer.new.lik c.run-answer.new.post) c.run-answer.result
 made c =
     let A = c.args.self.now.admitted in
-    run_here A (start_here A _ _ _ refl c.requires.haplotypes_long c.write_phase.ensures.haplotypes_after) c.run-answer.ensures
+    run_here A (start_here A _ _ _ refl c.requires.haplotypes_long (rw c.accepted_words.ensures at c.write_phase.ensures.haplotypes_after)) c.run-answer.ensures
 
 pub normalize_all-requires : goal.normalize_all-requires
 normalize_all-requires c =
@@ -63,10 +64,10 @@ returns c =
     let K = counts (goal.at.returns c).After-write_phase in
     let R = made (goal.at.returns c).After-run-answer in
     let s = c.args.self.now.case.laid.sizes in
-    let plan = c.args.self.now.plan in
+    let plan = plan_of c.args.self.now.orders c.args.self.now.limit in
     let room = c.requires in
     let done = rw K.long at c.normalize_all.ensures in
-    let e = c.write_phase.ensures.haplotypes_after in
+    let e = rw c.accepted_words.ensures at c.write_phase.ensures.haplotypes_after in
     let front = still_long _ _ _ _ (2 * s.n) e room.haplotypes_long in
     let long = c.run-answer.auto.hap ∙ finish.part_long _ _ _ refl front in
     record {

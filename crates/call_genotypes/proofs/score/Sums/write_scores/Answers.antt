@@ -5,7 +5,7 @@ use Rattle.call_genotypes.specs.Inner.Scores.{scores_of}
 use lib.Arith.{digits_div, digits_mod}
 use Rattle.genotype_probs.proofs.TableSums.{place_in}
 use Rattle.call_genotypes.proofs.Written.{writing_start, writing_more, writing_end}
-use Rattle.call_genotypes.proofs.score.write_scores.Goals as goal
+use Rattle.call_genotypes.proofs.score.Sums.write_scores.Goals as goal
 
 pub loop-i-init : goal.loop-i-init
 loop-i-init c = let z : 0 * c.args.k ≡ 0 = omega arith in rw z (writing_start _ _ _ _)
@@ -32,4 +32,4 @@ pub returns : goal.returns
 returns c =
     let e : c.loop-i.i ≡ c.args.k = omega arith in
     writing_end _ _ _ _ _ _ c.loop-i.invariant (rw e (omega arith))
-    ∙ ap (λ (base : ℤ). sets c.args.post.now (9 * c.args.v) (scores_of c.args.pri.now c.args.acc.now base c.args.v c.args.k)) (to_z-of_z c.ranges.base)
+    ∙ ap (λ (base : ℤ). sets c.args.post.now (9 * c.args.v) (scores_of c.args.pri.now c.args.self.now.acc base c.args.v c.args.k)) (to_z-of_z c.ranges.base)
