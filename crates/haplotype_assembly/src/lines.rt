@@ -1,5 +1,5 @@
 // The bytes of fragment lines, written into a buffer. A function that writes takes the place to write at, and returns the place after what it
-// wrote: of a struct with the buffer and the place, each contract would have to say too that the buffer lent is the same.
+// wrote: a struct with the buffer and the place is no plainer, since each contract would have to say too that the buffer lent is the same.
 ghost use Rattle.std.specs.Prelude.{[], ◌∷◌, ◌++◌, map, ◌≡◌, ◌+◌, ◌≤◌, ◌<◌, length};
 ghost use Rattle.std.proofs.lemmas.List.Edits.{sets};
 ghost use Rattle.variants_and_fragments.specs.Inner.Case.{All};
@@ -67,7 +67,8 @@ pub fn quality_of(row: Row) -> u8
     quality_byte(phred(row.qual))
 }
 
-// Writes the quality bytes of the calls.
+// Writes the quality bytes of the calls. `end` is counted beside the calls, for it is answered: where `zip` or `enumerate` counts, the place is gone
+// with the loop.
 pub fn write_qualities(shown: ShownCalls<'_>, buffer: &mut [u8], at: usize) -> usize
     requires in_case { All ShownIn shown }
     requires in_bounds { at + length (map call_quality shown) ≤ length buffer.old }

@@ -54,7 +54,8 @@ impl Tally {
 }
 
 impl Flist<'_> {
-    // What fragment f's calls add to its line. At its start no variant goes on with a block: n is none, as the definition of a block has it.
+    // What fragment f's calls add to its line. At its start no variant goes on with a block: `next` is n then, a number and no Option, for a call is at
+    // no variant n, so the one `==` against a call's variant tells both cases.
     pub fn tally(&self, f: usize) -> Tally
         requires { f < self.now.case.laid.sizes.f }
         ensures { Tallied self.now.case.laid.sizes.n (shown_fragment self.now.case.laid.words.now self.now.case.laid.sizes self.now.rows.words.now self.now.rows.ends.now f).calls result × SmallTally result 16384 }

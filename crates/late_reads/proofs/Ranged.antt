@@ -28,7 +28,7 @@ use Rattle.variants_and_fragments.proofs.Outcomes.{unless_on, unless_at, promise
 use Rattle.late_reads.specs.Arriving.{arriving_read}
 use Rattle.late_reads.specs.LateReads.{LateSlices, late_slices, unsettled}
 use Rattle.late_reads.specs.Values.{Values, lowest_total, in_range, put_likelihoods, likelihood_on, arrived, departed}
-use Rattle.late_reads.specs.Inner.Counting.{counts_arrived, counts_departed, counts_fit}
+use Rattle.late_reads.specs.Inner.Counting.{CountsLent, counts_arrived, counts_departed, counts_fit}
 use Rattle.late_reads.specs.Inner.Ready.{Kept, Arriving, fixed_at, arrived_at, departed_at, ranged_outcome}
 use Rattle.late_reads.proofs.ReadShares.{arriving_down}
 
@@ -62,6 +62,9 @@ module _ {w : List ℤ} {s : Sizes} {phase haps : List ℕ} {lent : Values} (kep
 
   pub counts_in : counts_fit s.n lent.counts ≡ true
   counts_in = lent_in.2
+
+  pub counts_lent : {d : ℤ} → nat_abs d ≤ 1 → CountsLent s.n lent.counts d
+  counts_lent one = record { long = kept.counts_long; ranged = counts_in; one = one }
 
   likelihood_in : (e : ℕ) → e < 2 * s.f → DownTo (2 ^ 40) (get_or lent.likelihoods e (pos 0))
   likelihood_in e h = in_down (get_or lent.likelihoods e (pos 0)) (all_below _ (2 * s.f) lent_in.1 e h)

@@ -1,4 +1,4 @@
-// The counts, updated call by call of a read that arrives or departs.
+// The counts, updated call by call of a read that arrives or departs: ten for each variant, one slice as the caller lends it.
 ghost use Rattle.std.specs.Prelude.{◌≡◌, ◌<◌, List, map};
 ghost use Rattle.std.specs.Iterator.{IsFinite, YieldsFirst};
 ghost use Rattle.variants_and_fragments.specs.Layout.{cutoff_at};
@@ -121,7 +121,8 @@ pub fn fits<C: Calls>(case: &CaseWords<'_>, strand: usize, calls: C, counts: &[i
     true
 }
 
-// Adds d to the counts for each of a read's calls. At the loop's head this is done for the calls before.
+// Adds d to the counts for each of a read's calls. At the loop's head this is done for the calls before. A loop beside that of `fits`: the one reads and
+// stops at a call, the other writes at each, so of one loop over a closure no line would be saved.
 pub fn count<C: Calls>(case: &CaseWords<'_>, strand: usize, calls: C, counts: &mut [i32], d: i32)
     requires rises { Rising case.now.laid.sizes.n 0 (map call_read (C.left calls)) }
     requires lent { CountsLent case.now.laid.sizes.n counts.old d }

@@ -50,7 +50,7 @@ impl TestedArrival<'_> {
     }
 }
 
-// The phased total with d times a read's share more: d is 1 where the read arrives and −1 where it departs.
+// The phased total with d times a read's share more: d is 1 where the read arrives and −1 where it departs, the number itself as in counts.rt.
 pub fn moved(total: LogProb, share: LogProb, d: i64) -> LogProb
     requires { (nat_abs total.0 ≤ 2 ^ 40) × (nat_abs share.0 ≤ 2 ^ 41) × (nat_abs d ≤ 1) }
     ensures { result.0 ≡ total.0 +ℤ (d *ℤ share.0) }

@@ -1,4 +1,5 @@
-// The words of a case that an arrival and a departure write.
+// The words of a case that an arrival and a departure write. What writes them requires `CaseIn` of the words and sizes: a type that holds both would
+// have to hold it between two writes too, where it is not so.
 ghost use Rattle.std.specs.Prelude.{◌≡◌, ◌-◌, ◌<◌, ◌≤◌, length, get_or};
 ghost use Rattle.variants_and_fragments.specs.Chain.{chain_of};
 ghost use Rattle.variants_and_fragments.specs.Layout.{max_calls};
@@ -14,7 +15,8 @@ use variants_and_fragments::layout::{
 };
 use variants_and_fragments::{CaseWords, Laid, Sizes};
 
-// The records that are left to take: the first free one, and how many are used. Where none is free it is 0, as in the words, which no record is.
+// The records that are left to take: the first free one, and how many are used. Where none is free it is 0, a number and no Option: it is read off the
+// words and written back into them, where 0 is none, so an Option would be made of each word and taken apart at once.
 #[derive(Clone, Copy)]
 pub struct RoomLeft {
     pub free: usize,
@@ -95,7 +97,8 @@ pub fn lay_arrival(words: &mut [i32], s: Sizes, read: &Arrival<'_>)
     put_free(words, left.free);
 }
 
-// The last record of fragment f's chain, which is not empty. At the loop's head last is the chain's k-th record.
+// The last record of fragment f's chain, which is not empty. At the loop's head last is the chain's k-th record. A walk of its own, like those of
+// chains.rt and `has_room`: it tests no link and ends at the last record, where those test or count.
 fn last_record(case: &CaseWords<'_>, f: usize) -> usize
     requires { (f < case.now.laid.sizes.f) × (1 ≤ first_record_at case.now.laid.words.now case.now.laid.sizes f) }
     ensures { result ≡ get_or (chain_of case.now.laid.words.now case.now.laid.sizes f) (length (chain_of case.now.laid.words.now case.now.laid.sizes f) - 1) 0 }

@@ -9,7 +9,7 @@ use Rattle.late_reads.specs.Inner.Ready.{fixed_at, arriving_tests}
 use Rattle.late_reads.proofs.KeptCase.{kept_past}
 use Rattle.late_reads.proofs.Moved.{total_more}
 use Rattle.late_reads.proofs.Promised.{arrive_stops, arriving_stops, arriving, arrive_refuses, arrive_updates}
-use Rattle.late_reads.proofs.Ranged.{total_small, counts_in, same_put}
+use Rattle.late_reads.proofs.Ranged.{total_small, counts_lent, same_put}
 use Rattle.late_reads.proofs.ReadCalls.{arriving_held, arriving_counted}
 use Rattle.late_reads.proofs.arrive.Goals as goal
 use Rattle.late_reads.proofs.arrive.Goals.{In_ok-ready, In_ok-arrival, After-likelihoods-own}
@@ -61,9 +61,7 @@ fits-requires-clause-rises c =
     arriving_held k.ready.case_in (arriving _ _ _ _ _ (ready at.In_ok-ready) _ (tested at.In_ok-arrival)) c.iter.ensures
 
 pub fits-requires-clause-lent : goal.fits-requires-clause-lent
-fits-requires-clause-lent c =
-    let k = kept_past _ _ (ready (goal.at.fits-requires-clause-lent c).In_ok-ready) in
-    record { long = k.counts_long; ranged = counts_in k; one = omega arith }
+fits-requires-clause-lent c = counts_lent (kept_past _ _ (ready (goal.at.fits-requires-clause-lent c).In_ok-ready)) (omega arith)
 
 pub put-requires : goal.put-requires
 put-requires c =
@@ -78,9 +76,7 @@ count-requires-clause-rises c =
     arriving_held k.ready.case_in (arriving _ _ _ _ _ (ready at.In_ok-ready) _ (tested at.In_ok-arrival)) c.iter-2.ensures
 
 pub count-requires-clause-lent : goal.count-requires-clause-lent
-count-requires-clause-lent c =
-    let k = kept_past _ _ (ready (goal.at.count-requires-clause-lent c).In_ok-ready) in
-    record { long = k.counts_long; ranged = counts_in k; one = omega arith }
+count-requires-clause-lent c = counts_lent (kept_past _ _ (ready (goal.at.count-requires-clause-lent c).In_ok-ready)) (omega arith)
 
 pub returns : goal.returns
 returns c =

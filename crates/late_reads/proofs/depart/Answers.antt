@@ -9,7 +9,7 @@ use Rattle.late_reads.specs.LateReads.{late_input, kept_outcome}
 use Rattle.late_reads.proofs.KeptCase.{kept_past}
 use Rattle.late_reads.proofs.Moved.{total_less}
 use Rattle.late_reads.proofs.Promised.{depart_stops, depart_past, depart_not_there, depart_refuses, depart_updates}
-use Rattle.late_reads.proofs.Ranged.{total_small, likelihood_small, counts_in}
+use Rattle.late_reads.proofs.Ranged.{total_small, likelihood_small, counts_lent}
 use Rattle.late_reads.proofs.ReadCalls.{chain_held, departing_counted}
 use Rattle.late_reads.proofs.depart.Goals as goal
 use Rattle.late_reads.proofs.depart.Goals.{In_ok-ready, Else-not-is_present, then-s-f-via-then-s-f, then-s-f-via-else-s-f+then-not-is_present}
@@ -68,9 +68,7 @@ pub fits-requires-clause-rises : goal.fits-requires-clause-rises
 fits-requires-clause-rises c = chain_held c.in_ok-ready.ready.case.case_in c.args.fragment c.if-s-f.false c.new.ensures
 
 pub fits-requires-clause-lent : goal.fits-requires-clause-lent
-fits-requires-clause-lent c =
-    let k = kept_past _ _ (ready (goal.at.fits-requires-clause-lent c).In_ok-ready) in
-    record { long = k.counts_long; ranged = counts_in k; one = omega arith }
+fits-requires-clause-lent c = counts_lent (kept_past _ _ (ready (goal.at.fits-requires-clause-lent c).In_ok-ready)) (omega arith)
 
 pub put-requires : goal.put-requires
 put-requires c =
@@ -81,9 +79,7 @@ pub count-requires-clause-rises : goal.count-requires-clause-rises
 count-requires-clause-rises c = chain_held c.in_ok-ready.ready.case.case_in c.args.fragment c.if-s-f.false c.new-2.ensures
 
 pub count-requires-clause-lent : goal.count-requires-clause-lent
-count-requires-clause-lent c =
-    let k = kept_past _ _ (ready (goal.at.count-requires-clause-lent c).In_ok-ready) in
-    record { long = k.counts_long; ranged = counts_in k; one = omega arith }
+count-requires-clause-lent c = counts_lent (kept_past _ _ (ready (goal.at.count-requires-clause-lent c).In_ok-ready)) (omega arith)
 
 pub returns : goal.returns
 returns c =
