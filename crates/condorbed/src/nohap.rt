@@ -5,7 +5,7 @@ use crate::rates::read_rates;
 use crate::requests::Request;
 use protocol::input::Unreadable;
 
-// The answer to the request.
+// The answer to the request. quals and gqs have no struct: it would be taken apart in the one call that they go to.
 pub fn answer(request: Request<'_>) -> Result<(), Unreadable> {
     let Request {
         reader,

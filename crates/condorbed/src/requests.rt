@@ -75,7 +75,8 @@ impl Operation {
         }
     }
 
-    // The answer to a request of the operation. Every request starts with a case, `<words i32>` `<bases u8>`.
+    // The answer to a request of the operation. Every request starts with a case, `<words i32>` `<bases u8>`. A closure for each
+    // operation would only name its function, as each arm does.
     fn answer(
         self,
         reader: &mut Reader,

@@ -8,7 +8,7 @@ use protocol::input::Unreadable;
 use protocol::output::Writer;
 use with_haplotypes::RoundAnswer;
 
-// The answer to the request.
+// The answer to the request. The five slices that are written have no struct: it would be taken apart in the one call that they go to.
 pub fn answer(request: Request<'_>) -> Result<(), Unreadable> {
     let Request {
         reader,

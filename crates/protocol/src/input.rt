@@ -85,7 +85,7 @@ pub struct Start {
 
 // Standard input and the buffer of its bytes, of which those from `at` up to `fill` are not yet read; how many bytes
 // may still be read; the place; and whether a read failed, which counts as the end of the input. std's `BufReader` allocates,
-// and this program has no heap.
+// and this program has no heap; an `ArrayVec` lends std's `read` no room past its elements.
 #[derive(Drop)]
 pub struct Reader {
     stdin: Stdin,

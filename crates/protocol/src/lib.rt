@@ -12,5 +12,5 @@ pub mod word;
 // The bytes of a buffer.
 pub const BUFFER_BYTES: usize = 65536;
 
-// The buffer of the input or of the output.
+// The buffer of the input.
 pub type Buffer = [u8; BUFFER_BYTES];

@@ -1,33 +1,31 @@
 // Standard output through a buffer.
-ghost use Rattle.std.specs.Prelude.{◌≡◌, ◌≤◌, [], ◌∷◌, take};
-ghost use Rattle.protocol.specs.declared.TheConstants.{BUFFER_BYTES};
+ghost use Rattle.std.specs.Prelude.{◌≡◌, ◌≤◌, [], ◌∷◌};
+ghost use Rattle.arrayvec.specs.ArrayVec.{array_vec_len};
 ghost use Rattle.protocol.specs.Inner.Print.{EndsIn};
 
-use crate::print::ToText;
-use crate::{BUFFER_BYTES, Buffer};
+use crate::BUFFER_BYTES;
+use crate::print::{TEXT_BYTES, ToText};
+use arrayvec::ArrayVec;
 use std::io;
 use std::io::{Stdout, Write};
 
 // The bytes that may wait while there is room for any number.
 const ROOM: usize = 65500;
 
-// Standard output, the buffer of its bytes, of which the first `used` wait to be written, and whether a write failed,
-// after which none is tried. std's `BufWriter` allocates, and this program has no heap.
+// Standard output, the bytes that wait to be written, and whether a write failed, after which none is tried. std's
+// `BufWriter` allocates, and this program has no heap.
 #[derive(Drop)]
 pub struct Writer {
     stdout: Stdout,
-    bytes: Buffer,
-    used: usize,
+    waiting: ArrayVec<u8, BUFFER_BYTES>,
     outcome: io::Result<()>,
-    ghost fits: { used ≤ BUFFER_BYTES },
 }
 
 impl Writer {
     pub fn new(stdout: Stdout) -> Writer {
         Writer {
             stdout,
-            bytes: [0; BUFFER_BYTES],
-            used: 0,
+            waiting: ArrayVec::new(),
             outcome: Ok(()),
         }
     }
@@ -44,30 +42,29 @@ impl Writer {
 
     // Writes out the bytes that wait. After a write that failed nothing is written.
     pub fn flush(&mut self)
-        ensures { self.new.used ≡ 0 }
+        ensures { self.new.waiting.items ≡ [] }
     {
         if self.is_whole() {
-            self.outcome = self.stdout.write_all(&self.bytes[..self.used]);
+            self.outcome = self.stdout.write_all(self.waiting.as_slice());
         }
-        self.used = 0;
+        self.waiting.clear();
     }
 
     // Sees to it that there is room for any number: the bytes that wait are written out where there is none.
     fn make_room(&mut self)
-        ensures { self.new.used ≤ ROOM }
+        ensures { array_vec_len self.new.waiting ≤ ROOM }
     {
-        if self.used > ROOM {
+        if self.waiting.len() > ROOM {
             self.flush();
         }
     }
 
     // One byte.
     pub fn byte(&mut self, b: u8)
-        ensures { EndsIn (take self.new.used self.new.bytes) (b ∷ []) }
+        ensures { EndsIn self.new.waiting.items (b ∷ []) }
     {
         self.make_room();
-        self.bytes[self.used] = b;
-        self.used += 1;
+        self.waiting.push(b);
     }
 
     // A text.
@@ -79,15 +76,17 @@ impl Writer {
 
     // A number.
     pub fn number<T: ToText>(&mut self, x: T)
-        ensures { EndsIn (take self.new.used self.new.bytes) (T.text x) }
+        ensures { EndsIn self.new.waiting.items (T.text x) }
     {
         self.make_room();
-        self.used = x.put(&mut self.bytes, self.used);
+        let mut text = [0; TEXT_BYTES];
+        let end = x.put(&mut text, 0);
+        self.waiting.try_extend_from_slice(&text[..end]).unwrap();
     }
 
     // A line of the elements of xs, with one space between two.
     pub fn line<T: ToText>(&mut self, xs: &[T])
-        ensures { EndsIn (take self.new.used self.new.bytes) (10 ∷ []) }
+        ensures { EndsIn self.new.waiting.items (10 ∷ []) }
     {
         for (i, x) in xs.iter().enumerate() {
             if i > 0 {

@@ -3,9 +3,13 @@ ghost use Rattle.std.specs.Prelude.{◌≡◌, ℕ, ◌+◌, ◌≤◌, List, le
 ghost use Rattle.std.proofs.Math.Seq.{paste};
 ghost use Rattle.std.specs.Float.{binary64};
 ghost use Rattle.std.proofs.Common.{arith};
+ghost use Rattle.protocol.specs.declared.print.TheConstants.{TEXT_BYTES};
 ghost use Rattle.protocol.specs.Inner.Print.{Put, decimal_of, signed_of};
 
 use crate::float;
+
+// The room that any number's text needs at most: twenty digits and a sign.
+pub const TEXT_BYTES: usize = 21;
 
 // A type whose values are printed as numbers. An impl for every `T: Into<u64>` would overlap with those of i32, i64 and f64,
 // and no macro of a repository may write an impl: so each has its own of one line.
@@ -21,8 +25,7 @@ pub trait ToText: Copy {
         requires { at + room ≤ length out.old }
         ensures { Put out.old at (text self) out.new result };
 
-    // Twenty digits and a sign.
-    ghost room_fits: { room ≤ 21 };
+    ghost room_fits: { room ≤ TEXT_BYTES };
 }
 
 impl ToText for u8 {
