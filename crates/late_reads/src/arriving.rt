@@ -11,7 +11,7 @@ use crate::kept::Ready;
 use pileup::reader::Call;
 use std::marker::Model;
 use variants_and_fragments::layout::{MAX_STRAND, nat_of};
-use variants_and_fragments::{CallWords, CaseWords, Refusal};
+use variants_and_fragments::{CallWords, CaseWords, Refusal, first_fault};
 
 // The words of an arriving call.
 const ARRIVING_WORDS: usize = 4;
@@ -80,7 +80,7 @@ impl<'a> Arrival<'a> {
         ensures { outcome_of result ≡ each 4 (arriving_ok case.now.laid.words.now case.now.laid.sizes self.now.calls.now) 0 (whole_calls self.now.calls.now) (done tt) }
     {
         let known = case.with_variants();
-        match (0..self.count()).find(|i| !known.call_words_ok(self.call_words(*i))) {
+        match first_fault(0, self.count(), |i| known.call_words_ok(self.call_words(i))) {
             Some(i) => Err(Refusal::Call(i)),
             None => Ok(()),
         }
@@ -90,7 +90,7 @@ impl<'a> Arrival<'a> {
     fn check_rises(&self) -> Result<(), Refusal>
         ensures { outcome_of result ≡ each 5 (arriving_rises self.now.calls.now) 0 (whole_calls self.now.calls.now) (done tt) }
     {
-        match (0..self.count()).find(|i| !self.rises(*i)) {
+        match first_fault(0, self.count(), |i| self.rises(i)) {
             Some(i) => Err(Refusal::Chain(i)),
             None => Ok(()),
         }

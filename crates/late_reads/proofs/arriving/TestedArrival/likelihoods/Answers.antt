@@ -15,12 +15,12 @@ share-requires-in-loop-call c = (summing_in c.loop-call.invariant c.in-Some.ensu
 pub overflow_add-first : goal.overflow_add-first
 overflow_add-first c =
     let s = c.args.self.now in
-    first_fits c.loop-call.invariant c.in-Some.ensures.steps (arriving_few s.arriving s.ready.ready.case_in) _ c.share.ensures.1
+    first_fits c.loop-call.invariant c.in-Some.ensures.steps (arriving_few s.arriving s.ready.ready.case_in) c.share.result.0 c.share.ensures.1
 
 pub overflow_add-second : goal.overflow_add-second
 overflow_add-second c =
     let s = c.args.self.now in
-    second_fits c.loop-call.invariant c.in-Some.ensures.steps (arriving_few s.arriving s.ready.ready.case_in) _ c.share-in-loop-call.ensures.1
+    second_fits c.loop-call.invariant c.in-Some.ensures.steps (arriving_few s.arriving s.ready.ready.case_in) c.share-in-loop-call.result.0 c.share-in-loop-call.ensures.1
 
 pub loop-call-preserved : goal.loop-call-preserved
 loop-call-preserved c =
