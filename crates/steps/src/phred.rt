@@ -23,7 +23,7 @@ pub fn phred(p: LogProb) -> PHREDProb
     PHREDProb((-z) as f64 * SCALE)
 }
 
-// Phred of p, at most the largest quality. Not `min`, which makes a NaN the cap where `capped` keeps it: that no Phred is one is no law of std's.
+// Phred of p, at most the largest quality. Not `min`: of a NaN it gives the cap, `capped` the NaN, and std has no law that the product is none.
 #[tactic(auto, unfolding(crate::specs::Phred::capped, crate::specs::Phred::max_vcf_qual))]
 pub fn capped_phred(p: LogProb) -> PHREDProb
     requires { size (log_of p.0) < 2 ^ 52 }
