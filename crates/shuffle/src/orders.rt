@@ -47,7 +47,8 @@ fn is_permutation(order: &[u32], marks: &mut [usize], mark: usize) -> bool
     true
 }
 
-// The first of m orders that is no permutation; none where each is one. By index: n may be 0, which `chunks_exact` refuses.
+// The first of m orders that is no permutation; none where each is one. By index: n may be 0, which `chunks_exact` refuses. A loop: the closure of
+// `first_fault` changes nothing, and this test marks.
 pub fn first_bad_order(orders: &[u32], n: usize, m: usize) -> Option<usize>
     requires n_bound { n ≤ 1024 }
     requires n_value { m * n ≡ length orders.now }

@@ -28,12 +28,14 @@ pub struct Prob(pub f64);
 pub struct PHREDProb(pub f64);
 
 // The knots.
+#[tactic(auto, unfolding(crate::specs::Table::knots))]
 pub fn table() -> &'static [u16; 1665]
     ensures { result.now ≡ knots }
 {
     &knots::KNOTS
 }
 
+// Two constants: a const parameter is no f64, and 0.5 and 0.25 are all that the document takes a logarithm of.
 impl Prob {
     // 0.5
     #[tactic(auto, unfolding(crate::specs::Inner::Probs::half))]

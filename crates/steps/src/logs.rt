@@ -43,6 +43,7 @@ fn low_enough(p: i64, b: usize) -> bool
 }
 
 // How many steps below 0 ln_one_minus_exp(p) is, for p below 0. At the loop's head `hi` steps are low enough, and fewer than `lo` are not.
+// A `while`: no slice holds the numbers from 0 to 57,344, so there is nothing for `partition_point` to search.
 pub fn steps_down(p: i64) -> usize
     requires { (unsigned_abs p ≤ 2 ^ 61) × (int_lt p (pos 0) ≡ true) }
     ensures { (result ≤ 57344) × (ln_one_minus_exp (steps p) ≡ steps (neg_ℤ (pos result))) }

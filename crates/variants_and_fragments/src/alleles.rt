@@ -17,6 +17,7 @@ impl WithVariants<'_> {
     }
 
     // How many bytes all alleles have.
+    #[tactic(auto, unfolding(crate::specs::Alleles::alleles_start))]
     pub fn all_alleles_length(&self) -> usize
         ensures { result ≡ alleles_start self.now.laid.words.now self.now.laid.sizes.n }
     {
@@ -44,6 +45,7 @@ fn are_bases(bases: &[u8]) -> bool
 
 // The bytes are as many as the alleles have, and each is a base; the place of a fault is N for a wrong length, else the first variant
 // that has one. At the loop's head `at` is where variant v's bytes start. A loop: the closure of `first_fault` changes nothing, and `at` runs on.
+#[tactic(auto, unfolding(crate::specs::Alleles::alleles_start))]
 pub fn check_alleles(known: &WithVariants<'_>, bases: &[u8]) -> Result<(), Refusal>
     ensures { outcome_of result ≡ alleles_outcome known.now.laid.words.now bases.now known.now.laid.sizes }
 {

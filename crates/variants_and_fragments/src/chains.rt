@@ -9,7 +9,7 @@ use crate::calls::check_calls;
 use crate::layout::MAX_STRAND;
 use crate::{Laid, Refusal, WithVariants};
 
-// A flag for each record, and one for none. `Marked` is a clause: beside a ghost field each contract would say as long which list it is.
+// A flag for each record, and one for none. `Marked` is a clause: with a ghost list each contract would still have to say which list it is.
 const FLAGS: usize = 16385;
 
 // Record r's next is right: 0, or a record at a larger variant.

@@ -1,13 +1,9 @@
 -- A count is at most its range, and one more w is counted where it is at most q.
-use Rattle.std.proofs.Common.{◌≡◌, ℕ, ◌+◌, ◌-◌, Bool, cond, refl, ap, ◌∙◌, arith}
+use Rattle.std.proofs.Common.{◌≡◌, ℕ, ◌+◌, ◌-◌, Bool, cond, ap, ◌∙◌, arith}
 use Rattle.steps.specs.Phred.{count_up_to, quality_byte}
 use Rattle.steps.proofs.Counting.{count_le, count_more}
 use Rattle.steps.proofs.phred.quality_byte.Goals as goal
 use Rattle.steps.proofs.phred.quality_byte.Goals.{then-w-x, else-w-x}
-
-pub loop-w-init : goal.loop-w-init
-unfolding count_up_to
-loop-w-init c = refl
 
 pub overflow_add-n : goal.overflow_add-n
 overflow_add-n c = omega (arith, count_le (c.loop-w.w - 1) c.args.q.0)

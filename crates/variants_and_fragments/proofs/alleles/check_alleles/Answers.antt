@@ -1,5 +1,5 @@
 -- The variants passed have bases alone; the first that has not is the place.
-use Rattle.std.proofs.Common.{◌≡◌, ◌↔◌, IsTrue, EachIndex, slice_index, take, drop, rules, ℕ, ◌+◌, ◌-◌, ◌<◌, ◌≤◌, List, ℤ, Bool, true, length, arith, refl, sym, ◌∙◌, below_none, below_more, eq-eqb, ne_eqb}
+use Rattle.std.proofs.Common.{◌≡◌, ◌↔◌, IsTrue, EachIndex, slice_index, take, drop, rules, ℕ, ◌+◌, ◌-◌, ◌<◌, ◌≤◌, List, ℤ, Bool, true, length, arith, refl, sym, ◌∙◌, below_more, eq-eqb, ne_eqb}
 use Rattle.variants_and_fragments.specs.Alleles.{alleles_length, alleles_start, is_base, base_ok_at, alleles_ok}
 use Rattle.variants_and_fragments.proofs.AlleleBytes.{off_on, off_le}
 use Rattle.variants_and_fragments.proofs.First.{part_decides}
@@ -18,10 +18,6 @@ bases_decide w b v at m r here long size d = rw (← here, ← long) (part_decid
 
 pub returns-then-bases-all_alleles_length : goal.returns-then-bases-all_alleles_length
 returns-then-bases-all_alleles_length c = unless_at _ 3 _ _ (ne_eqb _ _ (λ e. c.if-bases-all_alleles_length.true (e ∙ sym c.all_alleles_length.ensures)))
-
-pub loop-v-init : goal.loop-v-init
-unfolding alleles_start
-loop-v-init c = (refl, below_none _)
 
 pub overflow_add-end : goal.overflow_add-end
 overflow_add-end c = let s = within_bases c.args.known.now.laid.words.now c.args.bases.now c.args.known.now.laid.sizes.n c.loop-v.v _ _ _ c.if-bases-all_alleles_length.false c.all_alleles_length.ensures c.loop-v-test.true c.loop-v.invariant.0 c.alleles_length.ensures.0 in omega (arith, c.all_alleles_length.type_inv)
