@@ -9,11 +9,13 @@ ghost use Rattle.call_genotypes.specs.Inner.Reads.{reads_of};
 ghost use Rattle.call_genotypes.specs.Inner.Scores.{pair_at, value_of, mix_value, is_far, row_mixes, turn, RowFits, PileFits, AlleleSums, SumsWithin, sums_at, rise_of, pair_rise, below_first, scores_of, ScoresRoom, Some, sweep_state, VisitStart, Scored};
 
 use crate::reads::SweepReads;
+use likelihoods::likelihoods::{ReadLikelihoods, Standing};
 use pileup::row::Row;
 use steps::LogProb;
 use steps::one_plus::ln_one_plus_exp;
 
-// A variant's alleles on the two haplotypes.
+// A variant's alleles on the two haplotypes, as indices. With genotype_probs' Genotype, whose numbers are bytes, in its place there would be a cast at
+// eight uses; now there are four, in `pair_at` and `put_pair`.
 #[derive(Clone, Copy, PartialEq)]
 pub struct Pair {
     pub first: usize,
@@ -101,14 +103,6 @@ fn gap(q: LogProb, o: LogProb) -> i64
     o.0 - q.0
 }
 
-// The likelihood at i.
-fn likelihood_at(lik: &[i64], i: usize) -> LogProb
-    requires { i < length lik.now }
-    ensures { result.0 ≡ get_or lik.now i (pos 0) }
-{
-    LogProb(lik[i])
-}
-
 // How far the distance of a read's likelihoods moves when the own terms of a call of allele x are taken away: `turns` says how often, and
 // which way, by the call's gap.
 fn turned(turns: &[i64; 4], x: usize, g: i64) -> i64
@@ -127,28 +121,27 @@ fn distance(l: LogProb, b: LogProb, y: i64) -> i64
 }
 
 // The four numbers of a row's call.
-fn call_mixes(row: Row, lik: &[i64], turns: &[i64; 4]) -> Mixes
-    requires row_fits { RowFits lik.now (row_from row) }
-    requires within { Within (2 ^ 32) lik.now × Within 1 turns.now }
-    ensures { (w : ℕ) → value_of result w ≡ row_mixes turns.now lik.now (row_from row) w }
+fn call_mixes(row: Row, standing: &Standing<'_>, turns: &[i64; 4]) -> Mixes
+    requires row_fits { RowFits standing.now.lik.now (row_from row) }
+    requires within { Within 1 turns.now }
+    ensures { (w : ℕ) → value_of result w ≡ row_mixes turns.now standing.now.lik.now (row_from row) w }
 {
-    let f = 2 * row.fragment;
     let g = gap(row.qual, row.one_minus_qual);
-    let b = likelihood_at(lik, f + 1);
-    let d = distance(likelihood_at(lik, f), b, turned(turns, row.allele, g));
+    let read = ReadLikelihoods::at(standing.lik, row.fragment);
+    let d = distance(read.first, read.second, turned(turns, row.allele, g));
     mixes_of(d, g)
 }
 
 // The sums of the four numbers of a pile's calls. At the loop's head the calls so far are in them.
-fn score_calls(pile: &[u64], lik: &[i64], turns: &[i64; 4]) -> Sums
-    requires pile_fits { PileFits lik.now pile.now 0 (length pile.now) }
-    requires within { Within (2 ^ 32) lik.now × Within 1 turns.now }
-    ensures { AlleleSums (row_mixes turns.now lik.now) (rows_at pile.now 0 (length pile.now)) result.of }
+fn score_calls(pile: &[u64], standing: &Standing<'_>, turns: &[i64; 4]) -> Sums
+    requires pile_fits { PileFits standing.now.lik.now pile.now 0 (length pile.now) }
+    requires within { Within 1 turns.now }
+    ensures { AlleleSums (row_mixes turns.now standing.now.lik.now) (rows_at pile.now 0 (length pile.now)) result.of }
 {
     let mut of = [Mixes::default(); 3];
     for word in pile {
         let row = Row::unpack(*word);
-        let mixes = call_mixes(row, lik, turns);
+        let mixes = call_mixes(row, standing, turns);
         of[row.allele].add(mixes);
     }
     Sums { of }
@@ -263,7 +256,7 @@ pub fn scores(reads: &SweepReads<'_>, hap: &[u8], lik: &[i64], post: &mut [i64],
     let phased = reads.ph[v] != 0;
     let old = pair_at(hap, v);
     let turns = turns_of(phased, old);
-    let sums = score_calls(reads.pile(v), lik, &turns);
+    let sums = score_calls(reads.pile(v), &Standing { lik }, &turns);
     let base = sums.below_first(reads.pri, v);
     sums.write_scores(reads.pri, post, base, v, k);
 }

@@ -22,16 +22,16 @@ pub add-requires : goal.add-requires
 add-requires c =
     let e : row_from c.unpack-row.result ≡ row_at c.args.pile.now c.loop-word.word-index = ap row_from c.unpack-row.ensures in
     let i = c.requires.pile_fits.rows_in c.loop-word.word-index (omega arith) c.loop-word-test.true in
-    λ w. (let k = c.loop-word.invariant.small c.unpack-row.result.allele w in omega (arith, c.loop-word.invariant.few), rw (c.call_mixes-mixes.ensures w, e) (row_size i c.args.turns.now c.args.lik.now c.requires.within.0 c.requires.within.1 w))
+    λ w. (let k = c.loop-word.invariant.small c.unpack-row.result.allele w in omega (arith, c.loop-word.invariant.few), rw (c.call_mixes-mixes.ensures w, e) (row_size i c.args.turns.now c.args.standing.now.lik.now c.args.standing.now.within c.requires.within w))
 
 pub loop-word-preserved : goal.loop-word-preserved
 loop-word-preserved c =
     let e : row_from c.unpack-row.result ≡ row_at c.args.pile.now c.loop-word.word-index = ap row_from c.unpack-row.ensures in
     let i = c.requires.pile_fits.rows_in c.loop-word.word-index (omega arith) c.loop-word-test.true in
     let a = ap (λ (r : Row). r.call.allele) e in
-    let v : (w : ℕ) → value_of c.call_mixes-mixes.result w ≡ row_mixes c.args.turns.now c.args.lik.now (row_at c.args.pile.now c.loop-word.word-index) w = λ w. c.call_mixes-mixes.ensures w ∙ ap (λ (r : Row). row_mixes c.args.turns.now c.args.lik.now r w) e in
+    let v : (w : ℕ) → value_of c.call_mixes-mixes.result w ≡ row_mixes c.args.turns.now c.args.standing.now.lik.now (row_at c.args.pile.now c.loop-word.word-index) w = λ w. c.call_mixes-mixes.ensures w ∙ ap (λ (r : Row). row_mixes c.args.turns.now c.args.standing.now.lik.now r w) e in
     summing_step _ _ _ _ _ _ _ _ (value_of c.call_mixes-mixes.result) c.unpack-row.result.allele c.loop-word.invariant c.loop-word-test.true (omega (arith, c.requires.pile_fits.few))
-    a (rw a i.allele_in) v (λ w. rw (v w) (row_size i c.args.turns.now c.args.lik.now c.requires.within.0 c.requires.within.1 w)) c.add.ensures refl
+    a (rw a i.allele_in) v (λ w. rw (v w) (row_size i c.args.turns.now c.args.standing.now.lik.now c.args.standing.now.within c.requires.within w)) c.add.ensures refl
 
 pub invariant_of-result : goal.invariant_of-result
 invariant_of-result c = record { within = (summing_end _ _ _ _ _ _ c.loop-word.invariant c.loop-word-test.false).small }

@@ -10,10 +10,11 @@ score_calls-sums-requires-clause-pile_fits c =
     let S = c.requires.some.holds in
     c.pile.ensures.rows_in _ _ (pile_fits S.standing.held c.args.v S.v_in S.standing.liks)
 
+pub invariant_of-score_calls : goal.invariant_of-score_calls
+invariant_of-score_calls c = let S = c.requires.some.holds in record { within = lik_within S.standing.held _ _ S.standing.liks }
+
 pub score_calls-sums-requires-clause-within : goal.score_calls-sums-requires-clause-within
-score_calls-sums-requires-clause-within c =
-    let S = c.requires.some.holds in
-    (lik_within S.standing.held _ _ S.standing.liks, λ i. rw (c.turns_of-turns.ensures i) (turn_small _ _ _ i))
+score_calls-sums-requires-clause-within c = λ i. rw (c.turns_of-turns.ensures i) (turn_small _ _ _ i)
 
 pub below_first-base-requires : goal.below_first-base-requires
 below_first-base-requires c =
