@@ -180,9 +180,10 @@ impl PriorTable {
     pub(crate) fn value(&self, base: Base, first: Letter, second: Letter) -> LogProb
         ensures { result.0 ≡ table_value (prior_table self.now.rates.rates) (base_number base) (letter_number first) (letter_number second) }
     {
-        let row = self.bases[usize::from(base)].rows[usize::from(first)];
-        let entry = row.entries[usize::from(second)];
-        if first == second {
+        let x = usize::from(first);
+        let y = usize::from(second);
+        let entry = self.bases[usize::from(base)].rows[x].entries[y];
+        if x == y {
             return entry;
         }
         LogProb(entry.0 + ln_half().0)

@@ -33,18 +33,18 @@ rows_more words i h = rw (take_more words i 0 h, map-append) refl
 
 -- ---- one more row added
 abbrev no_counts : List ℕ
-no_counts = replicate 3 0
+no_counts = replicate 2 0
 
-pub tallied_start : {w : List ℤ} {s : Sizes} {t : Tally} → t.total.0 ≡ pos 0 → t.gains ≡ replicate 3 no_gain → t.counts ≡ replicate 2 no_counts → Tallied w s [] t
+pub tallied_start : {w : List ℤ} {s : Sizes} {t : Tally} → t.total.0 ≡ pos 0 → t.gains ≡ replicate 3 no_gain → t.counts ≡ replicate 3 no_counts → Tallied w s [] t
 unfolding sum_over
 tallied_start {w} {s} {t} total gains counts = record {
   gains_long = rw gains;
   counts_long = rw counts;
-  strands_long = λ strand l. rw (counts, get_or-replicate 2 strand no_counts [] l);
+  strands_long = λ x h. rw (counts, get_or-replicate 3 x no_counts [] h);
   total_is = total;
   both_are = λ x h. rw (gains, get_or-replicate 3 x no_gain no_gain h);
   one_are = λ x h. rw (gains, get_or-replicate 3 x no_gain no_gain h);
-  counts_are = λ strand x l h. rw (counts, get_or-replicate 2 strand no_counts [] l, only_none (shown_on w s strand x)) (get_or-replicate {A = ℕ} 3 x 0 0 h);
+  counts_are = λ strand x l h. rw (counts, get_or-replicate 3 x no_counts [] h, only_none (shown_on w s strand x)) (get_or-replicate {A = ℕ} 2 strand 0 0 l);
 }
 
 module _ {w : List ℤ} {s : Sizes} {rows : List Row} {t : Tally} (made : Tallied w s rows t) (row : Row) (top : row.call.allele < 3) where
@@ -78,20 +78,20 @@ module _ {w : List ℤ} {s : Sizes} {rows : List Row} {t : Tally} (made : Tallie
     | no n ↦ rw (get_or-set_other gains x y gain no_gain (λ e. n (sym e)), sum_last rows row (gain_at one_gain y), made.one_are y h, ne_eqb x y n, +ℤ_idr) refl
   ]
 
-  -- the counts of its strand
   abbrev own : ℕ
   own = direction (strand_at w s row.fragment)
 
+  -- the counts of its allele
   abbrev own_counts : List ℕ
-  own_counts = set (get_or counts own []) x (count_of counts own x + 1)
+  own_counts = set (get_or counts x []) own (count_of counts own x + 1)
 
-  strand_same : get_or (counted counts own x) own [] ≡ own_counts
-  strand_same = let l = made.counts_long in get_or-set_same counts own own_counts [] (omega arith)
+  allele_same : get_or (counted counts own x) x [] ≡ own_counts
+  allele_same = let l = made.counts_long in get_or-set_same counts x own_counts [] (omega arith)
 
-  strand_long : (strand : ℕ) → strand < 2 → length (get_or (counted counts own x) strand []) ≡ 3
-  strand_long strand l = elim (ℕ_discrete own strand) [
-    | yes e ↦ rw (← e, strand_same) (length-set (get_or counts own []) x _ ∙ made.strands_long own (omega arith))
-    | no n ↦ rw (get_or-set_other counts own strand own_counts [] (λ e. n (sym e))) (made.strands_long strand l)
+  allele_long : (y : ℕ) → y < 3 → length (get_or (counted counts own x) y []) ≡ 2
+  allele_long y h = elim (ℕ_discrete x y) [
+    | yes e ↦ rw (← e, allele_same) (length-set (get_or counts x []) own _ ∙ made.strands_long x top)
+    | no n ↦ rw (get_or-set_other counts x y own_counts [] (λ e. n (sym e))) (made.strands_long y h)
   ]
 
   not_shown : (strand y : ℕ) → (own ≡ strand → x ≡ y → ⊥) → shown_on w s strand y row ≡ false
@@ -107,22 +107,22 @@ module _ {w : List ℤ} {s : Sizes} {rows : List Row} {t : Tally} (made : Tallie
       rw (only_count p rows (row ∷ []), only_out p row [] (not_shown strand y n), only_none p) (omega (arith, made.counts_are strand y l h))
 
   counts_on : (strand y : ℕ) → strand < 2 → y < 3 → count_of (counted counts own x) strand y ≡ length (only (shown_on w s strand y) (rows ++ (row ∷ [])))
-  counts_on strand y l h = elim (ℕ_discrete own strand) [
-    | yes e ↦ elim (ℕ_discrete x y) [
-      | yes f ↦
+  counts_on strand y l h = elim (ℕ_discrete x y) [
+    | yes f ↦ elim (ℕ_discrete own strand) [
+      | yes e ↦
           let p = shown_on w s own x in
-          let m = made.strands_long own (omega arith) in
-          rw (← e, ← f, strand_same, get_or-set_same (get_or counts own []) x (count_of counts own x + 1) 0 (omega arith), only_count p rows (row ∷ []), only_in p row [] (rw (eq-eqb own own refl, eq-eqb x x refl)), only_none p) (omega (arith, made.counts_are own x (omega arith) top))
-      | no n ↦ rw (← e, strand_same, get_or-set_other (get_or counts own []) x y (count_of counts own x + 1) 0 (λ f. n (sym f))) (count_stays own y (omega arith) h (λ _ f. n f))
+          let m = made.strands_long x top in
+          rw (← e, ← f, allele_same, get_or-set_same (get_or counts x []) own (count_of counts own x + 1) 0 (omega arith), only_count p rows (row ∷ []), only_in p row [] (rw (eq-eqb own own refl, eq-eqb x x refl)), only_none p) (omega (arith, made.counts_are own x (omega arith) top))
+      | no n ↦ rw (← f, allele_same, get_or-set_other (get_or counts x []) own strand (count_of counts own x + 1) 0 (λ e. n (sym e))) (count_stays strand x l top (λ e _. n e))
     ]
-    | no n ↦ rw (get_or-set_other counts own strand own_counts [] (λ e. n (sym e))) (count_stays strand y l h (λ e _. n e))
+    | no n ↦ rw (get_or-set_other counts x y own_counts [] (λ e. n (sym e))) (count_stays strand y l h (λ _ f. n f))
   ]
 
   pub tallied_on : {after : Tally} → CallAdded w s row t after → Tallied w s (rows ++ (row ∷ [])) after
   tallied_on {after} a = record {
     gains_long = ap length a.gains_are ∙ length-set gains x gain ∙ made.gains_long;
-    counts_long = ap length a.counts_are ∙ length-set counts own own_counts ∙ made.counts_long;
-    strands_long = λ strand l. ap (λ (m : List (List ℕ)). length (get_or m strand [])) a.counts_are ∙ strand_long strand l;
+    counts_long = ap length a.counts_are ∙ length-set counts x own_counts ∙ made.counts_long;
+    strands_long = λ y h. ap (λ (m : List (List ℕ)). length (get_or m y [])) a.counts_are ∙ allele_long y h;
     total_is = a.total_is ∙ rw (sum_last rows row row_qual, made.total_is) refl;
     both_are = λ y h. ap (λ (l : List Gain). (get_or l y no_gain).both) a.gains_are ∙ both_on y h;
     one_are = λ y h. ap (λ (l : List Gain). (get_or l y no_gain).one) a.gains_are ∙ one_on y h;

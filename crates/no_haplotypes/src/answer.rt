@@ -31,7 +31,9 @@ impl Summed<'_> {
     fn words(&self, g: Genotype) -> [i32; 13]
         ensures { (b : List ℕ) → result ≡ map pos (answer_values g self.now.tally.counts self.now.calls.ambiguous (depth_after (decode self.now.calls.case.laid.words.now b) self.now.calls.v)) }
     {
-        let [forward, reverse] = self.tally.counts;
+        let [first, second, third] = self.tally.counts;
+        let forward = [first[0], second[0], third[0]];
+        let reverse = [first[1], second[1], third[1]];
         [
             i32::from(g.0),
             i32::from(g.1),

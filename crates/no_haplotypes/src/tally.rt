@@ -17,12 +17,13 @@ pub struct Gain {
     pub one: i64,
 }
 
-// The sum of qual, what each allele gains on it, and the calls that show the allele, forward and reverse.
+// The sum of qual, what each allele gains on it, and the calls that show each allele, forward and reverse: by allele first, since the compiler makes
+// a jump of a strand that picks one of two rows.
 #[derive(Clone, Copy)]
 pub struct Tally {
     pub total: LogProb,
     pub gains: [Gain; 3],
-    pub counts: [[usize; 3]; 2],
+    pub counts: [[usize; 2]; 3],
 }
 
 impl Tally {
@@ -37,7 +38,7 @@ impl Tally {
         let mixed = row.qual.mix(row.one_minus_qual).0;
         let strand = direction_of(case.laid.strand(row.fragment));
         self.total.0 += q;
-        self.counts[strand][x] += 1;
+        self.counts[x][strand] += 1;
         let gain = &mut self.gains[x];
         gain.both += row.one_minus_qual.0 - q;
         gain.one += mixed - q;
@@ -50,7 +51,7 @@ impl Tally {
         let mut tally = Tally {
             total: LogProb(0),
             gains: [Gain { both: 0, one: 0 }; 3],
-            counts: [[0; 3]; 2],
+            counts: [[0; 2]; 3],
         };
         for word in calls.usable {
             tally.add(&calls.case, Row::unpack(*word));

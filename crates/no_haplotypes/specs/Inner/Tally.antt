@@ -41,7 +41,7 @@ abbrev pub gain_of : Tally → ℕ → Gain
 gain_of t x = get_or t.gains x no_gain
 
 abbrev pub count_of : List (List ℕ) → ℕ → ℕ → ℕ
-count_of counts strand x = get_or (get_or counts strand []) x 0
+count_of counts strand x = get_or (get_or counts x []) strand 0
 
 -- no sum is near the end of its type
 pub record SumsIn (t : Tally) : Type 0 where
@@ -56,7 +56,7 @@ gain_with gain call = record { both = gain.both +ℤ both_gain call; one = gain.
 
 -- one more call of allele x counted on a strand
 abbrev pub counted : List (List ℕ) → ℕ → ℕ → List (List ℕ)
-counted counts strand x = set counts strand (set (get_or counts strand []) x (count_of counts strand x + 1))
+counted counts strand x = set counts x (set (get_or counts x []) strand (count_of counts strand x + 1))
 
 -- one call added
 pub record CallAdded (w : List ℤ) (s : Sizes) (row : Row) (before after : Tally) : Type 0 where
@@ -67,8 +67,8 @@ pub record CallAdded (w : List ℤ) (s : Sizes) (row : Row) (before after : Tall
 -- the calls of these rows added
 pub record Tallied (w : List ℤ) (s : Sizes) (rows : List Row) (t : Tally) : Type 0 where
   pub gains_long : length t.gains ≡ 3
-  pub counts_long : length t.counts ≡ 2
-  pub strands_long : (strand : ℕ) → strand < 2 → length (get_or t.counts strand []) ≡ 3
+  pub counts_long : length t.counts ≡ 3
+  pub strands_long : (x : ℕ) → x < 3 → length (get_or t.counts x []) ≡ 2
   pub total_is : t.total.0 ≡ sum_over rows row_qual
   pub both_are : (x : ℕ) → x < 3 → (gain_of t x).both ≡ sum_over rows (gain_at both_gain x)
   pub one_are : (x : ℕ) → x < 3 → (gain_of t x).one ≡ sum_over rows (gain_at one_gain x)
