@@ -26,7 +26,8 @@ use Rattle.sweeps.proofs.Scored.{score_pileup}
 use Rattle.sweeps.proofs.Fours.{share_value}
 use Rattle.likelihoods.specs.Inner.Held.{SweepReads, Held, Liks, Within}
 use Rattle.call_genotypes.specs.declared.score.Pair.{Pair}
-use Rattle.call_genotypes.specs.Inner.Scores.{pair_at, row_mixes, turn, PileFits, AlleleSums, rise_of, pair_rise, below_first, scores_of, ScoresRoom, SweepState, VisitStart, over_first, scored_at}
+use Rattle.call_genotypes.specs.declared.score.Mixes.{Mixes}
+use Rattle.call_genotypes.specs.Inner.Scores.{pair_at, row_mixes, turn, PileFits, AlleleSums, sums_at, rise_of, pair_rise, below_first, scores_of, ScoresRoom, SweepState, VisitStart, over_first, scored_at}
 use Rattle.call_genotypes.specs.Inner.Piles.{PileIs}
 use Rattle.call_genotypes.proofs.RiseLaws.{row_four}
 use Rattle.call_genotypes.proofs.RiseSums.{pairs_are}
@@ -132,15 +133,15 @@ module _ {C : SweepCase} {reads : SweepReads} {state : SweepState} {v : ℕ} (S 
   abbrev common : ℤ
   common = sum_over pile_of (λ row. values row 0)
 
-  module _ (turns acc : List ℤ) (base : ℤ) (turns-are : (x : ℕ) → get_or turns x (pos 0) ≡ turn (C.phased v) (allele0 h v) (allele1 h v) x) (A : AlleleSums (row_mixes turns state.lik) pile_of acc)
-      (b : base ≡ below_first reads.pri acc v) where
-    pair_score_is : (i j : ℕ) → i < 3 → j < 3 → score_with C v h i j ≡ C.prior v i j +ℤ (common +ℤ pair_rise acc i j)
+  module _ (turns : List ℤ) (of : List Mixes) (base : ℤ) (turns-are : (x : ℕ) → get_or turns x (pos 0) ≡ turn (C.phased v) (allele0 h v) (allele1 h v) x) (A : AlleleSums (row_mixes turns state.lik) pile_of of)
+      (b : base ≡ below_first reads.pri of v) where
+    pair_score_is : (i j : ℕ) → i < 3 → j < 3 → score_with C v h i j ≡ C.prior v i j +ℤ (common +ℤ pair_rise of i j)
     pair_score_is i j l m =
         score_pileup C H.good.rise v h (omega (arith, S.standing.haps.len, S.v_in)) L0 L1 S.standing.liks.firsts S.standing.liks.seconds i j
         ∙ ap (λ z. C.prior v i j +ℤ z)
         (sum_over_cong pile_of (share C v h L0 L1 i j) (λ row. values row (which_value i j row.call.allele))
         (λ row. share_value C v h L0 L1 i j row ∙ value_is row (which_value i j row.call.allele))
-        ∙ pairs_are (C.phased v) (allele0 h v) (allele1 h v) turns state.lik turns-are pile_of acc A i j l m)
+        ∙ pairs_are (C.phased v) (allele0 h v) (allele1 h v) turns state.lik turns-are pile_of of A i j l m)
 
     -- the first pair's
     some : 1 ≤ C.k v
@@ -149,31 +150,31 @@ module _ {C : SweepCase} {reads : SweepReads} {state : SweepState} {v : ℕ} (S 
     first_prior : get_or reads.pri (9 * v) (pos 0) ≡ C.prior v 0 0
     first_prior = let z : 9 * v + 0 ≡ 9 * v = omega arith in rw (z, zero-div (C.k v), zero-mod (C.k v)) at (H.pri_are v 0 S.v_in (omega (arith, place_in 0 0 (C.k v) some some)))
 
-    first_score : score C v h 0 ≡ C.prior v 0 0 +ℤ (common +ℤ get_or acc 2 (pos 0))
+    first_score : score C v h 0 ≡ C.prior v 0 0 +ℤ (common +ℤ sums_at of 0 2)
     unfolding score rise_of
     first_score = rw (zero-div (C.k v), zero-mod (C.k v)) (pair_score_is 0 0 (omega arith) (omega arith))
 
-    over_first_lem : (i j : ℕ) → i < 3 → j < 3 → (C.prior v i j +ℤ base) +ℤ pair_rise acc i j ≡ score_with C v h i j -ℤ score C v h 0
+    over_first_lem : (i j : ℕ) → i < 3 → j < 3 → (C.prior v i j +ℤ base) +ℤ pair_rise of i j ≡ score_with C v h i j -ℤ score C v h 0
     over_first_lem i j l m =
-        rw (pair_score_is i j l m, first_score, b, first_prior) (apart (C.prior v i j) (C.prior v 0 0) common (pair_rise acc i j) (get_or acc 2 (pos 0)))
+        rw (pair_score_is i j l m, first_score, b, first_prior) (apart (C.prior v i j) (C.prior v 0 0) common (pair_rise of i j) (sums_at of 0 2))
 
-    scores_are : scores_of reads.pri acc base v (C.k v) ≡ over_first (C.k v) (score C v h)
+    scores_are : scores_of reads.pri of base v (C.k v) ≡ over_first (C.k v) (score C v h)
     unfolding score
     scores_are = tabulate_cong (C.k v * C.k v) _ _ (λ p l.
         let n = pair_in (C.k v) p some l in
         let t = H.good.three_alleles v S.v_in in
-        ap (λ z. (z +ℤ base) +ℤ pair_rise acc (p / C.k v) (p % C.k v)) (H.pri_are v p S.v_in l) ∙ over_first_lem (p / C.k v) (p % C.k v) (omega arith) (omega arith))
+        ap (λ z. (z +ℤ base) +ℤ pair_rise of (p / C.k v) (p % C.k v)) (H.pri_are v p S.v_in l) ∙ over_first_lem (p / C.k v) (p % C.k v) (omega arith) (omega arith))
 
   pub in_haps : 2 * v + 1 < length h
   in_haps = omega (arith, S.standing.haps.len, S.v_in)
 
   -- the same from what the code has: the pile, the flag of a phased variant, each allele's turn and the sums
-  pub scored : (pile : List ℕ) (old : Pair) (phased : Bool) (turns acc post' : List ℤ) (base : ℤ) → PileIs reads.ends reads.piles v pile → old ≡ pair_at h v
+  pub scored : (pile : List ℕ) (old : Pair) (phased : Bool) (turns : List ℤ) (of : List Mixes) (post' : List ℤ) (base : ℤ) → PileIs reads.ends reads.piles v pile → old ≡ pair_at h v
       → phased ≡ not (eqb (get_or reads.ph v 0) 0) → ((x : ℕ) → get_or turns x (pos 0) ≡ turn phased old.first old.second x)
-      → AlleleSums (row_mixes turns state.lik) (rows_at pile 0 (length pile)) acc
-      → base ≡ below_first reads.pri acc v
-      → post' ≡ sets state.post (9 * v) (scores_of reads.pri acc base v (get_or reads.ks v 0)) → post' ≡ scored_at C v state
-  scored pile old phased turns acc post' base P eo ep turns-are A b q =
+      → AlleleSums (row_mixes turns state.lik) (rows_at pile 0 (length pile)) of
+      → base ≡ below_first reads.pri of v
+      → post' ≡ sets state.post (9 * v) (scores_of reads.pri of base v (get_or reads.ks v 0)) → post' ≡ scored_at C v state
+  scored pile old phased turns of post' base P eo ep turns-are A b q =
       let w = rw (ep, phased_is H v S.v_in, eo) at turns-are in
       let B = rw (P.rows, pile_rows H v S.v_in) at A in
-      q ∙ rw (H.ks_are v S.v_in, scores_are turns acc base w B b)
+      q ∙ rw (H.ks_are v S.v_in, scores_are turns of base w B b)

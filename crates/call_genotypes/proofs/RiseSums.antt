@@ -15,6 +15,7 @@ use Rattle.variants_and_fragments.specs.Sums.{sum_over}
 use Rattle.genotype_probs.proofs.ListLaws.{sum_plus}
 use Rattle.sweeps.specs.Inner.Incremental.{which_value, allele_sum}
 use Rattle.sweeps.proofs.Basics.{sum_over_cong}
+use Rattle.call_genotypes.specs.declared.score.Mixes.{Mixes}
 use Rattle.call_genotypes.specs.Inner.Scores.{row_mixes, turn, AlleleSums, sums_at, rise_of, pair_rise}
 use Rattle.call_genotypes.proofs.RiseLaws.{row_four, value_is}
 
@@ -66,12 +67,12 @@ module _ (phased : Bool) (g0 g1 : ℕ) (turns lik : List ℤ) (turns-are : (x : 
   ]
 
   -- all rows
-  module _ (rows : List Row) (acc : List ℤ) (A : AlleleSums (row_mixes turns lik) rows acc) where
+  module _ (rows : List Row) (of : List Mixes) (A : AlleleSums (row_mixes turns lik) rows of) where
     abbrev value : Row → ℕ → ℤ
     value = row_mixes turns lik
 
     -- the rises of one allele's rows are the rise of its sums
-    rise_sum : (x w : ℕ) → x < 3 → sum_over rows (λ row. cond (eqb row.call.allele x) (rise_of (value row) w) (pos 0)) ≡ rise_of (sums_at acc x) w
+    rise_sum : (x w : ℕ) → x < 3 → sum_over rows (λ row. cond (eqb row.call.allele x) (rise_of (value row) w) (pos 0)) ≡ rise_of (sums_at of x) w
     unfolding rise_of allele_sum
     rise_sum x zero h =
         less_sum rows (λ row. eqb row.call.allele x) (λ row. value row 0) (λ row. value row 3)
@@ -81,18 +82,18 @@ module _ (phased : Bool) (g0 g1 : ℕ) (turns lik : List ℤ) (turns-are : (x : 
         ∙ cc (less_sum rows (λ row. eqb row.call.allele x) (λ row. value row 1) (λ row. value row 3), A.sums x 1 h (omega arith), A.sums x 2 h (omega arith), A.sums x 3 h (omega arith))
     rise_sum x (suc (suc w)) h = sym (A.sums x 2 h (omega arith))
 
-    rises_sum : (i j : ℕ) → i < 3 → j < 3 → sum_over rows (row_pair i j) ≡ pair_rise acc i j
+    rises_sum : (i j : ℕ) → i < 3 → j < 3 → sum_over rows (row_pair i j) ≡ pair_rise of i j
     unfolding row_pair
     rises_sum i j h l = go (eqb i j)
       where
         go : (t : Bool) → sum_over rows (λ row. cond t (cond (eqb row.call.allele i) (rise_of (value row) 2) (pos 0)) (cond (eqb row.call.allele i) (rise_of (value row) 0) (pos 0) +ℤ cond (eqb row.call.allele j) (rise_of (value row) 1) (pos 0)))
-            ≡ cond t (rise_of (sums_at acc i) 2) (rise_of (sums_at acc i) 0 +ℤ rise_of (sums_at acc j) 1)
+            ≡ cond t (rise_of (sums_at of i) 2) (rise_of (sums_at of i) 0 +ℤ rise_of (sums_at of j) 1)
         go true = rise_sum i 2 h
         go false = sum_plus rows (λ row. cond (eqb row.call.allele i) (rise_of (value row) 0) (pos 0)) (λ row. cond (eqb row.call.allele j) (rise_of (value row) 1) (pos 0))
             ∙ cc (rise_sum i 0 h, rise_sum j 1 l)
 
     -- what the pair takes of all rows
-    pub pairs_are : (i j : ℕ) → i < 3 → j < 3 → sum_over rows (λ row. row_four phased g0 g1 lik row (which_value i j row.call.allele)) ≡ sum_over rows (λ row. row_four phased g0 g1 lik row 0) +ℤ pair_rise acc i j
+    pub pairs_are : (i j : ℕ) → i < 3 → j < 3 → sum_over rows (λ row. row_four phased g0 g1 lik row (which_value i j row.call.allele)) ≡ sum_over rows (λ row. row_four phased g0 g1 lik row 0) +ℤ pair_rise of i j
     pairs_are i j h l =
         sum_over_cong rows (λ row. row_four phased g0 g1 lik row (which_value i j row.call.allele)) (λ row. row_four phased g0 g1 lik row 0 +ℤ row_pair i j row) (taken_is i j)
         ∙ sum_plus rows (λ row. row_four phased g0 g1 lik row 0) (row_pair i j)

@@ -1,7 +1,5 @@
 -- How far from 0 likelihoods, a call's four numbers and their sums lie: nothing that a visit adds up leaves an i64. Assumes nothing.
-use mathlib.Core.Path.{◌≡◌, ap, ◌∙◌}
-use mir.Syntax.{w64}
-use mir.Val.{to_z, of_z}
+use mathlib.Core.Path.{◌≡◌}
 use mathlib.Core.Bool.{Bool, true, false, cond}
 use mathlib.Core.List.{List}
 use Prim.Native.Nat.{ℕ, zero, suc, ◌+◌, ◌*◌, ◌^◌, ◌≤◌}
@@ -9,7 +7,7 @@ use native.Mathlib.Omega.{arith}
 use lib.Dec.{eqb}
 use lib.ListN.{get_or}
 use lib.IntN.{ℤ, pos, nat_abs, ◌+ℤ◌, ◌-ℤ◌, ◌*ℤ◌}
-use Rattle.steps.proofs.Signed.{add_abs, minus_abs, nat_abs_parts, parts_minus, by_sign, minus_read}
+use Rattle.steps.proofs.Signed.{add_abs, minus_abs, nat_abs_parts, parts_minus, by_sign}
 use Rattle.steps.proofs.AddExp.{add_size}
 use Rattle.variants_and_fragments.specs.Pileup.{Row}
 use Rattle.variants_and_fragments.specs.Inner.Sums.{DownTo}
@@ -19,7 +17,7 @@ use Rattle.genotype_probs.proofs.ListLaws.{down_abs}
 use Rattle.sweeps.specs.Sweeps.{call_term}
 use Rattle.likelihoods.specs.Inner.Held.{Within}
 use Rattle.call_genotypes.specs.declared.score.Mixes.{Mixes}
-use Rattle.call_genotypes.specs.Inner.Scores.{one_plus, mix_value, value_of, row_gap, row_mixes, sums_at, rise_of, pair_rise}
+use Rattle.call_genotypes.specs.Inner.Scores.{one_plus, mix_value, value_of, row_gap, row_mixes, sums_at, SumsWithin, rise_of, pair_rise}
 use Rattle.call_genotypes.proofs.Turns.{times_size}
 
 -- ---- a call's four numbers
@@ -41,6 +39,14 @@ mix_values r d g f s t e zero = f
 mix_values r d g f s t e (suc zero) = s
 mix_values r d g f s t e (suc (suc zero)) = t
 mix_values r d g f s t e (suc (suc (suc w))) = e
+
+-- one number is that of m and that of r, each
+pub mixes_added : (m r s : Mixes) → s.first ≡ m.first +ℤ r.first → s.second ≡ m.second +ℤ r.second → s.gap ≡ m.gap +ℤ r.gap → s.neither ≡ m.neither +ℤ r.neither → (w : ℕ) → value_of s w ≡ value_of m w +ℤ value_of r w
+unfolding value_of
+mixes_added m r s e f g h zero = e
+mixes_added m r s e f g h (suc zero) = f
+mixes_added m r s e f g h (suc (suc zero)) = g
+mixes_added m r s e f g h (suc (suc (suc w))) = h
 
 pub quality_gap_size : (q o : ℤ) → DownTo 262144 q → DownTo 262144 o → nat_abs (o -ℤ q) ≤ 262144
 quality_gap_size q o h k =
@@ -88,29 +94,19 @@ module _ {n f : ℕ} {row : Row} (R : RowIn n f row) where
   row_change_size old new = change_size (eqb row.call.allele new) (eqb row.call.allele old) row.call.qual row.call.one_minus_qual qual_size other_size
 
 -- ---- what a pair's score rises
-module _ (acc : List ℤ) (W : Within (2 ^ 50) acc) where
-  pub first_rise_size : (x : ℕ) → nat_abs (rise_of (sums_at acc x) 0) ≤ 2 ^ 51
+module _ (of : List Mixes) (W : SumsWithin (2 ^ 50) of) where
+  pub first_rise_size : (x : ℕ) → nat_abs (rise_of (sums_at of x) 0) ≤ 2 ^ 51
   unfolding rise_of
-  first_rise_size x = omega (arith, minus_abs (sums_at acc x 0) (sums_at acc x 3), W (4 * x + 0), W (4 * x + 3))
+  first_rise_size x = omega (arith, minus_abs (sums_at of x 0) (sums_at of x 3), W x 0, W x 3)
 
-  first_rise_is : (x : ℕ) → get_or acc (4 * x) (pos 0) -ℤ get_or acc (4 * x + 3) (pos 0) ≡ rise_of (sums_at acc x) 0
+  pub second_rise_size : (x : ℕ) → nat_abs (rise_of (sums_at of x) 1) ≤ 2 ^ 52
   unfolding rise_of
-  first_rise_is x = let z : 4 * x ≡ 4 * x + 0 = omega arith in ap (λ (i : ℕ). get_or acc i (pos 0) -ℤ get_or acc (4 * x + 3) (pos 0)) z
+  second_rise_size x = omega (arith, add_abs (sums_at of x 1 -ℤ sums_at of x 3) (sums_at of x 2), minus_abs (sums_at of x 1) (sums_at of x 3), W x 1, W x 2, W x 3)
 
-  -- as the code reads it
-  pub first_rise_read : (x : ℕ) → let r = to_z w64 (of_z w64 (to_z w64 (of_z w64 (get_or acc (4 * x) (pos 0))) -ℤ to_z w64 (of_z w64 (get_or acc (4 * x + 3) (pos 0))))) in (r ≡ rise_of (sums_at acc x) 0) × (nat_abs r ≤ 2 ^ 51)
-  first_rise_read x =
-      let e = minus_read w64 (get_or acc (4 * x) (pos 0)) (get_or acc (4 * x + 3) (pos 0)) (omega (arith, W (4 * x), W (4 * x + 3))) ∙ first_rise_is x in
-      (e, rw e (first_rise_size x))
-
-  pub second_rise_size : (x : ℕ) → nat_abs (rise_of (sums_at acc x) 1) ≤ 2 ^ 52
-  unfolding rise_of
-  second_rise_size x = omega (arith, add_abs (sums_at acc x 1 -ℤ sums_at acc x 3) (sums_at acc x 2), minus_abs (sums_at acc x 1) (sums_at acc x 3), W (4 * x + 1), W (4 * x + 2), W (4 * x + 3))
-
-  pub pair_size : (i j : ℕ) → nat_abs (pair_rise acc i j) ≤ 2 ^ 53
+  pub pair_size : (i j : ℕ) → nat_abs (pair_rise of i j) ≤ 2 ^ 53
   unfolding rise_of
   pair_size i j = go (eqb i j)
     where
-      go : (t : Bool) → nat_abs (cond t (rise_of (sums_at acc i) 2) (rise_of (sums_at acc i) 0 +ℤ rise_of (sums_at acc j) 1)) ≤ 2 ^ 53
-      go true = omega (arith, W (4 * i + 2))
-      go false = omega (arith, add_abs (rise_of (sums_at acc i) 0) (rise_of (sums_at acc j) 1), first_rise_size i, second_rise_size j)
+      go : (t : Bool) → nat_abs (cond t (rise_of (sums_at of i) 2) (rise_of (sums_at of i) 0 +ℤ rise_of (sums_at of j) 1)) ≤ 2 ^ 53
+      go true = omega (arith, W i 2)
+      go false = omega (arith, add_abs (rise_of (sums_at of i) 0) (rise_of (sums_at of j) 1), first_rise_size i, second_rise_size j)

@@ -6,14 +6,16 @@ ghost use Rattle.pileup.specs.Inner.Packed.{row_from, rows_at};
 ghost use Rattle.genotype_probs.specs.Posteriors.{first_maximum};
 ghost use Rattle.likelihoods.specs.Inner.Held.{Within};
 ghost use Rattle.call_genotypes.specs.Inner.Reads.{reads_of};
-ghost use Rattle.call_genotypes.specs.Inner.Scores.{pair_at, value_of, mix_value, is_far, row_mixes, turn, RowFits, PileFits, AlleleSums, add_four, sums_at, rise_of, pair_rise, below_first, scores_of, ScoresRoom, Some, sweep_state, VisitStart, Scored};
+ghost use Rattle.call_genotypes.specs.Inner.Scores.{pair_at, value_of, mix_value, is_far, row_mixes, turn, RowFits, PileFits, AlleleSums, SumsWithin, sums_at, rise_of, pair_rise, below_first, scores_of, ScoresRoom, Some, sweep_state, VisitStart, Scored};
 
 use crate::reads::SweepReads;
+use likelihoods::likelihoods::{ReadLikelihoods, Standing};
 use pileup::row::Row;
 use steps::LogProb;
 use steps::one_plus::ln_one_plus_exp;
 
-// A variant's alleles on the two haplotypes.
+// A variant's alleles on the two haplotypes, as indices. With genotype_probs' Genotype, whose numbers are bytes, in its place there would be a cast at
+// eight uses; now there are four, in `pair_at` and `put_pair`.
 #[derive(Clone, Copy, PartialEq)]
 pub struct Pair {
     pub first: usize,
@@ -22,7 +24,7 @@ pub struct Pair {
 
 // Of a call: its gap, and ln(1 + exp(d)) for how far its read's first likelihood is above the second, if the first haplotype alone has the
 // call's allele, if the second alone has it, and if neither or both have it.
-#[derive(Clone, Copy)]
+#[derive(Clone, Copy, Default)]
 pub struct Mixes {
     pub first: i64,
     pub second: i64,
@@ -30,12 +32,25 @@ pub struct Mixes {
     pub neither: i64,
 }
 
-// The sums of the four numbers over a pile's calls, four per allele: with them a pair's score takes a few additions, and no second walk over the
+impl Mixes {
+    // Adds those of one more call.
+    fn add(&mut self, call: Mixes)
+        requires { (w : ℕ) → (nat_abs (value_of self.old w) ≤ 2 ^ 49) × (nat_abs (value_of call w) ≤ 2 ^ 35) }
+        ensures { (w : ℕ) → value_of self.new w ≡ value_of self.old w +ℤ value_of call w }
+    {
+        self.first += call.first;
+        self.second += call.second;
+        self.gap += call.gap;
+        self.neither += call.neither;
+    }
+}
+
+// The sums of the four numbers over a pile's calls of each allele: with them a pair's score takes a few additions, and no second walk over the
 // calls.
 #[derive(Clone, Copy)]
 pub struct Sums {
-    pub acc: [i64; 12],
-    pub ghost within: { Within (2 ^ 50) acc },
+    pub of: [Mixes; 3],
+    pub ghost within: { SumsWithin (2 ^ 50) of },
 }
 
 // Whether ln(1 + exp(..)) is straight at d and as far around it as a gap goes: 313,472 is 51,328, from where on A is 0, and 262,144, the
@@ -88,14 +103,6 @@ fn gap(q: LogProb, o: LogProb) -> i64
     o.0 - q.0
 }
 
-// The likelihood at i.
-fn likelihood_at(lik: &[i64], i: usize) -> LogProb
-    requires { i < length lik.now }
-    ensures { result.0 ≡ get_or lik.now i (pos 0) }
-{
-    LogProb(lik[i])
-}
-
 // How far the distance of a read's likelihoods moves when the own terms of a call of allele x are taken away: `turns` says how often, and
 // which way, by the call's gap.
 fn turned(turns: &[i64; 4], x: usize, g: i64) -> i64
@@ -114,52 +121,30 @@ fn distance(l: LogProb, b: LogProb, y: i64) -> i64
 }
 
 // The four numbers of a row's call.
-fn call_mixes(row: Row, lik: &[i64], turns: &[i64; 4]) -> Mixes
-    requires row_fits { RowFits lik.now (row_from row) }
-    requires within { Within (2 ^ 32) lik.now × Within 1 turns.now }
-    ensures { (w : ℕ) → value_of result w ≡ row_mixes turns.now lik.now (row_from row) w }
+fn call_mixes(row: Row, standing: &Standing<'_>, turns: &[i64; 4]) -> Mixes
+    requires row_fits { RowFits standing.now.lik.now (row_from row) }
+    requires within { Within 1 turns.now }
+    ensures { (w : ℕ) → value_of result w ≡ row_mixes turns.now standing.now.lik.now (row_from row) w }
 {
-    let f = 2 * row.fragment;
     let g = gap(row.qual, row.one_minus_qual);
-    let b = likelihood_at(lik, f + 1);
-    let d = distance(likelihood_at(lik, f), b, turned(turns, row.allele, g));
+    let read = ReadLikelihoods::at(standing.lik, row.fragment);
+    let d = distance(read.first, read.second, turned(turns, row.allele, g));
     mixes_of(d, g)
 }
 
-// Adds y to a sum.
-fn raise(acc: &mut [i64; 12], i: usize, y: i64)
-    requires { (i < 12) × (nat_abs (get_or acc.old i (pos 0)) ≤ 2 ^ 50) × (nat_abs y ≤ 2 ^ 50) }
-    ensures { acc.new ≡ set acc.old i (get_or acc.old i (pos 0) +ℤ y) }
-{
-    acc[i] += y;
-}
-
-// Adds the four numbers of a call of allele x to the sums of x.
-fn add_four(r: Mixes, acc: &mut [i64; 12], x: usize)
-    requires x_bound { (x < 3) × ((w : ℕ) → nat_abs (value_of r w) ≤ 2 ^ 35) }
-    requires within { Within (2 ^ 49) acc.old }
-    ensures { acc.new ≡ add_four (value_of r) x acc.old }
-{
-    let at = 4 * x;
-    raise(acc, at, r.first);
-    raise(acc, at + 1, r.second);
-    raise(acc, at + 2, r.gap);
-    raise(acc, at + 3, r.neither);
-}
-
 // The sums of the four numbers of a pile's calls. At the loop's head the calls so far are in them.
-fn score_calls(pile: &[u64], lik: &[i64], turns: &[i64; 4]) -> Sums
-    requires pile_fits { PileFits lik.now pile.now 0 (length pile.now) }
-    requires within { Within (2 ^ 32) lik.now × Within 1 turns.now }
-    ensures { AlleleSums (row_mixes turns.now lik.now) (rows_at pile.now 0 (length pile.now)) result.acc }
+fn score_calls(pile: &[u64], standing: &Standing<'_>, turns: &[i64; 4]) -> Sums
+    requires pile_fits { PileFits standing.now.lik.now pile.now 0 (length pile.now) }
+    requires within { Within 1 turns.now }
+    ensures { AlleleSums (row_mixes turns.now standing.now.lik.now) (rows_at pile.now 0 (length pile.now)) result.of }
 {
-    let mut acc = [0i64; 12];
+    let mut of = [Mixes::default(); 3];
     for word in pile {
         let row = Row::unpack(*word);
-        let r = call_mixes(row, lik, turns);
-        add_four(r, &mut acc, row.allele);
+        let mixes = call_mixes(row, standing, turns);
+        of[row.allele].add(mixes);
     }
-    Sums { acc }
+    Sums { of }
 }
 
 // Each allele's turn at a variant that is at this pair: nothing at an unphased one, whose calls are not in the likelihoods.
@@ -179,26 +164,26 @@ impl Sums {
     // How far a score rises, by the sums of allele x, if the first haplotype has x and the second has not.
     fn first_rise(&self, x: usize) -> i64
         requires { x < 3 }
-        ensures { (result ≡ rise_of (sums_at self.now.acc x) 0) × (nat_abs result ≤ 2 ^ 51) }
+        ensures { (result ≡ rise_of (sums_at self.now.of x) 0) × (nat_abs result ≤ 2 ^ 51) }
     {
-        self.acc[4 * x] - self.acc[4 * x + 3]
+        self.of[x].first - self.of[x].neither
     }
 
     // The same if the second has it and the first has not.
     fn second_rise(&self, x: usize) -> i64
         requires { x < 3 }
-        ensures { (result ≡ rise_of (sums_at self.now.acc x) 1) × (nat_abs result ≤ 2 ^ 52) }
+        ensures { (result ≡ rise_of (sums_at self.now.of x) 1) × (nat_abs result ≤ 2 ^ 52) }
     {
-        self.acc[4 * x + 1] - self.acc[4 * x + 3] + self.acc[4 * x + 2]
+        self.of[x].second - self.of[x].neither + self.of[x].gap
     }
 
     // How far the score of (i, j) is above the one where neither haplotype has a call's allele.
     fn pair_rise(&self, i: usize, j: usize) -> i64
         requires { (i < 3) × (j < 3) }
-        ensures { result ≡ pair_rise self.now.acc i j }
+        ensures { result ≡ pair_rise self.now.of i j }
     {
         if i == j {
-            self.acc[4 * i + 2]
+            self.of[i].gap
         } else {
             self.first_rise(i) + self.second_rise(j)
         }
@@ -207,15 +192,15 @@ impl Sums {
     // What brings the score of v's first pair to 0.
     fn below_first(&self, pri: &[i64], v: usize) -> i64
         requires { (v < 1024) × (9 * v < length pri.now) × (nat_abs (get_or pri.now (9 * v) (pos 0)) ≤ 2 ^ 21) }
-        ensures { (result ≡ below_first pri.now self.now.acc v) × (nat_abs result ≤ 2 ^ 53) }
+        ensures { (result ≡ below_first pri.now self.now.of v) × (nat_abs result ≤ 2 ^ 53) }
     {
-        0 - (pri[9 * v] + self.acc[2])
+        0 - (pri[9 * v] + self.of[0].gap)
     }
 
     // The score of (i, j), whose prior stands at `at`.
     fn pair_score(&self, pri: &[i64], base: i64, at: usize, i: usize, j: usize) -> LogProb
         requires { (at < length pri.now) × (nat_abs (get_or pri.now at (pos 0)) ≤ 2 ^ 21) × (nat_abs base ≤ 2 ^ 53) × (i < 3) × (j < 3) }
-        ensures { result.0 ≡ (get_or pri.now at (pos 0) +ℤ base) +ℤ pair_rise self.now.acc i j }
+        ensures { result.0 ≡ (get_or pri.now at (pos 0) +ℤ base) +ℤ pair_rise self.now.of i j }
     {
         LogProb(pri[at] + base + self.pair_rise(i, j))
     }
@@ -223,7 +208,7 @@ impl Sums {
     // Writes the k by k scores at 9 * v, row after row. At the outer loop's head i rows of them are written, at the inner's j more.
     fn write_scores(&self, pri: &[i64], post: &mut [i64], base: i64, v: usize, k: usize)
         requires { ScoresRoom pri.now post.old v k × (nat_abs base ≤ 2 ^ 53) }
-        ensures { post.new ≡ sets post.old (9 * v) (scores_of pri.now self.now.acc base v k) }
+        ensures { post.new ≡ sets post.old (9 * v) (scores_of pri.now self.now.of base v k) }
     {
         for i in 0..k {
             for j in 0..k {
@@ -271,7 +256,7 @@ pub fn scores(reads: &SweepReads<'_>, hap: &[u8], lik: &[i64], post: &mut [i64],
     let phased = reads.ph[v] != 0;
     let old = pair_at(hap, v);
     let turns = turns_of(phased, old);
-    let sums = score_calls(reads.pile(v), lik, &turns);
+    let sums = score_calls(reads.pile(v), &Standing { lik }, &turns);
     let base = sums.below_first(reads.pri, v);
     sums.write_scores(reads.pri, post, base, v, k);
 }

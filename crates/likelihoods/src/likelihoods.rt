@@ -1,8 +1,9 @@
 // Likelihoods of the reads on the two haplotypes, from the rows by fragment.
-ghost use Rattle.std.specs.Prelude.{◌≡◌, ◌+◌, ◌*◌, ◌<◌, ◌≤◌, pos, nat_abs, length, get_or, set};
+ghost use Rattle.std.specs.Prelude.{◌≡◌, ◌+◌, ◌*◌, ◌^◌, ◌<◌, ◌≤◌, pos, nat_abs, length, get_or, set};
 ghost use Rattle.pileup.specs.Inner.Packed.{group_start, row_from, unpacked};
 ghost use Rattle.sweeps.specs.Sweeps.{call_term};
 ghost use Rattle.variants_and_fragments.specs.Written.{written};
+ghost use Rattle.likelihoods.specs.Inner.Held.{Within};
 ghost use Rattle.likelihoods.specs.Inner.Likelihoods.{CallIn, CallsIn, EndsIn, LikelihoodsAre, row_call, flagged, allele_on, call_share, likelihood_at};
 
 use pileup::grouped::Groups;
@@ -38,6 +39,13 @@ impl ReadLikelihoods {
         lik[2 * f] = first;
         lik[2 * f + 1] = second;
     }
+}
+
+// The likelihoods of all reads as they stand, two of each.
+#[derive(Clone, Copy)]
+pub struct Standing<'a> {
+    pub lik: &'a [i64],
+    pub ghost within: { Within (2 ^ 32) lik.now },
 }
 
 // Two haplotypes, and a flag per variant: 1 where the variant counts.
@@ -86,7 +94,8 @@ fn weighed(flag: u8, x: LogProb) -> LogProb
 
 impl Haplotypes<'_> {
     // What a row's call adds to its read's likelihood on haplotype h: nothing at a variant whose flag is not 1. It takes the row's word: where the
-    // caller unpacks it for both haplotypes, the product above goes, the test is a jump, and the largest run takes 1.70 ms for 1.51.
+    // caller unpacks it for both haplotypes, the product above goes, the test is a jump, and the largest run takes 1.70 ms for 1.51. late_reads' `share`
+    // is of a call that may not be usable, by the case's phase, where a row has its flag; what both are at last is `call_term`.
     fn call_share(&self, word: u64, h: usize) -> LogProb
         requires { CallIn (row_call (unpacked word)) self.now.hap.now self.now.mask.now × (h < 2) }
         ensures { (result.0 ≡ call_share (flagged self.now.mask.now) (allele_on self.now.hap.now h) (row_call (unpacked word))) × (nat_abs result.0 ≤ 262144) }

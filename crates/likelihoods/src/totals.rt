@@ -5,10 +5,9 @@ ghost use Rattle.variants_and_fragments.specs.Sums.{sum_to};
 ghost use Rattle.sweeps.specs.Sweeps.{total_of};
 ghost use Rattle.steps.specs.Logs.{mix_of};
 ghost use Rattle.likelihoods.specs.Inner.Likelihoods.{flagged};
-ghost use Rattle.likelihoods.specs.Inner.Held.{Within};
 ghost use Rattle.likelihoods.specs.Inner.Totals.{PriorsIn, held_case, prior_share, fragment_share, standing_share, standing_total};
 
-use crate::likelihoods::{Haplotypes, ReadLikelihoods, ReadRows};
+use crate::likelihoods::{Haplotypes, ReadLikelihoods, ReadRows, Standing};
 use steps::LogProb;
 use steps::one_plus::ln_one_plus_exp;
 
@@ -83,24 +82,24 @@ pub fn total(priors: &PairPriors<'_, '_>, reads: &ReadRows<'_, '_>) -> LogProb
     LogProb(x.0 + y.0)
 }
 
-// The mixed likelihoods of the reads, two of each, as they stand in lik. At the loop's head those of the first f are added.
-fn mixes_total(lik: &[i64]) -> LogProb
-    requires { (length lik.now ≤ 8192) × Within (2 ^ 32) lik.now }
-    ensures { (result.0 ≡ sum_to (length lik.now / 2) (standing_share lik.now)) × (nat_abs result.0 ≤ 2 ^ 45) }
+// The mixed likelihoods of the reads, two of each, as they stand. At the loop's head those of the first f are added.
+fn mixes_total(standing: &Standing<'_>) -> LogProb
+    requires { length standing.now.lik.now ≤ 8192 }
+    ensures { (result.0 ≡ sum_to (length standing.now.lik.now / 2) (standing_share standing.now.lik.now)) × (nat_abs result.0 ≤ 2 ^ 45) }
 {
     let mut sum = LogProb(0);
-    for f in 0..lik.len() / 2 {
-        sum.0 += mixed(ReadLikelihoods::at(lik, f)).0;
+    for f in 0..standing.lik.len() / 2 {
+        sum.0 += mixed(ReadLikelihoods::at(standing.lik, f)).0;
     }
     sum
 }
 
 // The total over the flagged variants, of the likelihoods that stand: their priors plus, per read, its mixed likelihoods.
-pub fn standing_total(priors: &PairPriors<'_, '_>, lik: &[i64]) -> LogProb
-    requires { (length lik.now ≤ 8192) × Within (2 ^ 32) lik.now }
-    ensures { result.0 ≡ standing_total (length priors.now.ks.now) (length lik.now / 2) priors.now.ks.now priors.now.pri.now lik.now priors.now.on.hap.now priors.now.on.mask.now }
+pub fn standing_total(priors: &PairPriors<'_, '_>, standing: &Standing<'_>) -> LogProb
+    requires { length standing.now.lik.now ≤ 8192 }
+    ensures { result.0 ≡ standing_total (length priors.now.ks.now) (length standing.now.lik.now / 2) priors.now.ks.now priors.now.pri.now standing.now.lik.now priors.now.on.hap.now priors.now.on.mask.now }
 {
     let x = priors.total();
-    let y = mixes_total(lik);
+    let y = mixes_total(standing);
     LogProb(x.0 + y.0)
 }

@@ -13,7 +13,8 @@ use likelihoods::sweep_case::write_allele_counts;
 use variants_and_fragments::layout::MAX_VARIANTS;
 
 impl AcceptedRound<'_> {
-    // The run from section 5's haplotypes and phased variants, and the final answers from the latest posteriors.
+    // The run from section 5's haplotypes and phased variants, and the final answers from the latest posteriors. The five slices that are written stay
+    // parameters: a struct of them would have each contract say besides that the five loans stay the same.
     pub fn call(
         &self,
         haplotypes: &mut [u8],

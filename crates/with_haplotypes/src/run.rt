@@ -2,7 +2,6 @@
 ghost use Rattle.std.specs.Prelude.{◌≡◌, ◌/◌, ◌^◌, ◌≤◌, length, replicate};
 ghost use Rattle.pileup.specs.Inner.Packed.{group_start};
 ghost use Rattle.sweeps.specs.Sweeps.{total_of};
-ghost use Rattle.likelihoods.specs.Inner.Held.{Within};
 ghost use Rattle.likelihoods.specs.Inner.Likelihoods.{CallsIn, EndsIn, flagged};
 ghost use Rattle.likelihoods.specs.Inner.Totals.{PriorsIn, held_case, standing_total};
 ghost use Rattle.call_genotypes.specs.Inner.Scores.{sweep_state};
@@ -14,17 +13,17 @@ use crate::RoundAnswer;
 use crate::reads::{PreparedRun, RunReads};
 use call_genotypes::reads::SweepReads;
 use call_genotypes::run::run_sweeps;
-use likelihoods::likelihoods::{Haplotypes, ReadRows};
+use likelihoods::likelihoods::{Haplotypes, ReadRows, Standing};
 use likelihoods::totals::{PairPriors, standing_total, total};
 use steps::LogProb;
 use variants_and_fragments::layout::MAX_VARIANTS;
 
 impl PreparedRun<'_> {
     // The total of these haplotypes over the phased variants, of the likelihoods that stand.
-    fn phased_total(&self, hap: &[u8], lik: &[i64]) -> LogProb
+    fn phased_total(&self, hap: &[u8], standing: &Standing<'_>) -> LogProb
         requires priors_in { PriorsIn (length self.now.reads.ks.now) self.now.reads.ks.now self.now.pri.now hap.now self.now.reads.ph.now }
-        requires liks_in { (length lik.now ≤ 8192) × Within (2 ^ 32) lik.now }
-        ensures { result.0 ≡ standing_total (length self.now.reads.ks.now) (length lik.now / 2) self.now.reads.ks.now self.now.pri.now lik.now hap.now self.now.reads.ph.now }
+        requires liks_few { length standing.now.lik.now ≤ 8192 }
+        ensures { result.0 ≡ standing_total (length self.now.reads.ks.now) (length standing.now.lik.now / 2) self.now.reads.ks.now self.now.pri.now standing.now.lik.now hap.now self.now.reads.ph.now }
     {
         let priors = PairPriors {
             ks: self.reads.ks,
@@ -34,7 +33,7 @@ impl PreparedRun<'_> {
                 mask: self.reads.ph,
             },
         };
-        standing_total(&priors, lik)
+        standing_total(&priors, standing)
     }
 
     // The total of these haplotypes over all variants, recomputed from the rows.
@@ -70,7 +69,7 @@ impl PreparedRun<'_> {
             on: Haplotypes { hap, mask: ph },
         };
         rows.write_likelihoods(lik);
-        let start = self.phased_total(hap, lik);
+        let start = self.phased_total(hap, &Standing { lik });
         let reads = SweepReads {
             ks,
             ph,
@@ -78,7 +77,7 @@ impl PreparedRun<'_> {
             piles: self.piles,
         };
         let r = run_sweeps(&reads, &round.orders, round.limit, hap, lik, post);
-        let end = self.phased_total(hap, lik);
+        let end = self.phased_total(hap, &Standing { lik });
         let source = self.source_total(hap);
         RoundAnswer {
             sweeps: r.sweeps,

@@ -11,7 +11,7 @@ use Rattle.sweeps.specs.Inner.Incremental.{allele_sum}
 use Rattle.call_genotypes.specs.declared.score.Mixes.{Mixes}
 use Rattle.call_genotypes.specs.declared.score.Pair.{Pair}
 use Rattle.pileup.specs.Inner.Packed.{RowIn, RowsIn}
-use Rattle.likelihoods.specs.Inner.Held.{SweepReads, Held, Liks, Within}
+use Rattle.likelihoods.specs.Inner.Held.{SweepReads, Held, Liks}
 
 -- the pair that stands at v
 abbrev pub pair_at : List ℕ → ℕ → Pair
@@ -35,6 +35,10 @@ value_of r zero = r.first
 value_of r (suc zero) = r.second
 value_of r (suc (suc zero)) = r.gap
 value_of r (suc (suc (suc w))) = r.neither
+
+-- four zeros
+abbrev pub no_mixes : Mixes
+no_mixes = record { first = pos 0; second = pos 0; gap = pos 0; neither = pos 0 }
 
 -- d is so far from 0 that ln(1 + exp(..)) is straight at d and at every distance up to 262,144, the largest gap, from it: A is 0 from 51,328 on
 unfoldable pub is_far : ℤ → Bool
@@ -62,14 +66,18 @@ RowFits lik row = RowIn 1024 (length lik / 2) row
 abbrev pub PileFits : List ℤ → List ℕ → ℕ → ℕ → Type 0
 PileFits lik piles a e = RowsIn 1024 (length lik / 2) piles a e
 
--- acc[4 × x + w] is the sum of value w over the rows of allele x
-pub record AlleleSums (value : Row → ℕ → ℤ) (rows : List Row) (acc : List ℤ) : Type 0 where
-  pub sums : (x w : ℕ) → x < 3 → w < 4 → get_or acc (4 * x + w) (pos 0) ≡ allele_sum value rows x w
-  pub small : Within (2 ^ 50) acc
+-- value w of the sums of allele x
+abbrev pub sums_at : List Mixes → ℕ → ℕ → ℤ
+sums_at of x w = value_of (get_or of x no_mixes) w
 
--- the sums of allele x
-abbrev pub sums_at : List ℤ → ℕ → ℕ → ℤ
-sums_at acc x w = get_or acc (4 * x + w) (pos 0)
+-- no sum is further from 0 than n
+abbrev pub SumsWithin : ℕ → List Mixes → Type 0
+SumsWithin n of = (x w : ℕ) → nat_abs (sums_at of x w) ≤ n
+
+-- they are the sums over the rows of each allele
+pub record AlleleSums (value : Row → ℕ → ℤ) (rows : List Row) (of : List Mixes) : Type 0 where
+  pub sums : (x w : ℕ) → x < 3 → w < 4 → sums_at of x w ≡ allele_sum value rows x w
+  pub small : SumsWithin (2 ^ 50) of
 
 -- how far a score rises, by an allele's four numbers, over the one where neither haplotype has that allele: if the first has it (0), if the
 -- second has it (1), if both have it (2)
@@ -79,20 +87,16 @@ rise_of m (suc zero) = (m 1 -ℤ m 3) +ℤ m 2
 rise_of m (suc (suc w)) = m 2
 
 -- the same of the pair (i, j)
-abbrev pub pair_rise : List ℤ → ℕ → ℕ → ℤ
-pair_rise acc i j = cond (eqb i j) (rise_of (sums_at acc i) 2) (rise_of (sums_at acc i) 0 +ℤ rise_of (sums_at acc j) 1)
+abbrev pub pair_rise : List Mixes → ℕ → ℕ → ℤ
+pair_rise of i j = cond (eqb i j) (rise_of (sums_at of i) 2) (rise_of (sums_at of i) 0 +ℤ rise_of (sums_at of j) 1)
 
 -- what brings the score of v's first pair to 0
-abbrev pub below_first : List ℤ → List ℤ → ℕ → ℤ
-below_first pri acc v = pos 0 -ℤ (get_or pri (9 * v) (pos 0) +ℤ get_or acc 2 (pos 0))
+abbrev pub below_first : List ℤ → List Mixes → ℕ → ℤ
+below_first pri of v = pos 0 -ℤ (get_or pri (9 * v) (pos 0) +ℤ sums_at of 0 2)
 
 -- the scores of the k × k pairs at v, in row-major order, with `base` in place of what neither haplotype's allele changes
-abbrev pub scores_of : List ℤ → List ℤ → ℤ → ℕ → ℕ → List ℤ
-scores_of pri acc base v k = tabulate (k * k) (λ p. (get_or pri (9 * v + p) (pos 0) +ℤ base) +ℤ pair_rise acc (p / k) (p % k))
-
--- acc with value w added at 4 × x + w, w = 0..3
-unfoldable pub add_four : (ℕ → ℤ) → ℕ → List ℤ → List ℤ
-add_four value x acc = sets acc (4 * x) (tabulate 4 (λ w. get_or acc (4 * x + w) (pos 0) +ℤ value w))
+abbrev pub scores_of : List ℤ → List Mixes → ℤ → ℕ → ℕ → List ℤ
+scores_of pri of base v k = tabulate (k * k) (λ p. (get_or pri (9 * v + p) (pos 0) +ℤ base) +ℤ pair_rise of (p / k) (p % k))
 
 -- room for the nine priors and the nine scores of v
 pub record ScoresRoom (pri post : List ℤ) (v k : ℕ) : Type 0 where

@@ -1,6 +1,6 @@
 -- Each way out is a line of the table, or the round. Assumes nothing.
 use Rattle.std.proofs.Common.{◌≡◌, sym}
-use Rattle.std.proofs.lemmas.Result.{err_from_is_err_and}
+use Rattle.variants_and_fragments.proofs.Outcomes.{exit_is}
 use Rattle.variants_and_fragments.specs.Refusals.{done, smallest_short}
 use Rattle.with_haplotypes.specs.Round.{round_input}
 use Rattle.with_haplotypes.specs.Promise.{round_slices, round_needs}
@@ -12,35 +12,35 @@ use Rattle.with_haplotypes.proofs.call_genotypes_with_haplotypes.Goals.{In_ok-lo
 
 pub returns-in_err-case : goal.returns-in_err-case
 returns-in_err-case c =
-    let p = err_from_is_err_and c.from_residual.result c.from_residual.ensures.1 in rw (p.1, p.2)
+    rw (exit_is c.from_residual.ensures.1)
     (answer_case _ _ _ _ c.in_err-case.ensures.outcome)
 
 pub returns-in_err-rates : goal.returns-in_err-rates
 returns-in_err-rates c =
-    let p = err_from_is_err_and c.from_residual-in_err-rates.result c.from_residual-in_err-rates.ensures.1 in rw (p.1, p.2)
+    rw (exit_is c.from_residual-in_err-rates.ensures.1)
     (answer_checks _ _ _ _ _ (sym c.in_ok-case.ensures.outcome) (rates_stop _ _ _ _ _ _ _ _ c.in_err-rates.ensures.outcome))
 
 pub returns-in_err-check_phase : goal.returns-in_err-check_phase
 returns-in_err-check_phase c =
-    let p = err_from_is_err_and c.from_residual-in_err-check_phase.result c.from_residual-in_err-check_phase.ensures.1 in rw (p.1, p.2)
+    rw (exit_is c.from_residual-in_err-check_phase.ensures.1)
     (answer_checks _ _ _ _ _ (sym c.in_ok-case.ensures.outcome)
     (phase_stop _ _ _ _ _ _ _ c.in_ok-rates.ensures.outcome _ c.in_err-check_phase.ensures))
 
 pub returns-in_err-m : goal.returns-in_err-m
 returns-in_err-m c =
-    let p = err_from_is_err_and c.from_residual-in_err-m.result c.from_residual-in_err-m.ensures.1 in rw (p.1, p.2)
+    rw (exit_is c.from_residual-in_err-m.ensures.1)
     (answer_checks _ _ _ _ _ (sym c.in_ok-case.ensures.outcome)
     (orders_stop _ _ _ _ _ _ _ c.in_ok-rates.ensures.outcome c.in_ok-check_phase.ensures _ c.in_err-m.ensures))
 
 pub returns-in_err-check_limit : goal.returns-in_err-check_limit
 returns-in_err-check_limit c =
-    let p = err_from_is_err_and c.from_residual-in_err-check_limit.result c.from_residual-in_err-check_limit.ensures.1 in rw (p.1, p.2)
+    rw (exit_is c.from_residual-in_err-check_limit.ensures.1)
     (answer_checks _ _ _ _ _ (sym c.in_ok-case.ensures.outcome)
     (limit_stop _ _ _ _ _ _ _ c.in_ok-rates.ensures.outcome c.in_ok-check_phase.ensures _ c.in_ok-m.ensures _ c.in_err-check_limit.ensures))
 
 pub returns-in_err-long_enough : goal.returns-in_err-long_enough
 returns-in_err-long_enough c =
-    let p = err_from_is_err_and c.from_residual-in_err-long_enough.result c.from_residual-in_err-long_enough.ensures.1 in rw (p.1, p.2)
+    rw (exit_is c.from_residual-in_err-long_enough.ensures.1)
     (answer_checks _ _ _ _ _ (sym c.in_ok-case.ensures.outcome)
     (short_stop _ _ _ _ _ _ _ c.in_ok-rates.ensures.outcome c.in_ok-check_phase.ensures _ c.in_ok-m.ensures c.in_ok-check_limit.ensures _ c.in_err-long_enough.ensures))
 

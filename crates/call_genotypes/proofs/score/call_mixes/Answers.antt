@@ -10,4 +10,4 @@ returns c w =
     let g = read_back w64 _ c.gap-g.type_inv ∙ c.gap-g.ensures.0 in
     let t = read_back w64 _ c.turned.type_inv ∙ c.turned.ensures.0 in
     let d = read_back w64 _ c.distance-d.type_inv ∙ c.distance-d.ensures in
-    c.mixes_of.ensures w ∙ rw (d, c.likelihood_at-b.ensures, c.likelihood_at.ensures, t, g)
+    c.mixes_of.ensures w ∙ rw (d, c.at-read.ensures.0, c.at-read.ensures.1, t, g)

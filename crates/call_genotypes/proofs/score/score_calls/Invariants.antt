@@ -6,4 +6,4 @@ use Rattle.call_genotypes.proofs.Fours.{Summing}
 use Rattle.call_genotypes.proofs.score.score_calls.Given as goal
 
 abbrev pub invariant-loop-word : goal.invariant-loop-word
-invariant-loop-word l = Summing (row_mixes l.turns l.lik) (row_at l.pile) 0 (length l.pile) l.word-index l.acc
+invariant-loop-word l = Summing (row_mixes l.turns l.standing.lik.now) (row_at l.pile) 0 (length l.pile) l.word-index l.of

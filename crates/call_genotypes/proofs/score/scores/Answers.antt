@@ -10,10 +10,11 @@ score_calls-sums-requires-clause-pile_fits c =
     let S = c.requires.some.holds in
     c.pile.ensures.rows_in _ _ (pile_fits S.standing.held c.args.v S.v_in S.standing.liks)
 
+pub invariant_of-score_calls : goal.invariant_of-score_calls
+invariant_of-score_calls c = let S = c.requires.some.holds in record { within = lik_within S.standing.held _ _ S.standing.liks }
+
 pub score_calls-sums-requires-clause-within : goal.score_calls-sums-requires-clause-within
-score_calls-sums-requires-clause-within c =
-    let S = c.requires.some.holds in
-    (lik_within S.standing.held _ _ S.standing.liks, λ i. rw (c.turns_of-turns.ensures i) (turn_small _ _ _ i))
+score_calls-sums-requires-clause-within c = λ i. rw (c.turns_of-turns.ensures i) (turn_small _ _ _ i)
 
 pub below_first-base-requires : goal.below_first-base-requires
 below_first-base-requires c =
@@ -23,5 +24,5 @@ below_first-base-requires c =
 
 pub returns : goal.returns
 returns c C S =
-    scored S c.pile.result.now c.pair_at-old.result _ c.turns_of-turns.result c.score_calls-sums.result.acc _ _ c.pile.ensures c.pair_at-old.ensures (search rules) c.turns_of-turns.ensures c.score_calls-sums.ensures
+    scored S c.pile.result.now c.pair_at-old.result _ c.turns_of-turns.result c.score_calls-sums.result.of _ _ c.pile.ensures c.pair_at-old.ensures (search rules) c.turns_of-turns.ensures c.score_calls-sums.ensures
     (read_back w64 _ c.below_first-base.type_inv ∙ c.below_first-base.ensures.0) c.write_scores.ensures

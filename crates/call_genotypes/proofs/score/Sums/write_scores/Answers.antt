@@ -32,4 +32,4 @@ pub returns : goal.returns
 returns c =
     let e : c.loop-i.i ≡ c.args.k = omega arith in
     writing_end _ _ _ _ _ _ c.loop-i.invariant (rw e (omega arith))
-    ∙ ap (λ (base : ℤ). sets c.args.post.now (9 * c.args.v) (scores_of c.args.pri.now c.args.self.now.acc base c.args.v c.args.k)) (to_z-of_z c.ranges.base)
+    ∙ ap (λ (base : ℤ). sets c.args.post.now (9 * c.args.v) (scores_of c.args.pri.now c.args.self.now.of base c.args.v c.args.k)) (to_z-of_z c.ranges.base)

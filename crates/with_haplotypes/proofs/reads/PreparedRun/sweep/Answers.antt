@@ -11,16 +11,31 @@ invariant_of-rows c =
     let a = rows_asked G c.requires.prepared c.requires.state _ c.requires.state.good_start G.ph_long in
     record { calls_in = a.0; ends_in = a.1 }
 
+pub invariant_of-phased_total : goal.invariant_of-phased_total
+invariant_of-phased_total c =
+    let G = c.args.self.now.reads.given in
+    let P = c.requires.prepared in
+    let S = c.requires.state in
+    record { within = (standing_asks G P S S.good_start (liks_here G P S c.write_likelihoods.ensures)).1 }
+
 pub phased_total-start-requires : goal.phased_total-start-requires
 phased_total-start-requires c =
     let G = c.args.self.now.reads.given in
     let P = c.requires.prepared in
     let S = c.requires.state in
-    record { priors_in = priors_asked G P S _ S.good_start G.ph_long; liks_in = standing_asks G P S S.good_start (liks_here G P S c.write_likelihoods.ensures) }
+    record { priors_in = priors_asked G P S _ S.good_start G.ph_long; liks_few = (standing_asks G P S S.good_start (liks_here G P S c.write_likelihoods.ensures)).0 }
 
 pub run_sweeps-r-requires : goal.run_sweeps-r-requires
 run_sweeps-r-requires c =
     record { some = record { case = _; holds = begins c.args.self.now.reads.given c.requires.prepared c.requires.state c.write_likelihoods.ensures } }
+
+pub invariant_of-phased_total-2 : goal.invariant_of-phased_total-2
+invariant_of-phased_total-2 c =
+    let G = c.args.self.now.reads.given in
+    let P = c.requires.prepared in
+    let S = c.requires.state in
+    let R = c.run_sweeps-r.ensures _ (begins G P S c.write_likelihoods.ensures) in
+    record { within = (standing_asks G P S (left_good G P S R) R.liks).1 }
 
 pub phased_total-end-requires : goal.phased_total-end-requires
 phased_total-end-requires c =
@@ -29,7 +44,7 @@ phased_total-end-requires c =
     let S = c.requires.state in
     let R = c.run_sweeps-r.ensures _ (begins G P S c.write_likelihoods.ensures) in
     let g = left_good G P S R in
-    record { priors_in = priors_asked G P S _ g G.ph_long; liks_in = standing_asks G P S g R.liks }
+    record { priors_in = priors_asked G P S _ g G.ph_long; liks_few = (standing_asks G P S g R.liks).0 }
 
 pub source_total-source-requires : goal.source_total-source-requires
 source_total-source-requires c =
