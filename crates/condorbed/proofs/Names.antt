@@ -5,6 +5,7 @@ use mathlib.Core.Bool.{false≢true}
 use Rattle.std.specs.Str.{IsUtf8, IsAscii}
 use Rattle.std.proofs.lemmas.Str.{IsUtf8-from_ascii}
 use Rattle.std.proofs.lemmas.Str.Ascii.{IsAscii-nil, IsAscii-cons}
+use Rattle.protocol.proofs.Digits.{both}
 use Rattle.protocol.specs.Inner.Word.{pushed_bytes, word_of}
 use Rattle.condorbed.specs.Requests.{Row, requests, found, same_bytes, asked_by}
 use Rattle.protocol.specs.declared.input.Reason.TheVariants.{Request}
@@ -34,11 +35,6 @@ all_short (r ∷ rs) = ltb (length r.name) 7 && all_short rs
 requests_short : all_short requests ≡ true
 unfolding all_short requests
 requests_short = refl
-
-both : (a b : Bool) → (a && b) ≡ true → (a ≡ true) × (b ≡ true)
-both true true h = (refl, refl)
-both true false h = absurd (false≢true h)
-both false b h = absurd (false≢true h)
 
 rows_same : (t : List ℕ) (rs : List Row) → all_short rs ≡ true → found (same_bytes (take 7 t)) rs ≡ found (same_bytes t) rs
 unfolding found all_short

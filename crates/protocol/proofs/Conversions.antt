@@ -4,6 +4,7 @@ use mathlib.Core.Bool.{false≢true, and-true}
 use Rattle.std.specs.Bool.{then_some}
 use Rattle.std.specs.Result.{result_ok}
 use lib.Signed.{mag}
+use Rattle.protocol.proofs.Digits.{both}
 use Rattle.protocol.specs.Inner.State.{has_digits, size, natural, is_natural, integral, signed_sizes, with_sign}
 use Rattle.protocol.specs.declared.number.Number.{Number}
 
@@ -32,11 +33,6 @@ either_false : (a b : Bool) → (a && b) ≡ false → (c : Bool) → (b ≡ fal
 either_false false b h c f = refl
 either_false true b h c f = f h
 
-both_true : (a b : Bool) → (a && b) ≡ true → (a ≡ true) × (b ≡ true)
-both_true true true h = (refl, refl)
-both_true true false h = absurd (false≢true h)
-both_true false b h = absurd (false≢true h)
-
 smaller : (v m k : ℕ) → k ≤ m → ltb v m ≡ false → ltb v k ≡ false
 smaller v m k l h = le-ltb v k (omega (arith, ltb-false v m h))
 
@@ -61,7 +57,7 @@ module _ {A : Type 0} (limit : ℕ) (value : ℕ → A) (s : Number) (low : limi
   unfolding natural
   narrow_some n h o found =
       let some = given (is_natural s && ltb (size s) (2 ^ 64)) h in
-      let whole : is_natural s ≡ true = (both_true (is_natural s) (ltb (size s) (2 ^ 64)) some.0).0 in
+      let whole : is_natural s ≡ true = (both (is_natural s) (ltb (size s) (2 ^ 64)) some.0).0 in
       rw (whole, ← some.1) (some_iff (n < limit) (value n) o (ltb n limit) (lt-ltb n limit) (ltb-true n limit) found)
 
 -- An unsigned type of the numbers below limit, as the conversion from a u64 gives it.
@@ -76,7 +72,7 @@ pub natural_fits : (s : Number) (n : ℕ) → Some n ≡ natural (2 ^ 64) (λ n.
 unfolding natural
 natural_fits s n h =
     let some = given (is_natural s && ltb (size s) (2 ^ 64)) h in
-    rw (some.1) (ltb-true (size s) (2 ^ 64) (both_true (is_natural s) (ltb (size s) (2 ^ 64)) some.0).1)
+    rw (some.1) (ltb-true (size s) (2 ^ 64) (both (is_natural s) (ltb (size s) (2 ^ 64)) some.0).1)
 
 -- The signed types, whose largest number is q: a size fits by its sign.
 module _ (q : ℕ) where
@@ -107,7 +103,7 @@ module _ (q : ℕ) where
   unfolding integral
   integral_fits s z h =
       let some = given (has_digits s && ltb (size s) (signed_sizes (suc q) s.negative)) h in
-      rw (some.1) (sizes_fit s.negative (size s) (both_true (has_digits s) (ltb (size s) (signed_sizes (suc q) s.negative)) some.0).1)
+      rw (some.1) (sizes_fit s.negative (size s) (both (has_digits s) (ltb (size s) (signed_sizes (suc q) s.negative)) some.0).1)
 
 -- Of the numbers up to p, what is one up to q.
 module _ (p q : ℕ) (low : q ≤ p) (s : Number) where
@@ -126,5 +122,5 @@ module _ (p q : ℕ) (low : q ≤ p) (s : Number) where
   unfolding integral
   shorten_some z h P to from o found =
       let some = given (has_digits s && ltb (size s) (signed_sizes (suc p) s.negative)) h in
-      let whole : has_digits s ≡ true = (both_true (has_digits s) (ltb (size s) (signed_sizes (suc p) s.negative)) some.0).0 in
+      let whole : has_digits s ≡ true = (both (has_digits s) (ltb (size s) (signed_sizes (suc p) s.negative)) some.0).0 in
       integral_is q s whole z some.1 P to from o found
