@@ -5,7 +5,7 @@ ghost use Rattle.protocol.specs.Text.{int_of};
 ghost use Rattle.protocol.specs.Inner.State.{length_of, pushed_on};
 ghost use Rattle.protocol.specs.Inner.Word.{word_of};
 ghost use Rattle.protocol.specs.declared.TheConstants.{BUFFER_BYTES};
-ghost use Rattle.protocol.specs.Inner.Input.{after_token, ahead, line_after, line_below, next_token, unreadable_at};
+ghost use Rattle.protocol.specs.Inner.Input.{after_token, ahead, line_after, line_below, next_token, reason_text, unreadable_at};
 
 use crate::from_token::FromToken;
 use crate::number::{Number, is_space, opens_comment};
@@ -26,7 +26,10 @@ pub enum Reason {
 
 impl Reason {
     // The reason's word in the program's answer.
-    pub fn text(self) -> &'static [u8] {
+    #[tactic(auto, unfolding(crate::specs::Inner::Input::reason_text))]
+    pub fn text(self) -> &'static [u8]
+        ensures { result.now ≡ reason_text self }
+    {
         match self {
             Reason::Request => b"request",
             Reason::Number => b"number",

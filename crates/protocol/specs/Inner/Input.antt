@@ -1,7 +1,8 @@
 -- Where the reading stands: the bytes that may still be read, the lines, and the number of a token. Assumes nothing.
-use Rattle.std.specs.Prelude.{ℕ, suc, ◌+◌, ◌%◌, ◌^◌, cond, Option, Some, None, ◌==◌}
+use Rattle.std.specs.Prelude.{ℕ, suc, ◌+◌, ◌%◌, ◌^◌, cond, Option, Some, None, ◌==◌, List, [], ◌∷◌}
 use Rattle.protocol.specs.declared.input.Place.{Place}
 use Rattle.protocol.specs.declared.input.Reason.{Reason}
+use Rattle.protocol.specs.declared.input.Reason.TheVariants.{Request, Number, Length, End}
 use Rattle.protocol.specs.declared.input.Unreadable.{Unreadable}
 
 -- the bytes that may still be read after a byte and one more, or 0 at the end
@@ -29,3 +30,10 @@ after_token token line ended = record { line = line; below = line_below line end
 -- the token at a place, which cannot be read
 abbrev pub unreadable_at : Place → Reason → Unreadable
 unreadable_at p reason = record { line = p.line; token = p.token; reason = reason }
+
+-- the word of a reason: request, number, length, end
+unfoldable pub reason_text : Reason → List ℕ
+reason_text Request = 114 ∷ 101 ∷ 113 ∷ 117 ∷ 101 ∷ 115 ∷ 116 ∷ []
+reason_text Number = 110 ∷ 117 ∷ 109 ∷ 98 ∷ 101 ∷ 114 ∷ []
+reason_text Length = 108 ∷ 101 ∷ 110 ∷ 103 ∷ 116 ∷ 104 ∷ []
+reason_text End = 101 ∷ 110 ∷ 100 ∷ []
