@@ -145,6 +145,7 @@ impl ReadRows<'_, '_> {
     }
 
     // Writes the two likelihoods of each read. At the loop's head those of the first f are written.
+    #[tactic(auto, unfolding(variants_and_fragments::specs::Written::written))]
     pub fn write_likelihoods(&self, lik: &mut [i64])
         requires { 2 * length self.now.rows.ends.now ≤ length lik.old }
         ensures { lik.new ≡ written (likelihood_at self.now.rows.words.now self.now.rows.ends.now self.now.on.hap.now self.now.on.mask.now) (2 * length self.now.rows.ends.now) lik.old }

@@ -1,5 +1,5 @@
 // The sweeps from given haplotypes, and the totals before and after them.
-ghost use Rattle.std.specs.Prelude.{◌≡◌, ◌/◌, ◌^◌, ◌≤◌, length, replicate};
+ghost use Rattle.std.specs.Prelude.{◌≡◌, ◌/◌, ◌≤◌, length, replicate};
 ghost use Rattle.pileup.specs.Inner.Packed.{group_start};
 ghost use Rattle.sweeps.specs.Sweeps.{total_of};
 ghost use Rattle.likelihoods.specs.Inner.Likelihoods.{CallsIn, EndsIn, flagged};

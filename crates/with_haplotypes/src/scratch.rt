@@ -25,7 +25,8 @@ const PRIORS: usize = 9 * MAX_VARIANTS;
 const FEW_PRIORS: usize = 9 * FEW_VARIANTS;
 
 impl RunReads<'_> {
-    // The run with scratch of these lengths; NINE is a parameter too, since no const argument is computed. Ambiguous calls are counted nowhere: a run does not read them.
+    // The run with scratch of these lengths; NINE is a parameter too, since no const argument is computed. Ambiguous calls are counted nowhere: a run
+    // does not read them.
     fn run_in<
         const RECORDS: usize,
         const FRAGMENTS: usize,

@@ -1,14 +1,10 @@
 -- The two likelihoods of one more read are written. Assumes nothing.
-use Rattle.std.proofs.Common.{◌≡◌, ◌+◌, ◌*◌, refl, sym, ap, ◌∙◌, arith}
+use Rattle.std.proofs.Common.{◌≡◌, ◌+◌, ◌*◌, sym, ap, ◌∙◌, arith}
 use Rattle.variants_and_fragments.specs.Written.{written}
 use Rattle.variants_and_fragments.proofs.Written.{written_on}
 use Rattle.likelihoods.specs.Inner.Likelihoods.{likelihood_at}
 use Rattle.likelihoods.proofs.CallShares.{likelihood_first, likelihood_second}
 use Rattle.likelihoods.proofs.likelihoods.ReadRows.write_likelihoods.Goals as goal
-
-pub loop-f-init : goal.loop-f-init
-unfolding written
-loop-f-init c = refl
 
 pub loop-f-preserved : goal.loop-f-preserved
 loop-f-preserved c =
