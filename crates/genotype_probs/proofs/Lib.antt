@@ -1,4 +1,3 @@
-pub mod Filled
 pub mod NinePlaces
 pub mod Numbers
 pub mod Comparisons
