@@ -4,18 +4,14 @@ use mathlib.Core.Path.{◌≡◌, refl, sym, ap}
 use mathlib.Core.Logic.{◌⊎◌, ⊎_elim}
 use mathlib.Core.Bool.{Bool, true, false, cond}
 use borrow.Author.Tests.{eq-eqb, ne_eqb}
-use mathlib.Core.List.{[], ◌∷◌}
-use Prim.Native.Nat.{ℕ, ◌/◌, ◌%◌, ◌<◌}
-use native.Mathlib.Omega.{arith}
-use lib.ListN.{get_or}
 use lib.Dec.{eqb}
 use lib.IntN.{ℤ, ◌+ℤ◌}
 use Rattle.genotype_probs.specs.declared.Rates.{Rates}
 use Rattle.genotype_probs.specs.Rates.{hom_snv_rate, het_snv_rate, hom_indel_rate, het_indel_rate, ts_rate, tv_rate, rate_sum}
-use Rattle.genotype_probs.specs.Letters.{Base, A, C, G, T, Letter, base, D, I, base_number, letter_number, same_letter, transition_of, Change, same, transition, transversion, indel, change}
+use Rattle.genotype_probs.specs.Letters.{Base, Letter, base, D, I, base_number, letter_number, same_letter, transition_of, Change, same, transition, transversion, indel, change}
 use Rattle.genotype_probs.specs.Priors.{ln_half, ln_quarter, one_minus_exp, haploid, homozygous, diploid}
-use Rattle.genotype_probs.specs.Inner.PriorTable.{letter_value, table_entry}
-use Rattle.genotype_probs.proofs.Numbers.{base_one, letter_one, base_listed, letter_listed}
+use Rattle.genotype_probs.specs.Inner.PriorTable.{letter_value}
+use Rattle.genotype_probs.proofs.Numbers.{base_one, letter_one}
 
 -- ---- what a base is beside the reference base
 module _ (ref : Base) where
@@ -70,9 +66,3 @@ module _ (rates : Rates) where
     pub entry_two : (first ≡ second → ⊥) → haploid rates (change ref first) +ℤ haploid rates (change ref second) ≡ diploid rates ref first second
     unfolding diploid same_letter
     entry_two n = rw (ne_eqb (letter_number first) (letter_number second) (λ e. n (letter_one first second e)))
-
--- the entry of a number, by the code's lists of bases and letters
-pub entry_listed : (rates : Rates) (i : ℕ) (b : Base) (x y : Letter) → i < 144
-    → diploid rates (get_or (A ∷ C ∷ G ∷ T ∷ []) (i / 36) b) (get_or (base A ∷ base C ∷ base G ∷ base T ∷ D ∷ I ∷ []) (i / 6 % 6) x) (get_or (base A ∷ base C ∷ base G ∷ base T ∷ D ∷ I ∷ []) (i % 6) y) ≡ table_entry rates i
-unfolding table_entry
-entry_listed rates i b x y h = rw (base_listed (i / 36) b (omega arith), letter_listed (i / 6 % 6) x (omega arith), letter_listed (i % 6) y (omega arith))

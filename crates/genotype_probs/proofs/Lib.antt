@@ -1,3 +1,4 @@
+pub mod Filled
 pub mod NinePlaces
 pub mod Numbers
 pub mod Comparisons

@@ -37,17 +37,17 @@ letter_there (base T) = refl
 letter_there D = refl
 letter_there I = refl
 
--- the base and the letter of a number stand in the code's lists there
-pub base_listed : (i : ℕ) (d : Base) → i < 4 → get_or (A ∷ C ∷ G ∷ T ∷ []) i d ≡ numbered_base i
-unfolding numbered_base
+-- the bases and the letters stand in the code's lists at their numbers
+pub base_listed : (i : ℕ) (d : Base) → i < 4 → base_number (get_or (A ∷ C ∷ G ∷ T ∷ []) i d) ≡ i
+unfolding base_number
 base_listed zero d h = refl
 base_listed (suc zero) d h = refl
 base_listed (suc (suc zero)) d h = refl
 base_listed (suc (suc (suc zero))) d h = refl
 base_listed (suc (suc (suc (suc n)))) d h = absurd (omega arith)
 
-pub letter_listed : (i : ℕ) (d : Letter) → i < 6 → get_or (base A ∷ base C ∷ base G ∷ base T ∷ D ∷ I ∷ []) i d ≡ numbered_letter i
-unfolding numbered_letter
+pub letter_listed : (i : ℕ) (d : Letter) → i < 6 → letter_number (get_or (base A ∷ base C ∷ base G ∷ base T ∷ D ∷ I ∷ []) i d) ≡ i
+unfolding letter_number base_number
 letter_listed zero d h = refl
 letter_listed (suc zero) d h = refl
 letter_listed (suc (suc zero)) d h = refl

@@ -4,7 +4,7 @@ ghost use Rattle.std.specs.Int.Signed.{lt_z};
 ghost use Rattle.genotype_probs.specs.Rates.{het_snv_rate, het_indel_rate, ts_rate, tv_rate, rate_sum};
 ghost use Rattle.genotype_probs.specs.Letters.{base_number, letter_number, transition_of, change};
 ghost use Rattle.genotype_probs.specs.Priors.{ln_half, ln_quarter, one_minus_exp, diploid};
-ghost use Rattle.genotype_probs.specs.Inner.PriorTable.{letter_value, prior_table, table_value};
+ghost use Rattle.genotype_probs.specs.Inner.PriorTable.{letter_value, RowMade, RowsMade, TableMade, prior_table, table_value};
 
 use crate::letters::{BASES, Base, LETTERS, Letter};
 use crate::{AcceptedRates, Rates};
@@ -68,6 +68,18 @@ fn letter_value(
     }
 }
 
+// The entries of a reference base and a first letter, by the second.
+#[derive(Clone, Copy)]
+pub struct Row {
+    pub entries: [LogProb; 6],
+}
+
+// The entries of a reference base, by the first letter.
+#[derive(Clone, Copy)]
+pub struct Rows {
+    pub rows: [Row; 6],
+}
+
 // What the table is made from: accepted rates, and the haploid and the diploid value of the reference base.
 #[derive(Clone, Copy)]
 struct Values {
@@ -110,15 +122,42 @@ impl Values {
         );
         LogProb(a.0 + b.0)
     }
+
+    // The entries of a reference base and a first letter, by the second.
+    fn row(&self, base: Base, first: Letter) -> Row
+        ensures { RowMade self.now.rates.rates base first result }
+    {
+        let mut row = Row {
+            entries: [LogProb(0); 6],
+        };
+        for second in LETTERS {
+            row.entries[usize::from(second)] = self.entry(base, first, second);
+        }
+        row
+    }
+
+    // The entries of a reference base, by both letters.
+    fn rows(&self, base: Base) -> Rows
+        ensures { RowsMade self.now.rates.rates base result }
+    {
+        let mut rows = Rows {
+            rows: [Row {
+                entries: [LogProb(0); 6],
+            }; 6],
+        };
+        for first in LETTERS {
+            rows.rows[usize::from(first)] = self.row(base, first);
+        }
+        rows
+    }
 }
 
-// The table of accepted rates: for each reference base the 36 pairs of letters, one after the other. With a row of its own for each first letter the
-// priors of the largest case take 66 µs beside the check, and 59 so.
+// The table of accepted rates, by reference base, first letter and second letter.
 #[derive(Drop)]
 pub struct PriorTable {
     pub rates: AcceptedRates,
-    pub entries: [i64; 144],
-    pub ghost made: { entries ≡ prior_table rates.rates },
+    pub bases: [Rows; 4],
+    pub ghost made: { TableMade rates.rates bases },
 }
 
 impl PriorTable {
@@ -126,12 +165,15 @@ impl PriorTable {
         ensures { result.rates ≡ rates }
     {
         let values = Values::of(rates);
-        let mut entries = [0i64; 144];
-        for i in 0..144 {
-            let base = BASES[i / 36];
-            entries[i] = values.entry(base, LETTERS[i / 6 % 6], LETTERS[i % 6]).0;
+        let mut bases = [Rows {
+            rows: [Row {
+                entries: [LogProb(0); 6],
+            }; 6],
+        }; 4];
+        for base in BASES {
+            bases[usize::from(base)] = values.rows(base);
         }
-        PriorTable { rates, entries }
+        PriorTable { rates, bases }
     }
 
     // The prior of two letters at a reference base: −4096 where they differ.
@@ -140,10 +182,10 @@ impl PriorTable {
     {
         let x = usize::from(first);
         let y = usize::from(second);
-        let entry = self.entries[36 * usize::from(base) + 6 * x + y];
+        let entry = self.bases[usize::from(base)].rows[x].entries[y];
         if x == y {
-            return LogProb(entry);
+            return entry;
         }
-        LogProb(entry + ln_half().0)
+        LogProb(entry.0 + ln_half().0)
     }
 }

@@ -1,33 +1,17 @@
--- All entries are written.
-use Rattle.std.proofs.Common.{◌≡◌, pos, sym, ◌∙◌, arith, rules, length-set, w64, to_z, of_z}
-use native.Mathlib.Decide.{ℕ_discrete}
-use lib.Seq.{get_or-set_same, get_or-set_other}
-use lib.Seq.{ext_get_or}
-use Rattle.variants_and_fragments.specs.Decode.{tabulate}
-use Rattle.variants_and_fragments.proofs.Decoded.{tabulate_length, tabulate_at}
-use Rattle.genotype_probs.specs.Inner.PriorTable.{table_entry, prior_table}
-use Rattle.genotype_probs.proofs.Entries.{entry_listed}
+-- One base's rows more are written.
+use Rattle.std.proofs.Common.{◌∙◌, arith, length-set}
+use Rattle.genotype_probs.specs.Letters.{base_number}
+use Rattle.genotype_probs.specs.Inner.PriorTable.{RowsMade, no_rows}
+use Rattle.genotype_probs.proofs.Filled.{filled_on}
+use Rattle.genotype_probs.proofs.Numbers.{base_one, base_listed, base_low}
 use Rattle.genotype_probs.proofs.table.PriorTable.new.Goals as goal
 
-pub loop-i-preserved : goal.loop-i-preserved
-loop-i-preserved c =
-    let i = c.loop-i.i in
-    let entries = c.loop-i.entries in
-    let r : to_z w64 (of_z w64 c.entry.result.0) ≡ c.entry.result.0 = search rules in
-    let here = rw c.of-values.ensures at c.entry.ensures in (
-      length-set entries i _ ∙ c.loop-i.invariant.0,
-      λ k h. elim (ℕ_discrete k i) [
-        | yes e ↦ rw e (get_or-set_same entries i _ (pos 0) (omega (arith, c.loop-i.invariant.0, c.loop-i-test.true)) ∙ r ∙ here ∙ entry_listed c.args.rates.rates i _ _ _ c.loop-i-test.true)
-        | no n ↦ get_or-set_other entries i k _ (pos 0) n ∙ c.loop-i.invariant.1 k (omega arith)
-      ],
-    )
+pub loop-base-preserved : goal.loop-base-preserved
+loop-base-preserved c =
+    let i = c.loop-base.base-index in
+    let listed = base_listed i _ c.loop-base-test.true in
+    rw (c.from.ensures.0 ∙ listed)
+    (length-set c.loop-base.bases i _ ∙ c.loop-base.invariant.0, filled_on base_number (RowsMade c.args.rates.rates) no_rows c.loop-base.bases base_one _ c.rows.result listed (omega (arith, c.loop-base.invariant.0, c.loop-base-test.true)) (rw c.of-values.ensures at c.rows.ensures) c.loop-base.invariant.1)
 
 pub invariant_of-result : goal.invariant_of-result
-unfolding prior_table
-invariant_of-result c =
-    let g = table_entry c.args.rates.rates in
-    let n = tabulate_length 144 g in
-    record {
-      made = ext_get_or (pos 0) c.loop-i.entries (tabulate 144 g) (omega (arith, c.loop-i.invariant.0))
-          (λ k h. c.loop-i.invariant.1 k (omega (arith, c.loop-i.invariant.0)) ∙ sym (tabulate_at 144 g k (pos 0) (omega (arith, c.loop-i.invariant.0))));
-    }
+invariant_of-result c = record { made = record { bases_are = λ ref. c.loop-base.invariant.1 ref (omega (arith, base_low ref, c.loop-base-test.false)) } }

@@ -1,7 +1,9 @@
--- The first i entries are written.
-use Rattle.std.proofs.Common.{◌≡◌, ℕ, ◌<◌, length, get_or, pos}
-use Rattle.genotype_probs.specs.Inner.PriorTable.{table_entry}
+-- The rows of the bases before the index are written.
+use Rattle.std.proofs.Common.{◌≡◌, length}
+use Rattle.genotype_probs.specs.Letters.{base_number}
+use Rattle.genotype_probs.specs.Inner.PriorTable.{RowsMade, no_rows}
+use Rattle.genotype_probs.proofs.Filled.{FilledTo}
 use Rattle.genotype_probs.proofs.table.PriorTable.new.Given as goal
 
-abbrev pub invariant-loop-i : goal.invariant-loop-i
-invariant-loop-i l = (length l.entries ≡ 144) × ((k : ℕ) → k < l.i → get_or l.entries k (pos 0) ≡ table_entry l.rates.rates k)
+abbrev pub invariant-loop-base : goal.invariant-loop-base
+invariant-loop-base l = (length l.bases ≡ 4) × FilledTo base_number (RowsMade l.rates.rates) no_rows l.base-index l.bases
