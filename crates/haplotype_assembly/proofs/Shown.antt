@@ -15,7 +15,7 @@ use Rattle.variants_and_fragments.specs.Inner.Case.{All, end, also}
 use Rattle.variants_and_fragments.specs.Pileup.{Row}
 use Rattle.variants_and_fragments.proofs.Alls.{all_from}
 use Rattle.pileup.specs.declared.row.Row.{Row as RowHeld}
-use Rattle.pileup.specs.Inner.Packed.{held_row, RowIn, unpacked, row_at, rows_at, group_start, group_words, GroupThere}
+use Rattle.pileup.specs.Inner.Packed.{held_row, RowIn, unpacked, row_at, rows_at, group_start, group_words}
 use Rattle.haplotype_assembly.specs.Inner.PhaseRead.{rule_at}
 use Rattle.haplotype_assembly.specs.Inner.LinesRead.{shown_calls, shown_at, LinesGiven, call_of, ShownIn}
 
@@ -82,9 +82,6 @@ rows_slice words (suc n) a h = let l : a < length words = omega arith in rw (dro
 
 -- what a fragment's line shows, off the words of its rows
 module _ {s : Sizes} {rows ends : List ℕ} (g : LinesGiven s rows ends) (f : ℕ) (h : f < s.f) where
-  pub group_there : GroupThere ends rows f
-  group_there = record { g_in = omega (arith, g.ends_long); rises = g.rises f h; long = omega (arith, (g.rows_in f h).long) }
-
   words_are : rows_at rows (group_start ends f) (get_or ends f 0) ≡ map unpacked (group_words ends rows f)
   words_are = rows_slice rows (get_or ends f 0 - group_start ends f) (group_start ends f) (omega (arith, g.rises f h, (g.rows_in f h).long))
 

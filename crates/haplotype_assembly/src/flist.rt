@@ -51,7 +51,7 @@ impl<'a> Iterator for ShownCalls<'a> {
     }
 }
 
-// What the lines of a case are made from: its rows, where those of each fragment end, and whether one shown call makes a line.
+// What the lines of a case are made from: its rows, fragment after fragment, and whether one shown call makes a line.
 #[derive(Clone, Copy)]
 pub struct Flist<'a> {
     pub case: CaseWords<'a>,

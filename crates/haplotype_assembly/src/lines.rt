@@ -92,7 +92,8 @@ pub struct Head {
     pub strand: usize,
 }
 
-// The byte of a strand: '+' where it is a reverse one.
+// The byte of a strand: '+' where it is a reverse one. The direction is a number, as the place of a count is reckoned from it (late_reads), so that an
+// enum would be turned back there.
 #[tactic(auto, unfolding(crate::specs::Lines::strand_byte))]
 pub fn strand_byte(strand: usize) -> u8
     ensures { result ≡ strand_byte strand }

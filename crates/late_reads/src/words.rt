@@ -82,7 +82,8 @@ fn lay_calls(words: &mut [i32], s: Sizes, read: &Arrival<'_>) -> RoomLeft
     left
 }
 
-// Writes an arrival: its calls' records, its fragment's first call and strand, how many records are used and the first free one.
+// Writes an arrival: its calls' records, its fragment's first call and strand, how many records are used and the first free one. The first call is the
+// word that is written, 0 for none, as in `RoomLeft`.
 pub fn lay_arrival(words: &mut [i32], s: Sizes, read: &Arrival<'_>)
     requires case_in { CaseIn words.old s }
     requires arriving { Arriving words.old s read.now.fragment read.now.strand read.now.calls.now }

@@ -1,5 +1,5 @@
 -- A record is counted for each call, while there is one.
-use Rattle.std.proofs.Common.{◌≡◌, ◌+◌, ◌-◌, ◌≤◌, ◌<◌, suc, length, sym, ◌∙◌, arith, le-leb}
+use Rattle.std.proofs.Common.{◌≡◌, ◌+◌, ◌-◌, ◌<◌, suc, length, sym, ◌∙◌, arith}
 use Rattle.std.proofs.lemmas.Bool.{lt-leb}
 use Rattle.variants_and_fragments.specs.Chain.{free_chain}
 use Rattle.variants_and_fragments.proofs.Free.{free_linked}
@@ -39,9 +39,3 @@ loop-i-preserved c =
       omega (arith, p, c.loop-i.auto.i, room_length case.laid.words.now s),
       c.next_call-r.ensures ∙ rw (c.loop-i.invariant.1, e) (linked_next (free_linked case.case_in) _ p),
     )
-
-pub returns : goal.returns
-returns c =
-    let case = c.args.case.now in
-    let enough : c.args.m ≤ length (room case.laid.words.now case.laid.sizes) = omega (arith, c.loop-i.invariant.0, c.loop-i-test.false) in
-    sym (le-leb _ _ enough)

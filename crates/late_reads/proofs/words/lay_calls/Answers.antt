@@ -93,12 +93,3 @@ loop-i-preserved c =
           ∙ same_put c.args.s c.loop-i.invariant.laid (front_is at.After-front-r) c.call_words.ensures (next_is at.Joined-i-m (rest_is at.After-rest-left))
           ∙ laid_more c.args.words.now c.args.s calls (taken c.args.words.now c.args.s (whole_calls calls)) c.loop-i.i;
     }
-
-pub returns : goal.returns
-returns c =
-    let calls = c.args.read.now.calls.now in
-    let e : c.loop-i.i ≡ whole_calls calls = omega (arith, c.count-m.ensures) in
-    record {
-      words_after = c.loop-i.invariant.laid ∙ ap (calls_laid c.args.words.now c.args.s calls (taken c.args.words.now c.args.s (whole_calls calls))) e;
-      value = c.loop-i.invariant.left_is ∙ ap (left_at c.args.words.now c.args.s) e;
-    }

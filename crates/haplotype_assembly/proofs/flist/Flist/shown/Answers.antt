@@ -1,11 +1,8 @@
 -- The words of the fragment's rows.
 use Rattle.std.proofs.Common.{map, arith}
 use Rattle.pileup.specs.Inner.Packed.{unpacked, group_words}
-use Rattle.haplotype_assembly.proofs.Shown.{shown_in, shown_few, group_there, rows_all, shown_words, words_few}
+use Rattle.haplotype_assembly.proofs.Shown.{shown_in, shown_few, rows_all, shown_words, words_few}
 use Rattle.haplotype_assembly.proofs.flist.Flist.shown.Goals as goal
-
-pub group-requires : goal.group-requires
-group-requires c = group_there c.args.self.now.lines_given c.args.f c.requires
 
 pub invariant_of-result : goal.invariant_of-result
 invariant_of-result c = rw c.group.ensures (rows_all c.args.self.now.lines_given c.args.f c.requires)
