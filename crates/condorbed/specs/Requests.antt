@@ -1,23 +1,24 @@
 -- Which request a token names: the protocol's table of requests. Assumes nothing.
-use Rattle.std.specs.Prelude.{Bool, true, false, cond, ◌&&◌, List, [], ◌∷◌, ℕ, Result, Ok, Err, eqb}
+use Rattle.std.specs.Prelude.{Bool, true, false, cond, ◌&&◌, List, [], ◌∷◌, ℕ, Option, Some, None, Result, Ok, Err, eqb}
 use Rattle.condorbed.specs.declared.requests.Operation.{Operation}
 use Rattle.condorbed.specs.declared.requests.Operation.TheVariants.{Check, Filter, Priors, Orders, Phase, Flist, Nohap, Run, Arrive, Depart}
 use Rattle.protocol.specs.declared.input.Reason.{Reason}
 use Rattle.protocol.specs.declared.input.Reason.TheVariants.{Request}
 
--- a token, byte by byte, and what it asks for
+-- a token, byte by byte, and what it asks for: an operation, or none at the end
 pub record Row : Type 0 where
   pub name : List ℕ
-  pub asks : Operation
+  pub asks : Option Operation
 
 abbrev row : List ℕ → Operation → Row
-row name operation = record { name = name; asks = operation }
+row name operation = record { name = name; asks = Some operation }
 
--- the requests' words
+-- the requests' words, and no bytes, as which the end of the input reads
 unfoldable pub requests : List Row
 requests =
+    record { name = []; asks = None }
     -- check
-    row (99 ∷ 104 ∷ 101 ∷ 99 ∷ 107 ∷ []) Check
+    ∷ row (99 ∷ 104 ∷ 101 ∷ 99 ∷ 107 ∷ []) Check
     -- filter
     ∷ row (102 ∷ 105 ∷ 108 ∷ 116 ∷ 101 ∷ 114 ∷ []) Filter
     -- priors
@@ -39,7 +40,7 @@ requests =
     ∷ []
 
 -- what the first of these rows asks for whose name passes the test; where none does, no request
-unfoldable pub found : (List ℕ → Bool) → List Row → Result Operation Reason
+unfoldable pub found : (List ℕ → Bool) → List Row → Result (Option Operation) Reason
 found test [] = Err Request
 found test (r ∷ rs) = cond (test r.name) (Ok r.asks) (found test rs)
 
@@ -51,5 +52,5 @@ same_bytes (x ∷ xs) [] = false
 same_bytes (x ∷ xs) (y ∷ ys) = eqb x y && same_bytes xs ys
 
 -- what a token asks for
-unfoldable pub asked_by : List ℕ → Result Operation Reason
+unfoldable pub asked_by : List ℕ → Result (Option Operation) Reason
 asked_by token = found (same_bytes token) requests

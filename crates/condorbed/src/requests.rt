@@ -1,6 +1,6 @@
 // Which operation a request's word asks for, and the loop over the requests.
 //
-// One request more: its word in `Operation` and its `try_from`, with a row in specs/Requests.antt; the lengths of its arrays in
+// One request more: its word in `Operation` and `named`, with a row in specs/Requests.antt; the lengths of its arrays in
 // arrays.rt; an arm in `answer`; and a file as orders.rt, whose `answer` reads the parts after the case and lends
 // the fronts of the arrays, calls the operation, and prints the first line and one line for each output slice.
 ghost use Rattle.std.specs.Prelude.{◌≡◌, ℕ, ◌<◌, List, length, Ok, IfOk, IfSome};
@@ -34,43 +34,40 @@ pub struct Request<'a> {
     pub bases: &'a [u8],
 }
 
-// The operation that a word asks for.
-impl TryFrom<&[u8]> for Operation {
-    type Error = Reason;
-
-    ghost try_from_gives = { λ word result. result ≡ asked_by word.now };
-
-    #[tactic(auto, unfolding(crate::specs::Requests::asked_by, crate::specs::Requests::found, crate::specs::Requests::requests, crate::specs::Requests::same_bytes))]
-    fn try_from(word: &[u8]) -> Result<Operation, Reason> {
-        let Ok(text) = std::str::from_utf8(word) else {
-            return Err(Reason::Request);
-        };
-        match text {
-            "check" => Ok(Operation::Check),
-            "filter" => Ok(Operation::Filter),
-            "priors" => Ok(Operation::Priors),
-            "orders" => Ok(Operation::Orders),
-            "phase" => Ok(Operation::Phase),
-            "flist" => Ok(Operation::Flist),
-            "nohap" => Ok(Operation::Nohap),
-            "run" => Ok(Operation::Run),
-            "arrive" => Ok(Operation::Arrive),
-            "depart" => Ok(Operation::Depart),
-            _ => Err(Reason::Request),
-        }
+// What a word asks for: an operation, or none where there is no word, at the end of the input. No `TryFrom`: that of no bytes would be no operation.
+#[tactic(auto, unfolding(crate::specs::Requests::asked_by, crate::specs::Requests::found, crate::specs::Requests::requests, crate::specs::Requests::same_bytes))]
+fn named(word: &[u8]) -> Result<Option<Operation>, Reason>
+    ensures { result ≡ asked_by word.now }
+{
+    let Ok(text) = std::str::from_utf8(word) else {
+        return Err(Reason::Request);
+    };
+    match text {
+        "" => Ok(None),
+        "check" => Ok(Some(Operation::Check)),
+        "filter" => Ok(Some(Operation::Filter)),
+        "priors" => Ok(Some(Operation::Priors)),
+        "orders" => Ok(Some(Operation::Orders)),
+        "phase" => Ok(Some(Operation::Phase)),
+        "flist" => Ok(Some(Operation::Flist)),
+        "nohap" => Ok(Some(Operation::Nohap)),
+        "run" => Ok(Some(Operation::Run)),
+        "arrive" => Ok(Some(Operation::Arrive)),
+        "depart" => Ok(Some(Operation::Depart)),
+        _ => Err(Reason::Request),
     }
 }
 
 impl Operation {
     // The operation that the next request asks for; none at the end of the input.
     fn next(reader: &mut Reader) -> Result<Option<Operation>, Unreadable>
-        ensures { IfOk result (λ next. IfSome next (λ operation. (token : List ℕ) × (0 < length token) × (asked_by token ≡ Ok operation))) }
+        ensures { IfOk result (λ next. (token : List ℕ) × (asked_by token ≡ Ok next)) }
     {
         let Some(word) = reader.word() else {
             return Ok(None);
         };
-        match Operation::try_from(word.as_slice()) {
-            Ok(operation) => Ok(Some(operation)),
+        match named(word.as_slice()) {
+            Ok(next) => Ok(next),
             Err(reason) => Err(reader.unreadable(reason)),
         }
     }

@@ -76,8 +76,8 @@ pub const MAX_ALLELE_LENGTH: usize = 64;
 
 pub const LOWEST_QUALITY: i32 = -262144;
 
-// The last strand, and the first one of muted fragments: 2 forward, 3 reverse. A number and no enum: the
-// words, the rows and the place of a count (3 · (1 + direction)) have it as one.
+// The last strand, and the first one of muted fragments: 2 forward, 3 reverse. A number and no enum: it is
+// so in the words, and the place of a count is reckoned from it (3 · (1 + direction)).
 pub const MAX_STRAND: usize = 3;
 
 pub const MUTED: usize = 2;
@@ -136,6 +136,8 @@ pub fn cutoff_ok(words: &[i32]) -> bool
     is_quality(words[CUTOFF])
 }
 
+// That N is within its bound is a clause here, and below: Sizes are what the head says, and read before they are checked.
+
 // How many words a case of these sizes has.
 pub fn total_words(s: Sizes) -> usize
     requires { (s.n ≤ max_variants) × (s.f ≤ max_fragments) × (s.c ≤ max_calls) }
@@ -190,7 +192,7 @@ pub fn direction_of(strand: usize) -> usize
 
 // ---- the readings of a case's words
 
-// A record is a usize, and 1 ≤ r ≤ C a clause: a type of records would ask more of a caller, who has a word's number.
+// A record is a usize, and 1 ≤ r ≤ C a clause: in a type of records each step of a walk would wrap a word's number, and its reader take it out at once.
 impl Laid<'_> {
     // The cutoff.
     pub fn cutoff(&self) -> i32
