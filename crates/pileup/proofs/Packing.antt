@@ -2,7 +2,7 @@
 -- Assumes nothing.
 use mathlib.Core.Path.{◌≡◌, refl, sym, ap, ◌∙◌}
 use Prim.Native.Nat.{ℕ, zero, suc, ◌+◌, ◌*◌, ◌-◌, ◌/◌, ◌%◌, ◌≤◌}
-use native.Mathlib.Nat.{div-div-eq-div-mul}
+use native.Mathlib.Nat.{zero-add, div-div-eq-div-mul}
 use native.Mathlib.Omega.{arith}
 use borrow.Author.Tests.{leb-true}
 use lib.IntN.{ℤ, pos, negsuc, neg_ℤ, ◌-ℤ◌}
@@ -18,6 +18,12 @@ pub down_debt : (z : ℤ) → DownTo 262144 z → debt_of z ≤ 262144
 down_debt (pos zero) h = omega arith
 down_debt (pos (suc n)) h = let l = leb-true (suc n) 0 h.high in absurd (omega arith)
 down_debt (negsuc n) h = let l = leb-true n 262143 h.low in omega arith
+
+-- taken from 0 it is not negative
+pub minus_down : (z : ℤ) → DownTo 262144 z → (pos 0 -ℤ z) ≡ pos (debt_of z)
+minus_down (pos zero) h = refl
+minus_down (pos (suc n)) h = let l = leb-true (suc n) 0 h.high in absurd (omega arith)
+minus_down (negsuc n) h = ap pos (zero-add (suc n))
 
 from_debt : (z : ℤ) (x : ℕ) → x ≡ debt_of z → debt_of z ≤ 262144 → neg_ℤ (pos x) ≡ z
 from_debt z x e h = rw e (sym (debt_is z (omega arith)))

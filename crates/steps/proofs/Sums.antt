@@ -3,9 +3,9 @@
 use Rattle.std.proofs.Common.{◌≡◌, ℕ, suc, ◌+◌, ◌*◌, ◌^◌, ◌<◌, ◌≤◌, List, [], ◌∷◌, ◌++◌, map, length, get_or, drop, ℤ, pos, ◌+ℤ◌, nat_abs, sym, refl, ap, ◌∙◌, append_assoc, append-nil, add-one, arith, drop-cons}
 use lib.Seq.{drop-length}
 use Rattle.steps.specs.Logs.{Log, mark, steps, add_exp, ln_add_exp, AddsFromLeft, ln_sum_from, ln_sum_exp, sum_exp}
-use Rattle.steps.specs.Inner.Logs.{log_of}
+use Rattle.steps.specs.Inner.Logs.{log_of, size}
 use Rattle.steps.proofs.AddExp.{add_shift, add_size}
-use Rattle.steps.proofs.Marks.{of_small}
+use Rattle.steps.proofs.Marks.{of_small, log_size}
 
 -- ---- the statement
 -- it adds from the left, starting at the mark
@@ -68,3 +68,15 @@ sum_size n a [] h g = omega arith
 sum_size n a (x ∷ xs) h g =
     let s = add_size a x n h (g 0 (omega arith)) in
     let r = sum_size (n + 4096) (add_exp a x) xs s (λ k i. let e = g (suc k) (omega arith) in omega arith) in omega arith
+
+-- the same with marks among them
+sum_from_size : (n : ℕ) (a : Log) (xs : List ℤ) → size a ≤ n → ((k : ℕ) → k < length xs → size (log_of (get_or xs k (pos 0))) ≤ n) → size (ln_sum_from a (map log_of xs)) ≤ n + 4096 * length xs
+unfolding ln_sum_from
+sum_from_size n a [] h g = omega arith
+sum_from_size n a (x ∷ xs) h g =
+    let s = log_size a (log_of x) n h (g 0 (omega arith)) in
+    let r = sum_from_size (n + 4096) (ln_add_exp a (log_of x)) xs s (λ k i. let e = g (suc k) (omega arith) in omega arith) in omega arith
+
+pub log_sum_size : (n : ℕ) (xs : List ℤ) → ((k : ℕ) → k < length xs → size (log_of (get_or xs k (pos 0))) ≤ n) → size (ln_sum_exp (map log_of xs)) ≤ n + 4096 * length xs
+unfolding ln_sum_exp size
+log_sum_size n xs g = sum_from_size n mark xs (omega arith) g

@@ -1,18 +1,18 @@
 -- What an accepted case gives: no test of the check stopped, so every test holds of the head, of each variant, byte, call and fragment.
 -- Assumes nothing.
-use mathlib.Core.Path.{◌≡◌, refl, sym, ◌∙◌}
+use mathlib.Core.Path.{◌≡◌, refl, sym, ◌∙◌, subst}
 use mathlib.Core.Bool.{true}
 use mathlib.Core.List.{List, []}
-use Prim.Native.Nat.{ℕ, suc, ◌+◌, ◌-◌, ◌≤◌, ◌<◌}
+use Prim.Native.Nat.{ℕ, suc, ◌+◌, ◌-◌, ◌*◌, ◌≤◌, ◌<◌}
 use native.Mathlib.Omega.{arith}
 use borrow.Author.Tests.{le-leb, leb-true, eq-eqb, eqb-true}
 use lib.Dec.{leb}
 use lib.IntN.{ℤ}
-use lib.ListN.{length}
+use lib.ListN.{length, get_or}
 use Rattle.variants_and_fragments.specs.declared.Sizes.{Sizes}
 use Rattle.variants_and_fragments.specs.Refusals.{done}
 use Rattle.variants_and_fragments.specs.First.{first_fail_from, first_fail, holds_below}
-use Rattle.variants_and_fragments.specs.Layout.{sizes_of, variant_ok, call_ok}
+use Rattle.variants_and_fragments.specs.Layout.{sizes_of, allele_count_at, variant_ok, call_ok}
 use Rattle.variants_and_fragments.specs.Chain.{chain_of, is_reached, reached_call_ok, fragment_ok, next_ok, good_chain, reached, in_chain, free_chain, free_ok}
 use Rattle.variants_and_fragments.specs.Alleles.{alleles_start, alleles_ok}
 use Rattle.variants_and_fragments.specs.Check.{check_case_and_haplotypes_outcome, check_case_outcome}
@@ -22,7 +22,7 @@ use Rattle.variants_and_fragments.proofs.Bools.{both}
 use Rattle.variants_and_fragments.proofs.First.{from_all, first_all, all_from, all_below}
 use Rattle.variants_and_fragments.proofs.Outcomes.{unless_on, unless_past, each_on, each_past}
 use Rattle.variants_and_fragments.proofs.Heads.{head_lines_lem}
-use Rattle.variants_and_fragments.proofs.Records.{head_in, head_sized, variants_in, variant_alone}
+use Rattle.variants_and_fragments.proofs.Records.{head_in, head_sized, variants_in, haplotype_facts, variant_alone}
 use Rattle.variants_and_fragments.proofs.AlleleBytes.{base_at}
 use Rattle.variants_and_fragments.proofs.Chain.{fragment_tests, chain_record, all_memb}
 use Rattle.variants_and_fragments.proofs.Pigeon.{reached_has}
@@ -119,6 +119,13 @@ checked_bases w b h s ok =
 pub bases_in : (w : List ℤ) (b : List ℕ) (s : Sizes) → check_case_outcome w b ≡ done s → BasesIn w s b
 unfolding check_case_outcome
 bases_in w b s ok = checked_bases w b [] s ok
+
+-- and its haplotypes, where there are so many
+pub haplotypes_in : (w : List ℤ) (b h : List ℕ) (s : Sizes) → check_case_and_haplotypes_outcome w b h ≡ done s → (v i : ℕ) → v < s.n → i < 2 → 2 * v + i < length h → get_or h (2 * v + i) 0 < allele_count_at w v
+haplotypes_in w b h s ok v i l m long =
+    let p = passed w b h s ok in
+    let n-same : v < (sizes_of w).n = subst (λ (t : Sizes). v < t.n) p.0 l in
+    haplotype_facts w h v (first_all (variant_ok w h) (sizes_of w).n p.1.variants v n-same) i m long
 
 -- a case that is accepted with haplotypes is accepted without
 pub checked_case : (w : List ℤ) (b h : List ℕ) (s : Sizes) → check_case_and_haplotypes_outcome w b h ≡ done s → check_case_outcome w b ≡ done s

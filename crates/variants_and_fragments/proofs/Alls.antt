@@ -3,7 +3,7 @@
 use mathlib.Core.List.{List, [], ◌∷◌, ◌++◌, map}
 use Prim.Native.Nat.{ℕ, zero, suc, ◌+◌, ◌≤◌, ◌<◌}
 use native.Mathlib.Omega.{arith}
-use lib.ListN.{length, get_or}
+use lib.ListN.{length, get_or, drop}
 use Rattle.variants_and_fragments.specs.Inner.Case.{All, end, also}
 use Rattle.variants_and_fragments.specs.Decode.{tabulate_from, tabulate}
 
@@ -27,6 +27,11 @@ all_map g (x ∷ xs) (also p ps) = also p (all_map g xs ps)
 pub all_append : {X : Type 0} {P : X → Type 0} {xs ys : List X} → All P xs → All P ys → All P (xs ++ ys)
 all_append end qs = qs
 all_append (also p ps) qs = also p (all_append ps qs)
+
+pub all_drop : {X : Type 0} {P : X → Type 0} (n : ℕ) (xs : List X) → All P xs → All P (drop n xs)
+all_drop zero xs ps = ps
+all_drop (suc n) [] end = end
+all_drop (suc n) (x ∷ xs) (also p ps) = all_drop n xs ps
 
 pub all_from : {X : Type 0} {P : X → Type 0} (g : ℕ → X) (i n : ℕ) → ((k : ℕ) → i ≤ k → k < i + n → P (g k)) → All P (tabulate_from g i n)
 unfolding tabulate_from

@@ -2,6 +2,7 @@
 -- Assumes nothing.
 use mathlib.Core.Path.{◌≡◌, refl, sym, ◌∙◌}
 use mathlib.Core.List.{List, ◌∷◌}
+use mathlib.Core.Logic.{◌⊎◌, inl, inr, ⊎_elim}
 use Prim.Native.Nat.{ℕ, ◌≤◌, ◌<◌}
 use native.Mathlib.Omega.{arith}
 use native.Mathlib.Decide.{dec_le, ℕ_discrete}
@@ -28,6 +29,19 @@ module _ (a b : ℕ) (da : a ≡ 0 → ⊥) (db : b ≡ 0 → ⊥) where
   pub earlier_second : b < a → b ≡ earlier a b
   unfolding earlier
   earlier_second h = rw (ne_eqb a 0 da, ne_eqb b 0 db, lt-leb a b h)
+
+-- it is one of the two
+pub earlier_one : (a b : ℕ) → (earlier a b ≡ a) ⊎ (earlier a b ≡ b)
+earlier_one a b = elim (ℕ_discrete a 0) [
+  | yes e ↦ inr (sym (earlier_right a b e))
+  | no d ↦ elim (ℕ_discrete b 0) [
+    | yes e ↦ inl (sym (earlier_left a b d e))
+    | no f ↦ elim (dec_le a b) [ yes h ↦ inl (sym (earlier_first a b d f h)) | no h ↦ inr (sym (earlier_second a b d f (omega arith))) ]
+  ]
+]
+
+pub earlier_top : (m a b : ℕ) → a < m → b < m → earlier a b < m
+earlier_top m a b h l = ⊎_elim (λ e. omega arith) (λ e. omega arith) (earlier_one a b)
 
 -- none where neither is one
 pub none_earlier : (a b : ℕ) → earlier a b ≡ 0 → (a ≡ 0) × (b ≡ 0)

@@ -40,6 +40,11 @@ sum_debts n end = refl
 sum_debts n (also {x} {xs} e es) = rw (e, sum_debts n es) (sym (neg_ℤ-+ℤ (pos (n x)) (pos (count_over xs n))))
 
 -- ---- of whole numbers from 0 on
+pub count_append : {X : Type 0} (xs ys : List X) (n : X → ℕ) → count_over (xs ++ ys) n ≡ count_over xs n + count_over ys n
+unfolding count_over
+count_append [] ys n = omega arith
+count_append (x ∷ xs) ys n = omega (arith, count_append xs ys n)
+
 pub count_map : {X Y : Type 0} (h : X → Y) (xs : List X) (n : Y → ℕ) → count_over (map h xs) n ≡ count_over xs (λ x. n (h x))
 unfolding count_over
 count_map h [] n = refl
