@@ -84,7 +84,8 @@ pub fn write_qualities(shown: ShownCalls<'_>, buffer: &mut [u8], at: usize) -> u
 
 // ---- a line
 
-// What a line starts with: the number of its blocks, its id and its fragment's strand.
+// What a line starts with: the number of its blocks, its id and its fragment's strand. The strand is the case's own word, asked once, for its byte:
+// an enum would be made of it and matched at once.
 #[derive(Clone, Copy)]
 pub struct Head {
     pub blocks: usize,
