@@ -19,6 +19,10 @@ use Rattle.pileup.specs.Inner.Packed.{held_row, RowIn, unpacked, row_at, rows_at
 use Rattle.haplotype_assembly.specs.Inner.PhaseRead.{rule_at}
 use Rattle.haplotype_assembly.specs.Inner.LinesRead.{shown_calls, shown_at, LinesGiven, call_of, ShownIn}
 
+-- what is known of a row's call
+pub row_shown : {n f : ℕ} → n ≤ 1024 → {row : Row} → RowIn n f row → ShownIn row.call
+row_shown h i = record { variant_top = omega (arith, i.variant_in); allele_in = i.allele_in; qual_in = i.qual_in }
+
 module _ (w : List ℤ) where
   pub shown_on : (row : Row) (rows : List Row) → rule_at w row.call.variant ≡ true → shown_calls w (row ∷ rows) ≡ row.call ∷ shown_calls w rows
   unfolding shown_calls
@@ -35,7 +39,7 @@ module _ (w : List ℤ) where
   shown_in h (row ∷ rows) (also i is) = go (rule_at w row.call.variant) (shown_in h rows is)
     where
       go : (b : Bool) → All ShownIn (shown_calls w rows) → All ShownIn (cond b (row.call ∷ shown_calls w rows) (shown_calls w rows))
-      go true rest = also (record { variant_top = omega (arith, i.variant_in); allele_in = i.allele_in; qual_in = i.qual_in }) rest
+      go true rest = also (row_shown h i) rest
       go false rest = rest
 
   pub shown_few : (rows : List Row) → length (shown_calls w rows) ≤ length rows

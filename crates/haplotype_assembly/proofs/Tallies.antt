@@ -10,12 +10,10 @@ use borrow.Author.Tests.{eq-eqb, ne_eqb}
 use lib.Dec.{eqb}
 use lib.ListN.{length, length-append}
 use Rattle.variants_and_fragments.specs.Case.{Call}
-use Rattle.variants_and_fragments.specs.Inner.Case.{All}
 use Rattle.haplotype_assembly.specs.declared.tally.Tally.{Tally}
 use Rattle.haplotype_assembly.specs.Lines.{digit, decimal, blocks, block_start, allele_bytes}
-use Rattle.haplotype_assembly.specs.Inner.LinesRead.{tally_step, Tallied, SmallTally, ShownIn}
+use Rattle.haplotype_assembly.specs.Inner.LinesRead.{tally_step, Tallied, SmallTally}
 use Rattle.haplotype_assembly.proofs.Pieces.{start_same, new_length, start_top}
-use Rattle.haplotype_assembly.proofs.Shown.{all_first}
 
 -- ---- one call more
 module _ (t : Tally) (v : ℕ) where
@@ -70,7 +68,6 @@ left_end i = record { calls_are = omega (arith, i.calls_left); blocks_are = omeg
 pub record Tallying (n : ℕ) (all left : List Call) (t : Tally) : Type 0 where
   pub left_over : TallyLeft n all left t
   pub small : Small t
-  pub left_in : All ShownIn left
 
 module _ {n : ℕ} {all left : List Call} {t : Tally} (i : Tallying n all left t) where
   pub tallying_small : length all ≤ 16384 → SmallTally t 16384
@@ -83,13 +80,5 @@ module _ {n : ℕ} {all left : List Call} {t : Tally} (i : Tallying n all left t
   pub tallying_end : left ≡ [] → Tallied n all t
   tallying_end e = left_end (rw e at i.left_over)
 
-  module _ {call : Call} {rest : List Call} (e : left ≡ call ∷ rest) where
-    pub tallying_in : ShownIn call
-    tallying_in = (all_first e i.left_in).0
-
-    pub tallying_on : Tallying n all rest (tally_step t call.variant)
-    tallying_on = record {
-      left_over = left_on (rw e at i.left_over);
-      small = small_step t call.variant i.small tallying_in.variant_top;
-      left_in = (all_first e i.left_in).1;
-    }
+  pub tallying_on : {call : Call} {rest : List Call} → left ≡ call ∷ rest → call.variant < 1024 → Tallying n all rest (tally_step t call.variant)
+  tallying_on {call} e h = record { left_over = left_on (rw e at i.left_over); small = small_step t call.variant i.small h }

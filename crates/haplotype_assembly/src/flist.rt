@@ -1,9 +1,9 @@
 // What fragment lines are read from: the calls that a line shows, off the rows of its fragment.
 ghost use Rattle.std.specs.Prelude.{◌≡◌, ◌<◌, ◌≤◌, length, get_or};
-ghost use Rattle.std.specs.Iterator.{YieldsFirstBy, item_count};
+ghost use Rattle.std.specs.Iterator.{item_count};
 ghost use Rattle.variants_and_fragments.specs.Inner.Case.{All};
 ghost use Rattle.pileup.specs.Inner.Packed.{group_start};
-ghost use Rattle.haplotype_assembly.specs.Inner.LinesRead.{call_of, shown_at, ShownIn, LinesGiven};
+ghost use Rattle.haplotype_assembly.specs.Inner.LinesRead.{shown_at, ShownIn, ShowsFirst, LinesGiven};
 
 use crate::phase::phased_rule;
 use pileup::grouped::Groups;
@@ -35,7 +35,7 @@ impl<'a> Model for ShownCalls<'a> {
 impl<'a> Iterator for ShownCalls<'a> {
     type Item = Row;
 
-    ghost next_gives = { YieldsFirstBy call_of (λ calls. calls) };
+    ghost next_gives = { ShowsFirst };
 
     ghost remaining = { item_count (λ calls. calls) };
 

@@ -2,10 +2,9 @@
 // wrote: a struct with the buffer and the place is no plainer, since each contract would have to say too that the buffer lent is the same.
 ghost use Rattle.std.specs.Prelude.{[], ◌∷◌, ◌++◌, map, ◌≡◌, ◌+◌, ◌≤◌, ◌<◌, length};
 ghost use Rattle.std.proofs.lemmas.List.Edits.{sets};
-ghost use Rattle.variants_and_fragments.specs.Inner.Case.{All};
 ghost use Rattle.variants_and_fragments.specs.Inner.Sums.{DownTo};
 ghost use Rattle.haplotype_assembly.specs.Lines.{digit, block_start, allele_bytes, call_quality, strand_byte};
-ghost use Rattle.haplotype_assembly.specs.Inner.LinesRead.{Put, call_of, ShownIn, shown_fragment, shown_fragments, header_of, line_with, fragment_line, has_one, lines_over};
+ghost use Rattle.haplotype_assembly.specs.Inner.LinesRead.{Put, call_of, shown_fragment, shown_fragments, header_of, line_with, fragment_line, has_one, lines_over};
 
 use crate::Counted;
 use crate::flist::{Flist, ShownCalls};
@@ -44,8 +43,7 @@ pub fn write_call(next: usize, v: usize, allele: usize, buffer: &mut [u8], at: u
 
 // Writes the alleles of the calls; `next` goes on with the block before them.
 pub fn write_alleles(shown: ShownCalls<'_>, mut next: usize, buffer: &mut [u8], at: usize) -> usize
-    requires in_case { All ShownIn shown }
-    requires in_bounds { at + length (allele_bytes next shown) ≤ length buffer.old }
+    requires { at + length (allele_bytes next shown) ≤ length buffer.old }
     ensures { Put buffer.old buffer.new at result (allele_bytes next shown.entry) }
 {
     let mut end = at;
@@ -70,8 +68,7 @@ pub fn quality_of(row: Row) -> u8
 // Writes the quality bytes of the calls. `end` is counted beside the calls, for it is answered: where `zip` or `enumerate` counts, the place is gone
 // with the loop.
 pub fn write_qualities(shown: ShownCalls<'_>, buffer: &mut [u8], at: usize) -> usize
-    requires in_case { All ShownIn shown }
-    requires in_bounds { at + length (map call_quality shown) ≤ length buffer.old }
+    requires { at + length (map call_quality shown) ≤ length buffer.old }
     ensures { Put buffer.old buffer.new at result (map call_quality shown.entry) }
 {
     let mut end = at;
@@ -84,7 +81,8 @@ pub fn write_qualities(shown: ShownCalls<'_>, buffer: &mut [u8], at: usize) -> u
 
 // ---- a line
 
-// What a line starts with: the number of its blocks, its id and its fragment's strand.
+// What a line starts with: the number of its blocks, its id and its fragment's strand. The strand is the case's own word, asked once, for its byte:
+// an enum would be made of it and matched at once.
 #[derive(Clone, Copy)]
 pub struct Head {
     pub blocks: usize,

@@ -41,7 +41,8 @@ pub fn phased_rule(case: &CaseWords<'_>, v: usize) -> bool
     (2 <= k) & ((a != b) & ((l0 == 1) & (l1 == 1)))
 }
 
-// Variant v is phased.
+// Variant v is phased. Here and below the case and its phase bytes stand apart: this asks for v's byte alone, so that a struct that knows of n bytes
+// would ask more of callers, and one that knows of none would leave the clauses as they are.
 #[tactic(auto, unfolding(crate::specs::Inner::PhaseRead::phased_at))]
 pub fn is_phased(case: &CaseWords<'_>, phase: &[u8], v: usize) -> bool
     requires { (v < case.now.laid.sizes.n) × (v < length phase.now) }
@@ -150,30 +151,14 @@ impl PhasedCase<'_> {
     }
 
     // The least name of each set.
-    fn least_names(&self) -> [Option<u32>; MAX_VARIANTS]
-        ensures { NamedTo self.now.case.laid.words.now self.now.sets.now self.now.case.laid.sizes.n self.now.case.laid.sizes.n result }
+    fn least_names(&self) -> LeastNames<'_>
+        ensures { result.of ≡ self.now }
     {
         let mut least = [None; MAX_VARIANTS];
         for v in 0..self.case.laid.sizes.n {
             self.note_name(v, &mut least);
         }
-        least
-    }
-
-    // Variant v's name, where `least` holds those of all sets; 0 for none, as the slice of names has it.
-    #[tactic(auto, using(crate::proofs::Names::unnamed, crate::proofs::Names::no_set, crate::proofs::Names::its_name))]
-    fn name(&self, least: &[Option<u32>], v: usize) -> u32
-        requires in_case { v < self.now.case.laid.sizes.n }
-        requires named_to { NamedTo self.now.case.laid.words.now self.now.sets.now self.now.case.laid.sizes.n self.now.case.laid.sizes.n least.now }
-        ensures { result ≡ phase_name_at self.now.case.laid.words.now self.now.phase.now self.now.sets.now self.now.case.laid.sizes.n v }
-    {
-        if !is_phase(self.phase[v]) {
-            return 0;
-        }
-        match self.set(v) {
-            Some(t) => least[t].unwrap_or(0),
-            None => 0,
-        }
+        LeastNames { of: *self, least }
     }
 
     // The name of each variant.
@@ -183,7 +168,32 @@ impl PhasedCase<'_> {
     {
         let least = self.least_names();
         for v in 0..self.case.laid.sizes.n {
-            names[v] = self.name(&least, v);
+            names[v] = least.name(v);
+        }
+    }
+}
+
+// The least name of each set of a case, where it has one.
+#[derive(Drop)]
+struct LeastNames<'a> {
+    of: PhasedCase<'a>,
+    least: [Option<u32>; MAX_VARIANTS],
+    ghost named: { NamedTo of.case.laid.words.now of.sets.now of.case.laid.sizes.n of.case.laid.sizes.n least },
+}
+
+impl LeastNames<'_> {
+    // Variant v's name; 0 for none, as the slice of names has it.
+    #[tactic(auto, using(crate::proofs::Names::unnamed, crate::proofs::Names::no_set, crate::proofs::Names::its_name))]
+    fn name(&self, v: usize) -> u32
+        requires { v < self.now.of.case.laid.sizes.n }
+        ensures { result ≡ phase_name_at self.now.of.case.laid.words.now self.now.of.phase.now self.now.of.sets.now self.now.of.case.laid.sizes.n v }
+    {
+        if !is_phase(self.of.phase[v]) {
+            return 0;
+        }
+        match self.of.set(v) {
+            Some(t) => self.least[t].unwrap_or(0),
+            None => 0,
         }
     }
 }

@@ -7,7 +7,8 @@ use crate::Counted;
 use crate::flist::Flist;
 use crate::numbers::digit_count;
 
-// What shown calls add to a line, so far: calls, blocks, allele bytes, and the variant that goes on with the block.
+// What shown calls add to a line, so far: calls, blocks, allele bytes, and the variant that goes on with the block. That they are at most what 16384
+// calls add is no field: `with_call` takes such a tally and may answer one past it.
 #[derive(Clone, Copy)]
 pub struct Tally {
     pub calls: usize,

@@ -59,13 +59,13 @@ module _ {n : ℕ} {call : Call} {calls : List Call} {counts : List ℤ} (i : Ca
       let a = f.above in
       record { low = suc call.variant; rises = f.rest; long = i.long; in_range = λ e l m. i.in_range e (omega arith) m }
 
-  left_counted : (d : ℤ) → CallsLeft n calls (count_call d x.strand (counted_call cutoff x call) counts)
+  left_counted : (d : ℤ) → CallsLeft n calls (count_call d (counted_call cutoff x call) counts)
   left_counted d =
       let f = first_in i.rises in
       let a = f.above in
       let b = f.variant_in in
       let k = i.long in
-      let s = count_length d x.strand (counted_call cutoff x call) counts in
+      let s = count_length d (counted_call cutoff x call) counts in
       record {
         low = suc call.variant;
         rises = f.rest;
@@ -76,7 +76,7 @@ module _ {n : ℕ} {call : Call} {calls : List Call} {counts : List ℤ} (i : Ca
 -- ---- whether they fit: the rest decides
 pub record Fitting (d cutoff : ℤ) (x : Fragment) (n : ℕ) (counts : List ℤ) (calls : List Call) (answer : Bool) : Type 0 where
   pub left : CallsLeft n calls counts
-  pub decides : allb (λ call. call_fits d x.strand (counted_call cutoff x call) counts) calls ≡ answer
+  pub decides : allb (λ call. call_fits d (counted_call cutoff x call) counts) calls ≡ answer
 
 -- ---- counting them: with the rest they are all counted
 pub record Adding (d cutoff : ℤ) (x : Fragment) (n : ℕ) (calls : List Call) (counts after : List ℤ) : Type 0 where
@@ -105,11 +105,11 @@ module _ {d cutoff : ℤ} {x : Fragment} {n : ℕ} {counts : List ℤ} {answer :
     pub fit_countable : {lent : List ℤ} → CountsLent n lent d → n ≤ 1024 → Countable counts d counted
     fit_countable lent top = rw (counted_so cutoff x c e z) (left_countable (rw next at i).left cutoff x lent top)
 
-    pub fit_stop : call_fits d x.strand counted counts ≡ false → false ≡ answer
+    pub fit_stop : call_fits d counted counts ≡ false → false ≡ answer
     unfolding allb
     fit_stop h = rw (rw (counted_so cutoff x c e z) at h) at (rw next at i).decides
 
-    pub fit_on : call_fits d x.strand counted counts ≡ true → Fitting d cutoff x n counts (map call_read rest) answer
+    pub fit_on : call_fits d counted counts ≡ true → Fitting d cutoff x n counts (map call_read rest) answer
     unfolding allb
     fit_on h = record { left = left_next (rw next at i).left cutoff x; decides = rw (rw (counted_so cutoff x c e z) at h) at (rw next at i).decides }
 
@@ -122,6 +122,6 @@ module _ {d cutoff : ℤ} {x : Fragment} {n : ℕ} {counts after : List ℤ} {he
     pub add_countable : {lent : List ℤ} → CountsLent n lent d → n ≤ 1024 → Countable counts d counted
     add_countable lent top = rw (counted_so cutoff x c e z) (left_countable (rw next at i).left cutoff x lent top)
 
-    pub add_on : (put : List ℤ) → put ≡ count_call d x.strand counted counts → Adding d cutoff x n (map call_read rest) put after
+    pub add_on : (put : List ℤ) → put ≡ count_call d counted counts → Adding d cutoff x n (map call_read rest) put after
     unfolding count_calls
     add_on put h = rw (h, counted_so cutoff x c e z) (record { left = left_counted (rw next at i).left cutoff x d; same = (rw next at i).same })

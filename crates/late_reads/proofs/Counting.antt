@@ -67,15 +67,15 @@ module _ (d cutoff : ℤ) (x : Fragment) where
   calls_length : (calls : List Call) (counts : List ℤ) → length (count_calls d cutoff x calls counts) ≡ length counts
   unfolding count_calls
   calls_length [] counts = refl
-  calls_length (call ∷ calls) counts = calls_length calls (count_call d x.strand (counted_call cutoff x call) counts) ∙ count_length d x.strand (counted_call cutoff x call) counts
+  calls_length (call ∷ calls) counts = calls_length calls (count_call d (counted_call cutoff x call) counts) ∙ count_length d (counted_call cutoff x call) counts
 
   -- what stands at e once they are counted
   calls_at : {n b : ℕ} {calls : List Call} → Rising n b calls → (counts : List ℤ) → 10 * n ≤ length counts → (e : ℕ) → get_or (count_calls d cutoff x calls counts) e (pos 0) ≡ get_or counts e (pos 0) +ℤ times d (how_many e calls)
   unfolding count_calls times
   calls_at none counts long e = rw (only_none (counts_at cutoff x e), +ℤ_idr)
   calls_at (more {b} {call} {calls} lo hi three r) counts long e =
-      let put = count_call d x.strand (counted_call cutoff x call) counts in
-      let l = count_length d x.strand (counted_call cutoff x call) counts in
+      let put = count_call d (counted_call cutoff x call) counts in
+      let l = count_length d (counted_call cutoff x call) counts in
       calls_at r put (omega arith) e
       ∙ rw (count_at cutoff x call three d counts (omega arith) e)
       (by_test (counts_at cutoff x e call)
@@ -96,7 +96,7 @@ module _ (d cutoff : ℤ) (x : Fragment) where
 
   -- ---- the range
   abbrev fits : List ℤ → Call → Bool
-  fits counts call = call_fits d x.strand (counted_call cutoff x call) counts
+  fits counts call = call_fits d (counted_call cutoff x call) counts
 
   -- where each call fits, what stands at e is in range
   fit_ranged : {n b : ℕ} {calls : List Call} (counts : List ℤ) → Rising n b calls → allb (fits counts) calls ≡ true → (e : ℕ) → ranged (get_or counts e (pos 0)) ≡ true → ranged (get_or counts e (pos 0) +ℤ times d (how_many e calls)) ≡ true

@@ -61,42 +61,42 @@ added_same d e counts h = get_or-set_same counts e (get_or counts e (pos 0) +ℤ
 added_other : (d : ℤ) (p e : ℕ) (counts : List ℤ) → (e ≡ p → ⊥) → get_or (add_at d p counts) e (pos 0) ≡ get_or counts e (pos 0)
 added_other d p e counts n = get_or-set_other counts p e (get_or counts p (pos 0) +ℤ d) (pos 0) n
 
-pub count_length : (d : ℤ) (strand : ℕ) (call : CountedCall) (counts : List ℤ) → length (count_call d strand call counts) ≡ length counts
+pub count_length : (d : ℤ) (call : CountedCall) (counts : List ℤ) → length (count_call d call counts) ≡ length counts
 unfolding count_call
-count_length d strand call counts = by_test call.usable (λ u. rw u (simp length-set)) (λ u. rw u (simp length-set))
+count_length d call counts = by_test call.usable (λ u. rw u (simp length-set)) (λ u. rw u (simp length-set))
 
 -- ---- the places of a call
-module _ (strand : ℕ) (call : CountedCall) {p : ℕ × Option ℕ} (is : p ≡ places strand call) where
+module _ (call : CountedCall) {p : ℕ × Option ℕ} (is : p ≡ places call) where
   one_place : p.1 ≡ None → (call.usable ≡ false) × (p.0 ≡ ambiguous_place call)
   unfolding places
   one_place none =
       by_test call.usable
-      (λ u. let q : Some (strand_place strand call) ≡ None = sym (ap (λ (x : ℕ × Option ℕ). x.1) (rw u at is)) ∙ none in absurd (some_none q))
+      (λ u. let q : Some (strand_place call) ≡ None = sym (ap (λ (x : ℕ × Option ℕ). x.1) (rw u at is)) ∙ none in absurd (some_none q))
       (λ u. (u, ap (λ (x : ℕ × Option ℕ). x.0) (rw u at is)))
 
   module _ {e : ℕ} (some : p.1 ≡ Some e) where
-    two_places : (call.usable ≡ true) × (p.0 ≡ allele_place call) × (e ≡ strand_place strand call)
+    two_places : (call.usable ≡ true) × (p.0 ≡ allele_place call) × (e ≡ strand_place call)
     unfolding places
     two_places =
         by_test call.usable
         (λ u.
-        let q : Some e ≡ Some (strand_place strand call) = sym some ∙ ap (λ (x : ℕ × Option ℕ). x.1) (rw u at is) in
+        let q : Some e ≡ Some (strand_place call) = sym some ∙ ap (λ (x : ℕ × Option ℕ). x.1) (rw u at is) in
         (u, ap (λ (x : ℕ × Option ℕ). x.0) (rw u at is), some_is q))
         (λ u. let q : Some e ≡ None = sym some ∙ ap (λ (x : ℕ × Option ℕ). x.1) (rw u at is) in absurd (some_none q))
 
-    pub fits_two : (d : ℤ) (counts : List ℤ) → fits_at d p.0 counts && fits_at d e counts ≡ call_fits d strand call counts
+    pub fits_two : (d : ℤ) (counts : List ℤ) → fits_at d p.0 counts && fits_at d e counts ≡ call_fits d call counts
     unfolding call_fits
     fits_two d counts = let t = two_places in rw (t.0, t.1, t.2)
 
-    pub counted_two : (d : ℤ) (counts : List ℤ) → add_at d e (add_at d p.0 counts) ≡ count_call d strand call counts
+    pub counted_two : (d : ℤ) (counts : List ℤ) → add_at d e (add_at d p.0 counts) ≡ count_call d call counts
     unfolding count_call
     counted_two d counts = let t = two_places in rw (t.0, t.1, t.2)
 
-  pub fits_one : p.1 ≡ None → (d : ℤ) (counts : List ℤ) → fits_at d p.0 counts ≡ call_fits d strand call counts
+  pub fits_one : p.1 ≡ None → (d : ℤ) (counts : List ℤ) → fits_at d p.0 counts ≡ call_fits d call counts
   unfolding call_fits
   fits_one none d counts = let t = one_place none in rw (t.0, t.1)
 
-  pub counted_one : p.1 ≡ None → (d : ℤ) (counts : List ℤ) → add_at d p.0 counts ≡ count_call d strand call counts
+  pub counted_one : p.1 ≡ None → (d : ℤ) (counts : List ℤ) → add_at d p.0 counts ≡ count_call d call counts
   unfolding count_call
   counted_one none d counts = let t = one_place none in rw (t.0, t.1)
 
@@ -112,8 +112,8 @@ module _ (strand : ℕ) (call : CountedCall) {p : ℕ × Option ℕ} (is : p ≡
     module _ {e : ℕ} (some : p.1 ≡ Some e) where
       pub second_at : CountsIn counts e d
       second_at =
-          let k : 10 * call.variant + (3 * (1 + direction strand) + call.allele) ≡ e = omega (arith, (two_places some).2) in
-          rw k at (c.each_in (3 * (1 + direction strand) + call.allele) (omega (arith, c.allele_in)))
+          let k : 10 * call.variant + (3 * (1 + direction call.strand) + call.allele) ≡ e = omega (arith, (two_places some).2) in
+          rw k at (c.each_in (3 * (1 + direction call.strand) + call.allele) (omega (arith, c.allele_in)))
 
       -- the first store leaves the second place as it is
       pub second_next : CountsIn (add_at d p.0 counts) e d
@@ -140,7 +140,7 @@ module _ (cutoff : ℤ) (x : Fragment) (call : Call) (three : call.allele < 3) w
       let m : a % 3 ≡ a = omega arith in
       rw (q, r, eq-eqb v v refl, ne_eqb a 9 (omega arith), u, m, eq-eqb a a refl, lt-ltb a 3 three)
 
-  at_its_strand : usable cutoff x call ≡ true → counts_at cutoff x (strand_place x.strand seen) call ≡ true
+  at_its_strand : usable cutoff x call ≡ true → counts_at cutoff x (strand_place seen) call ≡ true
   unfolding counted
   at_its_strand u =
       let v = call.variant in
@@ -162,7 +162,7 @@ module _ (cutoff : ℤ) (x : Fragment) (call : Call) (three : call.allele < 3) w
 
   -- and nowhere else
   module _ (e : ℕ) where
-    only_usable : usable cutoff x call ≡ true → counts_at cutoff x e call ≡ true → (e ≡ allele_place seen) ⊎ (e ≡ strand_place x.strand seen)
+    only_usable : usable cutoff x call ≡ true → counts_at cutoff x e call ≡ true → (e ≡ allele_place seen) ⊎ (e ≡ strand_place seen)
     unfolding counted
     only_usable u t =
         let j = e % 10 in
@@ -190,11 +190,11 @@ module _ (cutoff : ℤ) (x : Fragment) (call : Call) (three : call.allele < 3) w
 
   module _ (d : ℤ) (counts : List ℤ) where
     -- counting it adds d where it counts
-    pub count_at : 10 * call.variant + 9 < length counts → (e : ℕ) → get_or (count_call d x.strand seen counts) e (pos 0) ≡ get_or counts e (pos 0) +ℤ cond (counts_at cutoff x e call) d (pos 0)
+    pub count_at : 10 * call.variant + 9 < length counts → (e : ℕ) → get_or (count_call d seen counts) e (pos 0) ≡ get_or counts e (pos 0) +ℤ cond (counts_at cutoff x e call) d (pos 0)
     unfolding count_call
     count_at long e =
         let a = allele_place seen in
-        let s = strand_place x.strand seen in
+        let s = strand_place seen in
         let l = ambiguous_place seen in
         let put = add_at d a counts in
         by_test (usable cutoff x call)
@@ -211,18 +211,18 @@ module _ (cutoff : ℤ) (x : Fragment) (call : Call) (three : call.allele < 3) w
         ])
 
     -- it fits where each element at which it counts is in range with d more
-    pub fit_at : call_fits d x.strand seen counts ≡ true → (e : ℕ) → counts_at cutoff x e call ≡ true → within (pos 0) (pos max_count) (get_or counts e (pos 0) +ℤ d) ≡ true
+    pub fit_at : call_fits d seen counts ≡ true → (e : ℕ) → counts_at cutoff x e call ≡ true → within (pos 0) (pos max_count) (get_or counts e (pos 0) +ℤ d) ≡ true
     unfolding call_fits
     fit_at h e t =
         by_test (usable cutoff x call)
         (λ u.
-        let f = both (fits_at d (allele_place seen) counts) (fits_at d (strand_place x.strand seen) counts) (rw u at h) in
+        let f = both (fits_at d (allele_place seen) counts) (fits_at d (strand_place seen) counts) (rw u at h) in
         ⊎_elim (λ q. rw q f.0) (λ q. rw q f.1) (only_usable e u t))
         (λ u. rw (only_ambiguous e u t) (rw u at h))
 
-    pub at_fit : ((e : ℕ) → counts_at cutoff x e call ≡ true → within (pos 0) (pos max_count) (get_or counts e (pos 0) +ℤ d) ≡ true) → call_fits d x.strand seen counts ≡ true
+    pub at_fit : ((e : ℕ) → counts_at cutoff x e call ≡ true → within (pos 0) (pos max_count) (get_or counts e (pos 0) +ℤ d) ≡ true) → call_fits d seen counts ≡ true
     unfolding call_fits
     at_fit h =
         by_test (usable cutoff x call)
-        (λ u. rw (u, h (allele_place seen) (at_its_allele u), h (strand_place x.strand seen) (at_its_strand u)))
+        (λ u. rw (u, h (allele_place seen) (at_its_allele u), h (strand_place seen) (at_its_strand u)))
         (λ u. rw (u, h (ambiguous_place seen) (at_the_last u)))

@@ -58,13 +58,7 @@ impl<'a> Arrival<'a> {
         requires { i < whole_calls self.now.calls.now }
         ensures { result ≡ held_call (arriving_call self.now.calls.now i) }
     {
-        let words = self.call_words(i);
-        Call {
-            variant: nat_of(words.variant),
-            allele: nat_of(words.allele),
-            qual: words.qual,
-            one_minus_qual: words.one_minus_qual,
-        }
+        self.call_words(i).into()
     }
 
     // Call i's variant rises over that of the call before.

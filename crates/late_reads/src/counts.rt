@@ -31,11 +31,12 @@ impl Calls for ChainReader<'_> {
     ghost goes_on = { λ s. (tt, tt) };
 }
 
-// A call as the counts see it.
+// A call as the counts see it, with its read's strand.
 #[derive(Clone, Copy)]
 pub struct CountedCall {
     pub variant: usize,
     pub allele: usize,
+    pub strand: usize,
     pub usable: bool,
 }
 
@@ -46,20 +47,21 @@ fn counted(cutoff: i32, strand: usize, call: Call) -> CountedCall
     CountedCall {
         variant: call.variant,
         allele: call.allele,
+        strand,
         usable: usable(cutoff, strand, call.qual),
     }
 }
 
-// Where a call of a read at this strand counts, of the ten counts of its variant: a usable one at its allele and at its allele on its strand, an
+// Where a call counts, of the ten counts of its variant: a usable one at its allele and at its allele on its strand, an
 // ambiguous one at the last.
-fn places(call: CountedCall, strand: usize) -> (usize, Option<usize>)
+fn places(call: CountedCall) -> (usize, Option<usize>)
     requires { (call.variant < 1024) × (call.allele < 3) }
-    ensures { result ≡ places strand call }
+    ensures { result ≡ places call }
 {
     let at = 10 * call.variant;
     if call.usable {
         let allele = at + call.allele;
-        return (allele, Some(allele + 3 * (1 + direction_of(strand))));
+        return (allele, Some(allele + 3 * (1 + direction_of(call.strand))));
     }
     (at + 9, None)
 }
@@ -73,12 +75,12 @@ fn fits_at(counts: &[i32], e: usize, d: i32) -> bool
     count_ok(counts[e] + d)
 }
 
-// What the counts of a call at its read's strand would be with d more are in range.
-fn call_fits(counts: &[i32], call: CountedCall, strand: usize, d: i32) -> bool
+// What the counts of a call would be with d more are in range.
+fn call_fits(counts: &[i32], call: CountedCall, d: i32) -> bool
     requires { Countable counts.now d call }
-    ensures { result ≡ call_fits d strand call counts.now }
+    ensures { result ≡ call_fits d call counts.now }
 {
-    let (first, second) = places(call, strand);
+    let (first, second) = places(call);
     let one = fits_at(counts, first, d);
     match second {
         Some(e) => one & fits_at(counts, e, d),
@@ -94,12 +96,12 @@ fn add_at(counts: &mut [i32], e: usize, d: i32)
     counts[e] += d;
 }
 
-// Adds d to the counts of a call at its read's strand.
-fn count_call(counts: &mut [i32], call: CountedCall, strand: usize, d: i32)
+// Adds d to the counts of a call.
+fn count_call(counts: &mut [i32], call: CountedCall, d: i32)
     requires { Countable counts.old d call }
-    ensures { counts.new ≡ count_call d strand call counts.old }
+    ensures { counts.new ≡ count_call d call counts.old }
 {
-    let (first, second) = places(call, strand);
+    let (first, second) = places(call);
     add_at(counts, first, d);
     if let Some(e) = second {
         add_at(counts, e, d);
@@ -114,7 +116,7 @@ pub fn fits<C: Calls>(case: &CaseWords<'_>, strand: usize, calls: C, counts: &[i
 {
     let cutoff = case.cutoff();
     for call in calls {
-        if !call_fits(counts, counted(cutoff, strand, call), strand, d) {
+        if !call_fits(counts, counted(cutoff, strand, call), d) {
             return false;
         }
     }
@@ -122,7 +124,7 @@ pub fn fits<C: Calls>(case: &CaseWords<'_>, strand: usize, calls: C, counts: &[i
 }
 
 // Adds d to the counts for each of a read's calls. At the loop's head this is done for the calls before. A loop beside that of `fits`: the one reads and
-// stops at a call, the other writes at each, so of one loop over a closure no line would be saved.
+// stops at a call, the other writes at each, so of one loop over a closure no line would be saved. The same goes for `call_fits` and `count_call`.
 pub fn count<C: Calls>(case: &CaseWords<'_>, strand: usize, calls: C, counts: &mut [i32], d: i32)
     requires rises { Rising case.now.laid.sizes.n 0 (map call_read (C.left calls)) }
     requires lent { CountsLent case.now.laid.sizes.n counts.old d }
@@ -130,6 +132,6 @@ pub fn count<C: Calls>(case: &CaseWords<'_>, strand: usize, calls: C, counts: &m
 {
     let cutoff = case.cutoff();
     for call in calls {
-        count_call(counts, counted(cutoff, strand, call), strand, d);
+        count_call(counts, counted(cutoff, strand, call), d);
     }
 }

@@ -18,7 +18,8 @@ pub struct Ready<'a> {
     ghost ready: { ReadyCase case.laid.words.now case.laid.sizes phase.now haplotypes.now },
 }
 
-// The case, or the first refusal: 1 to 5, 7, 10, and 10 at place 0.
+// The case, or the first refusal: 1 to 5, 7, 10, and 10 at place 0. The seven come one by one, as C lends them: in one struct, the likelihoods and
+// the counts would be lent for as long as the answer, which holds the words, is read, and the callers write them meanwhile.
 pub fn check_kept<'a>(
     words: &'a [i32],
     bases: &'a [u8],

@@ -2,10 +2,11 @@
 ghost use Rattle.std.specs.Prelude.{◌≡◌, ◌<◌, ◌≤◌, map};
 ghost use Rattle.std.specs.Iterator.{YieldsFirst, item_count};
 ghost use Rattle.variants_and_fragments.specs.Decode.{call_from, fragment_from};
-ghost use Rattle.pileup.specs.Inner.Reader.{held_call};
+ghost use Rattle.pileup.specs.Inner.Reader.{held_call, worded_call};
 
 use std::marker::Model;
-use variants_and_fragments::{CaseWords, Laid};
+use variants_and_fragments::layout::nat_of;
+use variants_and_fragments::{CallWords, CaseWords, Laid};
 
 // A call of a fragment.
 #[derive(Clone, Copy)]
@@ -14,6 +15,20 @@ pub struct Call {
     pub allele: usize,
     pub qual: i32,
     pub one_minus_qual: i32,
+}
+
+// The call that its words say.
+impl From<CallWords> for Call {
+    ghost from_gives = { λ words call. call ≡ worded_call words };
+
+    fn from(words: CallWords) -> Call {
+        Call {
+            variant: nat_of(words.variant),
+            allele: nat_of(words.allele),
+            qual: words.qual,
+            one_minus_qual: words.one_minus_qual,
+        }
+    }
 }
 
 // A reader of a chain, seen as the calls that are left: the words, and the number of the next record, where 0 ends the chain. `guess` is the record
@@ -80,10 +95,5 @@ pub fn call_at(laid: &Laid<'_>, r: usize) -> Call
     requires { (1 ≤ r) × (r ≤ laid.now.sizes.c) }
     ensures { result ≡ held_call (call_from laid.now.words.now laid.now.sizes r) }
 {
-    Call {
-        variant: laid.call_variant(r),
-        allele: laid.called_allele(r),
-        qual: laid.qual(r),
-        one_minus_qual: laid.one_minus_qual(r),
-    }
+    laid.call_words(r).into()
 }

@@ -7,7 +7,7 @@ ghost use Rattle.pileup.specs.Inner.Packed.{Packable, held_row, row_from, packed
 use steps::LogProb;
 use variants_and_fragments::layout::MUTED;
 
-// A call that is usable, with the number of its fragment.
+// A call that is usable, with the number of its fragment. That its qualities lie in −262144..0 is no field: `unpack` gives a row of any word.
 #[derive(Clone, Copy)]
 pub struct Row {
     pub fragment: usize,

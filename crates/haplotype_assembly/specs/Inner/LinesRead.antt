@@ -1,7 +1,8 @@
 -- The fragment lines of an accepted case, read off its rows, as the functions below the operation count and write them.
 -- `proofs/LinesDecoded.antt` ties them to the definitions over the decoded case.
 -- Assumes nothing.
-use Rattle.std.specs.Prelude.{◌≡◌, Bool, cond, List, [], ◌∷◌, ◌++◌, map, ℕ, ◌+◌, ◌*◌, ◌≤◌, ◌<◌, eqb, ℤ, length, get_or}
+use Rattle.std.specs.Prelude.{◌≡◌, Bool, cond, List, [], ◌∷◌, ◌++◌, map, ℕ, ◌+◌, ◌*◌, ◌≤◌, ◌<◌, eqb, ℤ, length, get_or, Option, IfSome}
+use Rattle.std.specs.Iterator.{YieldsFirstBy}
 use Rattle.std.proofs.lemmas.List.Edits.{sets}
 use Rattle.variants_and_fragments.specs.declared.Sizes.{Sizes}
 use Rattle.variants_and_fragments.specs.Inner.Sums.{DownTo}
@@ -54,6 +55,10 @@ pub record ShownIn (call : Call) : Type 0 where
   pub variant_top : call.variant < 1024
   pub allele_in : call.allele < 3
   pub qual_in : DownTo 262144 call.qual
+
+-- a reader's next row is that of the first call that is left, of which this is known
+abbrev pub ShowsFirst : List Call → Option RowHeld → List Call → Type 0
+ShowsFirst before row after = YieldsFirstBy call_of (λ calls. calls) before row after × IfSome row (λ r. ShownIn (call_of r))
 
 -- ---- the numbers of shown calls, of blocks and of allele bytes, of n variants
 -- with a call at v

@@ -17,28 +17,28 @@ add_at d e counts = set counts e (get_or counts e (pos 0) +ℤ d)
 abbrev pub allele_place : CountedCall → ℕ
 allele_place call = 10 * call.variant + call.allele
 
-abbrev pub strand_place : ℕ → CountedCall → ℕ
-strand_place strand call = 10 * call.variant + 3 * (1 + direction strand) + call.allele
+abbrev pub strand_place : CountedCall → ℕ
+strand_place call = 10 * call.variant + 3 * (1 + direction call.strand) + call.allele
 
 -- an ambiguous one at the last
 abbrev pub ambiguous_place : CountedCall → ℕ
 ambiguous_place call = 10 * call.variant + 9
 
 -- the first of them, and the second, where there are two
-unfoldable pub places : ℕ → CountedCall → ℕ × Option ℕ
-places strand call = cond call.usable (allele_place call, Some (strand_place strand call)) (ambiguous_place call, None)
+unfoldable pub places : CountedCall → ℕ × Option ℕ
+places call = cond call.usable (allele_place call, Some (strand_place call)) (ambiguous_place call, None)
 
-unfoldable pub count_call : ℤ → ℕ → CountedCall → List ℤ → List ℤ
-count_call d strand call counts =
-    cond call.usable (add_at d (strand_place strand call) (add_at d (allele_place call) counts)) (add_at d (ambiguous_place call) counts)
+unfoldable pub count_call : ℤ → CountedCall → List ℤ → List ℤ
+count_call d call counts =
+    cond call.usable (add_at d (strand_place call) (add_at d (allele_place call) counts)) (add_at d (ambiguous_place call) counts)
 
 -- what they would be is in range
 abbrev pub fits_at : ℤ → ℕ → List ℤ → Bool
 fits_at d e counts = within (pos 0) (pos max_count) (get_or counts e (pos 0) +ℤ d)
 
-unfoldable pub call_fits : ℤ → ℕ → CountedCall → List ℤ → Bool
-call_fits d strand call counts =
-    cond call.usable (fits_at d (allele_place call) counts && fits_at d (strand_place strand call) counts) (fits_at d (ambiguous_place call) counts)
+unfoldable pub call_fits : ℤ → CountedCall → List ℤ → Bool
+call_fits d call counts =
+    cond call.usable (fits_at d (allele_place call) counts && fits_at d (strand_place call) counts) (fits_at d (ambiguous_place call) counts)
 
 -- element e is there and in range, and d is at most 1 either way
 pub record CountsIn (counts : List ℤ) (e : ℕ) (d : ℤ) : Type 0 where
@@ -54,7 +54,7 @@ pub record Countable (counts : List ℤ) (d : ℤ) (call : CountedCall) : Type 0
 
 -- a call of read x as the counts see it
 abbrev pub counted_call : ℤ → Fragment → Call → CountedCall
-counted_call cutoff x call = record { variant = call.variant; allele = call.allele; usable = usable cutoff x call }
+counted_call cutoff x call = record { variant = call.variant; allele = call.allele; strand = x.strand; usable = usable cutoff x call }
 
 -- a read of this strand and these calls
 abbrev pub read_of : ℕ → List CallHeld → Fragment
@@ -72,7 +72,7 @@ pub data Rising (n : ℕ) : ℕ → List Call → Type 0 where
 -- the calls of read x counted, one after the other
 unfoldable pub count_calls : ℤ → ℤ → Fragment → List Call → List ℤ → List ℤ
 count_calls d cutoff x [] counts = counts
-count_calls d cutoff x (call ∷ calls) counts = count_calls d cutoff x calls (count_call d x.strand (counted_call cutoff x call) counts)
+count_calls d cutoff x (call ∷ calls) counts = count_calls d cutoff x calls (count_call d (counted_call cutoff x call) counts)
 
 -- ---- the counts afterwards, as `Values` says them, and their range
 -- n times d

@@ -2,6 +2,8 @@
 -- Assumes nothing.
 use Rattle.std.specs.Prelude.{◌≡◌, true, List, map, ℕ, suc, ◌≤◌, ℤ, length}
 use Rattle.variants_and_fragments.specs.declared.Sizes.{Sizes}
+use Rattle.variants_and_fragments.specs.declared.CallWords.{CallWords}
+use Rattle.variants_and_fragments.specs.Words.{nat_of}
 use Rattle.pileup.specs.declared.reader.Call.{Call as CallHeld}
 use Rattle.variants_and_fragments.specs.Chain.{chain_from, next_ok}
 use Rattle.variants_and_fragments.specs.Case.{Call}
@@ -11,6 +13,10 @@ use Rattle.variants_and_fragments.specs.Inner.Accepted.{allb}
 -- a call as the code holds it
 unfoldable pub held_call : Call → CallHeld
 held_call call = record { variant = call.variant; allele = call.allele; qual = call.qual; one_minus_qual = call.one_minus_qual }
+
+-- the call that its words say
+abbrev pub worded_call : CallWords → CallHeld
+worded_call words = record { variant = nat_of words.variant; allele = nat_of words.allele; qual = words.qual; one_minus_qual = words.one_minus_qual }
 
 -- the calls of the chain from record r on
 unfoldable pub calls_left : List ℤ → Sizes → ℕ → List CallHeld

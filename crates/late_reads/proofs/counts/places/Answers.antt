@@ -6,7 +6,7 @@ use Rattle.late_reads.proofs.counts.places.Goals as goal
 pub returns-then-call : goal.returns-then-call
 unfolding places
 returns-then-call c =
-    let e : allele_place c.args.call + 3 * (1 + c.direction_of.result) ≡ strand_place c.args.strand c.args.call = omega (arith, c.direction_of.ensures) in
+    let e : allele_place c.args.call + 3 * (1 + c.direction_of.result) ≡ strand_place c.args.call = omega (arith, c.direction_of.ensures) in
     rw (c.if-call.true, e)
 
 pub returns : goal.returns

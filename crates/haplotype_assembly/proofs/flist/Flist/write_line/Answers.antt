@@ -9,8 +9,8 @@ use Rattle.haplotype_assembly.proofs.flist.Flist.write_line.Goals as goal
 pub write_header-alleles-requires : goal.write_header-alleles-requires
 write_header-alleles-requires c = header_fits _ _ _ _ _ c.requires.in_bounds
 
-pub write_alleles-space-requires-clause-in_bounds : goal.write_alleles-space-requires-clause-in_bounds
-write_alleles-space-requires-clause-in_bounds c =
+pub write_alleles-space-requires : goal.write_alleles-space-requires
+write_alleles-space-requires c =
     omega (arith, c.requires.in_bounds, line_room c.args.self.now.case.laid.sizes.n c.args.head c.shown.ensures.calls c.shown.ensures.calls)
 
 pub bounds-buffer-space : goal.bounds-buffer-space
@@ -21,8 +21,8 @@ pub overflow_add-space : goal.overflow_add-space
 overflow_add-space c =
     omega (arith, c.requires.in_bounds, line_room c.args.self.now.case.laid.sizes.n c.args.head c.shown.ensures.calls c.shown.ensures.calls)
 
-pub write_qualities-last-requires-clause-in_bounds : goal.write_qualities-last-requires-clause-in_bounds
-write_qualities-last-requires-clause-in_bounds c =
+pub write_qualities-last-requires : goal.write_qualities-last-requires
+write_qualities-last-requires c =
     simp length-set (omega (arith, c.requires.in_bounds, line_room c.args.self.now.case.laid.sizes.n c.args.head c.shown.ensures.calls c.shown-2.ensures.calls))
 
 pub bounds-buffer-last : goal.bounds-buffer-last

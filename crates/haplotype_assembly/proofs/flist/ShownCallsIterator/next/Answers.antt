@@ -1,6 +1,6 @@
 -- A row that is not shown adds nothing to the calls that are left.
 use Rattle.std.proofs.Common.{length, sym, ap, ◌∙◌, arith}
-use Rattle.haplotype_assembly.proofs.Shown.{first_in, next_on, next_skip, next_none}
+use Rattle.haplotype_assembly.proofs.Shown.{first_in, row_shown, next_on, next_skip, next_none}
 use Rattle.haplotype_assembly.proofs.flist.ShownCallsIterator.next.Goals as goal
 
 pub phased_rule-requires : goal.phased_rule-requires
@@ -8,11 +8,14 @@ phased_rule-requires c = let i = (first_in c.loop-word.self-inside.case.laid.wor
 
 pub returns-then-phased_rule-clause-steps : goal.returns-then-phased_rule-clause-steps
 returns-then-phased_rule-clause-steps c =
-    cc (c.self.view_is, c.loop-word.invariant.same, next_on c.loop-word.self-inside.case.laid.words.now c.in-Some.ensures.cases.0 _ c.unpack-row.ensures _ c.phased_rule.ensures c.if-phased_rule.true)
+    let i = (first_in c.loop-word.self-inside.case.laid.words.now c.in-Some.ensures.cases.0 c.loop-word.invariant.rows_in).0 in (
+      cc (c.self.view_is, c.loop-word.invariant.same, next_on c.loop-word.self-inside.case.laid.words.now c.in-Some.ensures.cases.0 _ c.unpack-row.ensures _ c.phased_rule.ensures c.if-phased_rule.true),
+      rw c.unpack-row.ensures (row_shown c.loop-word.self-inside.case.laid.sized.n_top i),
+    )
 
 pub returns-then-phased_rule-clause-goes : goal.returns-then-phased_rule-clause-goes
 returns-then-phased_rule-clause-goes c =
-    let step = returns-then-phased_rule-clause-steps c in record { on = λ _. (tt, tt, omega (arith, ap length step)); keeps = tt; rests = λ _. tt }
+    let step = returns-then-phased_rule-clause-steps c in record { on = λ _. (tt, tt, omega (arith, ap length step.0)); keeps = tt; rests = λ _. tt }
 
 pub loop-word-preserved : goal.loop-word-preserved
 loop-word-preserved c = record {
@@ -21,4 +24,4 @@ loop-word-preserved c = record {
 }
 
 pub returns-clause-steps : goal.returns-clause-steps
-returns-clause-steps c = let none = next_none _ _ c.in_default.ensures.cases in (sym c.self.view_is ∙ sym c.loop-word.invariant.same ∙ none, none)
+returns-clause-steps c = let none = next_none _ _ c.in_default.ensures.cases in ((sym c.self.view_is ∙ sym c.loop-word.invariant.same ∙ none, none), tt)

@@ -8,4 +8,4 @@ unfolding written
 loop-v-init c = refl
 
 pub loop-v-preserved : goal.loop-v-preserved
-loop-v-preserved c = written_on _ _ _ _ _ c.loop-v.invariant c.name.ensures
+loop-v-preserved c = written_on _ _ _ _ _ c.loop-v.invariant (rw c.least_names-least.ensures at c.name.ensures)
