@@ -8,6 +8,7 @@ ghost use Rattle.likelihoods.specs.Inner.Likelihoods.{flagged};
 ghost use Rattle.likelihoods.specs.Inner.Totals.{PriorsIn, held_case, prior_share, fragment_share, standing_share, standing_total};
 
 use crate::likelihoods::{Haplotypes, ReadLikelihoods, ReadRows, Standing};
+use crate::pair::Pair;
 use steps::LogProb;
 use steps::one_plus::ln_one_plus_exp;
 
@@ -29,9 +30,8 @@ impl PairPriors<'_, '_> {
         let counts = self.on.mask[v] == 1;
         if counts {
             let k = self.ks[v] as usize;
-            let i = self.on.hap[2 * v] as usize;
-            let j = self.on.hap[2 * v + 1] as usize;
-            return LogProb(self.pri[9 * v + (i * k + j)]);
+            let pair = Pair::at(self.on.hap, v);
+            return LogProb(self.pri[9 * v + (pair.first * k + pair.second)]);
         }
         LogProb(0)
     }

@@ -24,5 +24,5 @@ below_first-base-requires c =
 
 pub returns : goal.returns
 returns c C S =
-    scored S c.pile.result.now c.pair_at-old.result _ c.turns_of-turns.result c.score_calls-sums.result.of _ _ c.pile.ensures c.pair_at-old.ensures (search rules) c.turns_of-turns.ensures c.score_calls-sums.ensures
+    scored S c.pile.result.now c.at-old.result _ c.turns_of-turns.result c.score_calls-sums.result.of _ _ c.pile.ensures c.at-old.ensures (search rules) c.turns_of-turns.ensures c.score_calls-sums.ensures
     (read_back w64 _ c.below_first-base.type_inv ∙ c.below_first-base.ensures.0) c.write_scores.ensures
