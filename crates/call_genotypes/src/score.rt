@@ -48,10 +48,11 @@ pub struct Sums {
 
 // Whether ln(1 + exp(..)) is straight at d and as far around it as a gap goes: 313,472 is 51,328, from where on A is 0, and 262,144, the
 // largest gap.
+#[tactic(auto, unfolding(crate::specs::Inner::Scores::is_far))]
 fn is_far(d: i64) -> bool
     ensures { result ≡ is_far d }
 {
-    d < -313472 || 313472 < d
+    !(-313472..=313472).contains(&d)
 }
 
 // The four numbers of a call with the gap g, for such a d. Both arms are at hand, so no jump is made of the sign, which no machine can guess.
@@ -59,7 +60,7 @@ fn far_mixes(d: i64, g: i64) -> Mixes
     requires { (is_far d ≡ true) × (nat_abs d ≤ 2 ^ 33 + 2 ^ 20) × (nat_abs g ≤ 262144) }
     ensures { (w : ℕ) → value_of result w ≡ mix_value d g w }
 {
-    let m = if d < 0 { 0 } else { d };
+    let m = d.max(0);
     let y = if d < 0 { 0 } else { g };
     Mixes {
         first: m + y,
