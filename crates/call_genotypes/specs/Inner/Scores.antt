@@ -5,7 +5,7 @@ use Rattle.std.specs.Int.Signed.{lt_z}
 use Rattle.steps.specs.Logs.{add_exp}
 use Rattle.variants_and_fragments.specs.Pileup.{Row}
 use Rattle.variants_and_fragments.specs.Decode.{tabulate}
-use Rattle.sweeps.specs.Sweeps.{SweepCase, allele0, allele1, score}
+use Rattle.sweeps.specs.Sweeps.{SweepCase, score}
 use Rattle.sweeps.specs.Inner.Sweeps.{GoodHaps}
 use Rattle.sweeps.specs.Inner.Incremental.{allele_sum}
 use Rattle.call_genotypes.specs.declared.score.Mixes.{Mixes}
