@@ -11,7 +11,7 @@ score_calls-sums-requires-clause-pile_fits c =
     c.pile.ensures.rows_in _ _ (pile_fits S.standing.held c.args.v S.v_in S.standing.liks)
 
 pub invariant_of-score_calls : goal.invariant_of-score_calls
-invariant_of-score_calls c = let S = c.requires.some.holds in record { within = lik_within S.standing.held _ _ S.standing.liks }
+invariant_of-score_calls c = let S = c.requires.some.holds in record { within = lik_within S.standing.held _ _ S.standing.liks; few = omega (arith, S.standing.liks.long, S.standing.held.fragments_top) }
 
 pub score_calls-sums-requires-clause-within : goal.score_calls-sums-requires-clause-within
 score_calls-sums-requires-clause-within c = λ i. rw (c.turns_of-turns.ensures i) (turn_small _ _ _ i)
