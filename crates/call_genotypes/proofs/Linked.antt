@@ -25,9 +25,10 @@ use Rattle.sweeps.proofs.Basics.{sum_over_cong}
 use Rattle.sweeps.proofs.Scored.{score_pileup}
 use Rattle.sweeps.proofs.Fours.{share_value}
 use Rattle.likelihoods.specs.Inner.Held.{SweepReads, Held, Liks, Within}
-use Rattle.call_genotypes.specs.declared.score.Pair.{Pair}
+use Rattle.likelihoods.specs.declared.pair.Pair.{Pair}
 use Rattle.call_genotypes.specs.declared.score.Mixes.{Mixes}
-use Rattle.call_genotypes.specs.Inner.Scores.{pair_at, row_mixes, turn, PileFits, AlleleSums, sums_at, rise_of, pair_rise, below_first, scores_of, ScoresRoom, SweepState, VisitStart, over_first, scored_at}
+use Rattle.likelihoods.specs.Inner.Pairs.{pair_at}
+use Rattle.call_genotypes.specs.Inner.Scores.{row_mixes, turn, PileFits, AlleleSums, sums_at, rise_of, pair_rise, below_first, scores_of, ScoresRoom, SweepState, VisitStart, over_first, scored_at}
 use Rattle.call_genotypes.specs.Inner.Piles.{PileIs}
 use Rattle.call_genotypes.proofs.RiseLaws.{row_four}
 use Rattle.call_genotypes.proofs.RiseSums.{pairs_are}

@@ -24,8 +24,8 @@ use Rattle.variants_and_fragments.proofs.Sums.{sum_append}
 use Rattle.pileup.specs.Inner.Packed.{rows_at}
 use Rattle.call_genotypes.specs.Inner.Piles.{PileIs}
 use Rattle.likelihoods.specs.Inner.Held.{Liks}
-use Rattle.call_genotypes.specs.declared.score.Pair.{Pair}
-use Rattle.call_genotypes.specs.Inner.Scores.{pair_at}
+use Rattle.likelihoods.specs.declared.pair.Pair.{Pair}
+use Rattle.likelihoods.specs.Inner.Pairs.{pair_at}
 use Rattle.call_genotypes.proofs.Linked.{pile_rows, phased_yes, phased_no}
 use Rattle.call_genotypes.specs.Inner.Visits.{move_of, Moved, Movable, PairPut}
 

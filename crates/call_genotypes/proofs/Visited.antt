@@ -14,8 +14,9 @@ use Rattle.sweeps.proofs.Basics.{and_in, and_l, and_r, same_eq, same_refl, put_s
 use Rattle.genotype_probs.proofs.Maxima.{maximum_same, maximum_shifted}
 use Rattle.variants_and_fragments.proofs.Bools.{is_true}
 use Rattle.likelihoods.specs.Inner.Held.{SweepReads}
-use Rattle.call_genotypes.specs.declared.score.Pair.{Pair}
-use Rattle.call_genotypes.specs.Inner.Scores.{pair_at, SweepState, sweep_state, VisitStart, over_first, scored_at}
+use Rattle.likelihoods.specs.declared.pair.Pair.{Pair}
+use Rattle.likelihoods.specs.Inner.Pairs.{pair_at}
+use Rattle.call_genotypes.specs.Inner.Scores.{SweepState, sweep_state, VisitStart, over_first, scored_at}
 use Rattle.call_genotypes.specs.Inner.Visits.{best_at, BestPair, Movable, PairPut, Visited}
 use Rattle.call_genotypes.proofs.Linked.{in_haps}
 use Rattle.call_genotypes.proofs.Tables.{sets_at}

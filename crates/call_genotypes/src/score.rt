@@ -6,21 +6,14 @@ ghost use Rattle.pileup.specs.Inner.Packed.{row_from, rows_at};
 ghost use Rattle.genotype_probs.specs.Posteriors.{first_maximum};
 ghost use Rattle.likelihoods.specs.Inner.Held.{Within};
 ghost use Rattle.call_genotypes.specs.Inner.Reads.{reads_of};
-ghost use Rattle.call_genotypes.specs.Inner.Scores.{pair_at, value_of, mix_value, is_far, row_mixes, turn, RowFits, PileFits, AlleleSums, SumsWithin, sums_at, rise_of, pair_rise, below_first, scores_of, ScoresRoom, Some, sweep_state, VisitStart, Scored};
+ghost use Rattle.call_genotypes.specs.Inner.Scores.{value_of, mix_value, is_far, row_mixes, turn, RowFits, PileFits, AlleleSums, SumsWithin, sums_at, rise_of, pair_rise, below_first, scores_of, ScoresRoom, Some, sweep_state, VisitStart, Scored};
 
 use crate::reads::SweepReads;
 use likelihoods::likelihoods::{ReadLikelihoods, Standing};
+use likelihoods::pair::Pair;
 use pileup::row::Row;
 use steps::LogProb;
 use steps::one_plus::ln_one_plus_exp;
-
-// A variant's alleles on the two haplotypes, as indices. With genotype_probs' Genotype, whose numbers are bytes, in its place there would be a cast at
-// eight uses; now there are four, in `pair_at` and `put_pair`.
-#[derive(Clone, Copy, PartialEq)]
-pub struct Pair {
-    pub first: usize,
-    pub second: usize,
-}
 
 // Of a call: its gap, and ln(1 + exp(d)) for how far its read's first likelihood is above the second, if the first haplotype alone has the
 // call's allele, if the second alone has it, and if neither or both have it.
@@ -55,10 +48,11 @@ pub struct Sums {
 
 // Whether ln(1 + exp(..)) is straight at d and as far around it as a gap goes: 313,472 is 51,328, from where on A is 0, and 262,144, the
 // largest gap.
+#[tactic(auto, unfolding(crate::specs::Inner::Scores::is_far))]
 fn is_far(d: i64) -> bool
     ensures { result ≡ is_far d }
 {
-    d < -313472 || 313472 < d
+    !(-313472..=313472).contains(&d)
 }
 
 // The four numbers of a call with the gap g, for such a d. Both arms are at hand, so no jump is made of the sign, which no machine can guess.
@@ -66,7 +60,7 @@ fn far_mixes(d: i64, g: i64) -> Mixes
     requires { (is_far d ≡ true) × (nat_abs d ≤ 2 ^ 33 + 2 ^ 20) × (nat_abs g ≤ 262144) }
     ensures { (w : ℕ) → value_of result w ≡ mix_value d g w }
 {
-    let m = if d < 0 { 0 } else { d };
+    let m = d.max(0);
     let y = if d < 0 { 0 } else { g };
     Mixes {
         first: m + y,
@@ -236,17 +230,6 @@ pub fn first_max(s: &[i64]) -> usize
     b
 }
 
-// The pair that stands at v.
-pub fn pair_at(hap: &[u8], v: usize) -> Pair
-    requires { (v < 1024) × (2 * v + 1 < length hap.now) }
-    ensures { result ≡ pair_at hap.now v }
-{
-    Pair {
-        first: hap[2 * v] as usize,
-        second: hap[2 * v + 1] as usize,
-    }
-}
-
 // Writes at 9 * v how far the scores of v's pairs are above that of the first: normalising takes a common part away.
 pub fn scores(reads: &SweepReads<'_>, hap: &[u8], lik: &[i64], post: &mut [i64], v: usize)
     requires some { Some (λ C. VisitStart C (reads_of reads.now) (sweep_state hap.now lik.now post.old) v) }
@@ -254,7 +237,7 @@ pub fn scores(reads: &SweepReads<'_>, hap: &[u8], lik: &[i64], post: &mut [i64],
 {
     let k = reads.ks[v] as usize;
     let phased = reads.ph[v] != 0;
-    let old = pair_at(hap, v);
+    let old = Pair::at(hap, v);
     let turns = turns_of(phased, old);
     let sums = score_calls(reads.pile(v), &Standing { lik }, &turns);
     let base = sums.below_first(reads.pri, v);

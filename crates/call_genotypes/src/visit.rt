@@ -8,8 +8,9 @@ ghost use Rattle.call_genotypes.specs.Inner.Scores.{PileFits, Some, sweep_state,
 ghost use Rattle.call_genotypes.specs.Inner.Visits.{BestPair, Moved, Movable, PutFrom, VisitedFrom, SweepStart, SweptFrom};
 
 use crate::reads::SweepReads;
-use crate::score::{Pair, first_max, pair_at, scores};
+use crate::score::{first_max, scores};
 use likelihoods::likelihoods::call_term;
+use likelihoods::pair::Pair;
 use pileup::row::Row;
 
 // What a row's call adds to a likelihood when its variant's allele goes from old to new.
@@ -47,10 +48,8 @@ fn put_pair(reads: &SweepReads<'_>, hap: &mut [u8], lik: &mut [i64], v: usize, n
     requires first_bound { (new.first < 3) × (new.second < 3) }
     ensures { PutFrom reads.now.ph.now reads.now.piles.ends.now reads.now.piles.words.now hap.old lik.old v new hap.new lik.new }
 {
-    let old = pair_at(hap, v);
-    let at = 2 * v;
-    hap[at] = new.first as u8;
-    hap[at + 1] = new.second as u8;
+    let old = Pair::at(hap, v);
+    new.put(hap, v);
     if reads.ph[v] != 0 {
         let pile = reads.pile(v);
         move_liks(pile, lik, 0, old.first, new.first);
@@ -92,7 +91,7 @@ pub fn visit(
     ensures { VisitedFrom (reads_of reads.now) (sweep_state hap.old lik.old post.old) v (sweep_state hap.new lik.new post.new) result }
 {
     scores(reads, hap, lik, post, v);
-    let old = pair_at(hap, v);
+    let old = Pair::at(hap, v);
     let new = best_pair(post, v, reads.ks[v] as usize);
     let same = old == new;
     if same {

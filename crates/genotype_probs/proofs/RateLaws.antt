@@ -2,7 +2,7 @@
 -- most 57,344 steps down. Assumes nothing.
 use mathlib.Core.Path.{◌≡◌, refl, sym, ap, ◌∙◌}
 use mathlib.Core.Bool.{true}
-use mathlib.Core.List.{[], ◌∷◌, map}
+use mathlib.Core.List.{List, [], ◌∷◌, map}
 use Prim.Native.Nat.{ℕ, zero, suc, ◌≤◌, ◌<◌, ◌^◌}
 use native.Mathlib.Omega.{arith}
 use borrow.Author.Tests.{leb-true}
@@ -86,7 +86,10 @@ unfolding rates_fault
 all_accepted rates h = sym (first_end (rate_test rates) 7 7 h refl)
 
 -- the first six tests are of the six rates
-pub six_tests : (rates : Rates) (p : ℕ) (d : LogProb) → p < 6 → rate_test rates p ≡ rate_ok (get_or {A = LogProb} (rates.hom_snv ∷ rates.het_snv ∷ rates.hom_indel ∷ rates.het_indel ∷ rates.ts ∷ rates.tv ∷ []) p d).0
+abbrev pub six_rates : Rates → List LogProb
+six_rates rates = rates.hom_snv ∷ rates.het_snv ∷ rates.hom_indel ∷ rates.het_indel ∷ rates.ts ∷ rates.tv ∷ []
+
+pub six_tests : (rates : Rates) (p : ℕ) (d : LogProb) → p < 6 → rate_test rates p ≡ rate_ok (get_or (six_rates rates) p d).0
 unfolding rate_test rate_tests
 six_tests rates zero d h = refl
 six_tests rates (suc zero) d h = refl

@@ -51,10 +51,8 @@ impl Rates {
             self.ts,
             self.tv,
         ];
-        for (place, rate) in six.iter().enumerate() {
-            if !rate_ok(*rate) {
-                return Err(Refusal::Rates(place));
-            }
+        if let Some(place) = six.iter().position(|rate| !rate_ok(*rate)) {
+            return Err(Refusal::Rates(place));
         }
         let below = self.rate_sum() < LogProb(0);
         if below {

@@ -1,3 +1,4 @@
 pub mod Held
 pub mod Likelihoods
+pub mod Pairs
 pub mod Totals

@@ -2,5 +2,6 @@
 #![tactic(auto)]
 
 pub mod likelihoods;
+pub mod pair;
 pub mod sweep_case;
 pub mod totals;

@@ -46,6 +46,7 @@ impl ReadLikelihoods {
 pub struct Standing<'a> {
     pub lik: &'a [i64],
     pub ghost within: { Within (2 ^ 32) lik.now },
+    pub ghost few: { length lik.now ≤ 8192 },
 }
 
 // Two haplotypes, and a flag per variant: 1 where the variant counts.
@@ -63,7 +64,8 @@ pub struct ReadCalls<'r, 'h> {
     pub ghost calls_in: { CallsIn rows.now (length rows.now) on.hap.now on.mask.now },
 }
 
-// All reads' usable calls as rows, a group for each read, and the haplotypes.
+// All reads' usable calls as rows, a group for each read, and the haplotypes. That there are at most 4,096 reads is no ghost field: the methods ask for
+// no such limit, and would then.
 #[derive(Clone, Copy)]
 pub struct ReadRows<'r, 'h> {
     pub rows: Groups<'r>,

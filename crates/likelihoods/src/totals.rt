@@ -8,6 +8,7 @@ ghost use Rattle.likelihoods.specs.Inner.Likelihoods.{flagged};
 ghost use Rattle.likelihoods.specs.Inner.Totals.{PriorsIn, held_case, prior_share, fragment_share, standing_share, standing_total};
 
 use crate::likelihoods::{Haplotypes, ReadLikelihoods, ReadRows, Standing};
+use crate::pair::Pair;
 use steps::LogProb;
 use steps::one_plus::ln_one_plus_exp;
 
@@ -29,9 +30,8 @@ impl PairPriors<'_, '_> {
         let counts = self.on.mask[v] == 1;
         if counts {
             let k = self.ks[v] as usize;
-            let i = self.on.hap[2 * v] as usize;
-            let j = self.on.hap[2 * v + 1] as usize;
-            return LogProb(self.pri[9 * v + (i * k + j)]);
+            let pair = Pair::at(self.on.hap, v);
+            return LogProb(self.pri[9 * v + (pair.first * k + pair.second)]);
         }
         LogProb(0)
     }
@@ -84,7 +84,6 @@ pub fn total(priors: &PairPriors<'_, '_>, reads: &ReadRows<'_, '_>) -> LogProb
 
 // The mixed likelihoods of the reads, two of each, as they stand. At the loop's head those of the first f are added.
 fn mixes_total(standing: &Standing<'_>) -> LogProb
-    requires { length standing.now.lik.now ≤ 8192 }
     ensures { (result.0 ≡ sum_to (length standing.now.lik.now / 2) (standing_share standing.now.lik.now)) × (nat_abs result.0 ≤ 2 ^ 45) }
 {
     let mut sum = LogProb(0);
@@ -94,9 +93,9 @@ fn mixes_total(standing: &Standing<'_>) -> LogProb
     sum
 }
 
-// The total over the flagged variants, of the likelihoods that stand: their priors plus, per read, its mixed likelihoods.
+// The total over the flagged variants, of the likelihoods that stand: their priors plus, per read, its mixed likelihoods. `total` has another second sum;
+// a function for the addition that both make would be longer, with its contract, than both.
 pub fn standing_total(priors: &PairPriors<'_, '_>, standing: &Standing<'_>) -> LogProb
-    requires { length standing.now.lik.now ≤ 8192 }
     ensures { result.0 ≡ standing_total (length priors.now.ks.now) (length standing.now.lik.now / 2) priors.now.ks.now priors.now.pri.now standing.now.lik.now priors.now.on.hap.now priors.now.on.mask.now }
 {
     let x = priors.total();

@@ -40,7 +40,7 @@ const MAX_LIMIT: u32 = 1000000;
 fn check_limit(limit: u32) -> Result<(), Refusal>
     ensures { answered (λ x. x) result ≡ unless (leb 1 limit && leb limit max_limit) 9 limit (done tt) }
 {
-    if limit < 1 || MAX_LIMIT < limit {
+    if !(1..=MAX_LIMIT).contains(&limit) {
         return Err(Refusal::Limit(limit as usize));
     }
     Ok(())

@@ -21,8 +21,7 @@ use variants_and_fragments::layout::MAX_VARIANTS;
 impl PreparedRun<'_> {
     // The total of these haplotypes over the phased variants, of the likelihoods that stand.
     fn phased_total(&self, hap: &[u8], standing: &Standing<'_>) -> LogProb
-        requires priors_in { PriorsIn (length self.now.reads.ks.now) self.now.reads.ks.now self.now.pri.now hap.now self.now.reads.ph.now }
-        requires liks_few { length standing.now.lik.now ≤ 8192 }
+        requires { PriorsIn (length self.now.reads.ks.now) self.now.reads.ks.now self.now.pri.now hap.now self.now.reads.ph.now }
         ensures { result.0 ≡ standing_total (length self.now.reads.ks.now) (length standing.now.lik.now / 2) self.now.reads.ks.now self.now.pri.now standing.now.lik.now hap.now self.now.reads.ph.now }
     {
         let priors = PairPriors {

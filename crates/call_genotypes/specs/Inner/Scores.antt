@@ -5,17 +5,12 @@ use Rattle.std.specs.Int.Signed.{lt_z}
 use Rattle.steps.specs.Logs.{add_exp}
 use Rattle.variants_and_fragments.specs.Pileup.{Row}
 use Rattle.variants_and_fragments.specs.Decode.{tabulate}
-use Rattle.sweeps.specs.Sweeps.{SweepCase, allele0, allele1, score}
+use Rattle.sweeps.specs.Sweeps.{SweepCase, score}
 use Rattle.sweeps.specs.Inner.Sweeps.{GoodHaps}
 use Rattle.sweeps.specs.Inner.Incremental.{allele_sum}
 use Rattle.call_genotypes.specs.declared.score.Mixes.{Mixes}
-use Rattle.call_genotypes.specs.declared.score.Pair.{Pair}
 use Rattle.pileup.specs.Inner.Packed.{RowIn, RowsIn}
 use Rattle.likelihoods.specs.Inner.Held.{SweepReads, Held, Liks}
-
--- the pair that stands at v
-abbrev pub pair_at : List ℕ → ℕ → Pair
-pair_at h v = record { first = allele0 h v; second = allele1 h v }
 
 -- ln(1 + exp(d)), in steps
 abbrev pub one_plus : ℤ → ℤ

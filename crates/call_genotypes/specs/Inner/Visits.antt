@@ -9,7 +9,7 @@ use Rattle.shuffle.specs.Permutation.{all_below}
 use Rattle.sweeps.specs.Inner.Incremental.{changed}
 use Rattle.sweeps.specs.Inner.Posts.{recorded}
 use Rattle.likelihoods.specs.Inner.Held.{SweepReads, sweep_reads, Held, Liks, Within}
-use Rattle.call_genotypes.specs.declared.score.Pair.{Pair}
+use Rattle.likelihoods.specs.declared.pair.Pair.{Pair}
 use Rattle.call_genotypes.specs.Inner.Scores.{over_first, SweepState, Standing, VisitStart, scored_at}
 
 -- ---- the best pair

@@ -11,7 +11,7 @@ score_calls-sums-requires-clause-pile_fits c =
     c.pile.ensures.rows_in _ _ (pile_fits S.standing.held c.args.v S.v_in S.standing.liks)
 
 pub invariant_of-score_calls : goal.invariant_of-score_calls
-invariant_of-score_calls c = let S = c.requires.some.holds in record { within = lik_within S.standing.held _ _ S.standing.liks }
+invariant_of-score_calls c = let S = c.requires.some.holds in record { within = lik_within S.standing.held _ _ S.standing.liks; few = omega (arith, S.standing.liks.long, S.standing.held.fragments_top) }
 
 pub score_calls-sums-requires-clause-within : goal.score_calls-sums-requires-clause-within
 score_calls-sums-requires-clause-within c = λ i. rw (c.turns_of-turns.ensures i) (turn_small _ _ _ i)
@@ -24,5 +24,5 @@ below_first-base-requires c =
 
 pub returns : goal.returns
 returns c C S =
-    scored S c.pile.result.now c.pair_at-old.result _ c.turns_of-turns.result c.score_calls-sums.result.of _ _ c.pile.ensures c.pair_at-old.ensures (search rules) c.turns_of-turns.ensures c.score_calls-sums.ensures
+    scored S c.pile.result.now c.at-old.result _ c.turns_of-turns.result c.score_calls-sums.result.of _ _ c.pile.ensures c.at-old.ensures (search rules) c.turns_of-turns.ensures c.score_calls-sums.ensures
     (read_back w64 _ c.below_first-base.type_inv ∙ c.below_first-base.ensures.0) c.write_scores.ensures

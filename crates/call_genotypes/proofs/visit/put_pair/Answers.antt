@@ -1,5 +1,5 @@
 -- The likelihoods move on one haplotype, then on the other. Assumes nothing.
-use Rattle.std.proofs.Common.{◌^◌, length, refl, arith, rules}
+use Rattle.std.proofs.Common.{◌^◌, length, arith, rules}
 use Rattle.pileup.specs.Inner.Packed.{rows_at}
 use Rattle.call_genotypes.specs.Inner.Visits.{Moved}
 use Rattle.call_genotypes.proofs.Linked.{lik_within, pile_fits}
@@ -9,11 +9,11 @@ use Rattle.call_genotypes.proofs.visit.put_pair.Goals as goal
 pub returns-then-reads-v-ne0 : goal.returns-then-reads-v-ne0
 returns-then-reads-v-ne0 c C M =
     let pile = c.pile-pile.result.now in
-    let second : Moved 1 c.pair_at-old.result.second c.args.new.second (rows_at pile 0 (length pile)) c.move_liks.new.lik c.move_liks-then-reads-v-ne0.new.lik = search rules in
-    pair_moves M _ _ refl pile c.pair_at-old.result c.move_liks.new.lik _ c.if-reads-v-ne0.true c.pile-pile.ensures c.pair_at-old.ensures c.move_liks.ensures second
+    let second : Moved 1 c.at-old.result.second c.args.new.second (rows_at pile 0 (length pile)) c.move_liks.new.lik c.move_liks-then-reads-v-ne0.new.lik = search rules in
+    pair_moves M _ _ c.put.ensures pile c.at-old.result c.move_liks.new.lik _ c.if-reads-v-ne0.true c.pile-pile.ensures c.at-old.ensures c.move_liks.ensures second
 
 pub returns-else-reads-v-ne0 : goal.returns-else-reads-v-ne0
-returns-else-reads-v-ne0 c C M = pair_stays M _ _ refl c.if-reads-v-ne0.false
+returns-else-reads-v-ne0 c C M = pair_stays M _ _ c.put.ensures c.if-reads-v-ne0.false
 
 pub move_liks-requires : goal.move_liks-requires
 move_liks-requires c =

@@ -4,7 +4,7 @@ use Rattle.likelihoods.proofs.TotalParts.{share_flagged, share_unflagged}
 use Rattle.likelihoods.proofs.totals.PairPriors.share.Goals as goal
 
 pub returns-then-counts : goal.returns-then-counts
-returns-then-counts c = share_flagged c.args.self.now.priors_in _ c.requires (omega arith)
+returns-then-counts c = rw c.at-pair.ensures (share_flagged c.args.self.now.priors_in _ c.requires (omega arith))
 
 pub returns : goal.returns
 returns c = share_unflagged c.args.self.now.priors_in _ c.requires (λ e. omega arith)

@@ -16,14 +16,15 @@ invariant_of-phased_total c =
     let G = c.args.self.now.reads.given in
     let P = c.requires.prepared in
     let S = c.requires.state in
-    record { within = (standing_asks G P S S.good_start (liks_here G P S c.write_likelihoods.ensures)).1 }
+    let a = standing_asks G P S S.good_start (liks_here G P S c.write_likelihoods.ensures) in
+    record { within = a.1; few = a.0 }
 
 pub phased_total-start-requires : goal.phased_total-start-requires
 phased_total-start-requires c =
     let G = c.args.self.now.reads.given in
     let P = c.requires.prepared in
     let S = c.requires.state in
-    record { priors_in = priors_asked G P S _ S.good_start G.ph_long; liks_few = (standing_asks G P S S.good_start (liks_here G P S c.write_likelihoods.ensures)).0 }
+    priors_asked G P S _ S.good_start G.ph_long
 
 pub run_sweeps-r-requires : goal.run_sweeps-r-requires
 run_sweeps-r-requires c =
@@ -35,7 +36,8 @@ invariant_of-phased_total-2 c =
     let P = c.requires.prepared in
     let S = c.requires.state in
     let R = c.run_sweeps-r.ensures _ (begins G P S c.write_likelihoods.ensures) in
-    record { within = (standing_asks G P S (left_good G P S R) R.liks).1 }
+    let a = standing_asks G P S (left_good G P S R) R.liks in
+    record { within = a.1; few = a.0 }
 
 pub phased_total-end-requires : goal.phased_total-end-requires
 phased_total-end-requires c =
@@ -43,8 +45,7 @@ phased_total-end-requires c =
     let P = c.requires.prepared in
     let S = c.requires.state in
     let R = c.run_sweeps-r.ensures _ (begins G P S c.write_likelihoods.ensures) in
-    let g = left_good G P S R in
-    record { priors_in = priors_asked G P S _ g G.ph_long; liks_few = (standing_asks G P S g R.liks).0 }
+    priors_asked G P S _ (left_good G P S R) G.ph_long
 
 pub source_total-source-requires : goal.source_total-source-requires
 source_total-source-requires c =
