@@ -12,29 +12,30 @@ use Rattle.variants_and_fragments.specs.declared.Sizes.{Sizes}
 use Rattle.variants_and_fragments.specs.Case.{allele_count, allele_of}
 use Rattle.variants_and_fragments.specs.Layout.{sizes_of, allele_count_at, length_at}
 use Rattle.variants_and_fragments.specs.Alleles.{alleles_length, alleles_start}
-use Rattle.variants_and_fragments.specs.Inner.Accepted.{CaseIn, BasesIn}
+use Rattle.variants_and_fragments.specs.Inner.Alleles.{VariantsIn}
 use Rattle.variants_and_fragments.specs.Decode.{allele_start, allele_at, variant_from, decode}
-use Rattle.variants_and_fragments.proofs.Decoded.{tabulate_length, tabulate_at, variant_is, allele_end}
+use Rattle.variants_and_fragments.proofs.AlleleBytes.{off_on, off_le}
+use Rattle.variants_and_fragments.proofs.Decoded.{tabulate_length, tabulate_at, variant_is}
 use Rattle.genotype_probs.specs.declared.Rates.{Rates}
 use Rattle.genotype_probs.specs.Priors.{get_prior, all_priors, prior_at}
 use Rattle.genotype_probs.specs.Inner.PriorTable.{lookup, table_prior}
 
-module _ {w : List ℤ} {s : Sizes} (k : CaseIn w s) where
+module _ {w : List ℤ} {s : Sizes} (k : VariantsIn w s) where
   -- at most 64 bases per allele, 192 per variant
   pub length_high : (v j : ℕ) → v < s.n → j < 3 → length_at w v j ≤ 64
-  length_high v zero h l = (k.variants.each v h).len0
-  length_high v (suc zero) h l = (k.variants.each v h).len1
-  length_high v (suc (suc zero)) h l = (k.variants.each v h).len2
+  length_high v zero h l = (k.each v h).len0
+  length_high v (suc zero) h l = (k.each v h).len1
+  length_high v (suc (suc zero)) h l = (k.each v h).len2
   length_high v (suc (suc (suc j))) h l = absurd (omega arith)
 
   start_high : (v : ℕ) → v ≤ s.n → alleles_start w v ≤ 192 * v
   unfolding alleles_start
   start_high zero h = omega arith
   start_high (suc v) h =
-      let i = k.variants.each v h in omega (arith, start_high v (omega arith), i.len0, i.len1, i.len2)
+      let i = k.each v h in omega (arith, start_high v (omega arith), i.len0, i.len1, i.len2)
 
-  pub start_top : (v : ℕ) → v ≤ s.n → alleles_start w v ≤ 196608
-  start_top v h = omega (arith, start_high v h, k.sized.n_top)
+  pub start_top : (v : ℕ) → s.n ≤ 1024 → v ≤ s.n → alleles_start w v ≤ 196608
+  start_top v top h = omega (arith, start_high v h)
 
 -- an allele's bytes are among its variant's
 pub allele_within : (w : List ℤ) (v j : ℕ) → j < 3 → allele_start w v j + length_at w v j ≤ alleles_start w v + alleles_length w v
@@ -49,11 +50,17 @@ pub allele_part : (w : List ℤ) (b : List ℕ) (v j a e : ℕ) → a ≡ allele
 unfolding allele_at
 allele_part w b v j a e p q = let d : e - a ≡ length_at w v j = omega arith in rw (d, p)
 
--- and it has one
-pub allele_there : {w : List ℤ} {s : Sizes} (k : CaseIn w s) (b : List ℕ) (i : BasesIn w s b) (v j : ℕ) → v < s.n → j < allele_count_at w v → 0 < length (allele_at w b v j)
-unfolding allele_at
-allele_there {w} {s} k b i v j h l =
-    simp (length-take, length-drop) (omega (arith, (k.variants.each v h).present j l, allele_end k b i v j h l))
+-- where the bases are as many as the alleles have, each allele ends within them, and has one where it is present
+module _ {w : List ℤ} {s : Sizes} (k : VariantsIn w s) (b : List ℕ) (long : length b ≡ alleles_start w s.n) (v j : ℕ) (h : v < s.n) where
+  pub allele_end : j < 3 → allele_start w v j + length_at w v j ≤ length b
+  allele_end l = omega (arith, allele_within w v j l, off_on w v, off_le w (v + 1) s.n (omega arith))
+
+  pub allele_length : j < 3 → length (allele_at w b v j) ≡ length_at w v j
+  unfolding allele_at
+  allele_length l = simp (length-take, length-drop) (omega (arith, allele_end l))
+
+  pub allele_there : j < allele_count_at w v → 0 < length (allele_at w b v j)
+  allele_there l = omega (arith, allele_length (omega (arith, (k.each v h).k_high)), (k.each v h).present j l)
 
 -- ---- of the decoded variant
 count_is : (w : List ℤ) (b : List ℕ) (v : ℕ) → allele_count (variant_from w b v) ≡ allele_count_at w v

@@ -21,9 +21,9 @@ loop-j-preserved c =
     let long : i * k + j < length c.loop-j.priors = omega (arith, c.loop-j.auto.priors, c.requires, nine k c.count-k.ensures.1) in
     let r : to_z w64 (of_z w64 c.get_prior.result.0) ≡ c.get_prior.result.0 = search rules in
     let rates = c.args.table.now.rates.rates in
-    let w = x.case.now.laid.words.now in
-    let b = x.case.now.bases.now in
-    let low = (x.case.now.case_in.variants.each x.v x.inside).k_low in
+    let w = x.alleles.now.known.laid.words.now in
+    let b = x.alleles.now.bases.now in
+    let low = (x.alleles.now.known.variants_in.each x.v x.inside).k_low in
     let n = c.count-k.ensures.0 in
     let v = r
     ∙ c.get_prior.ensures
@@ -44,7 +44,7 @@ returns c =
     let long : length c.loop-i.priors ≡ 9 = c.loop-i.auto.priors ∙ c.requires in
     let rest : length (take (9 - m) (drop m c.loop-i.priors)) ≡ 9 - m = simp (length-take, length-drop) (omega arith) in
     let e : c.loop-i.i ≡ k = omega arith in
-    then_zeros (all_priors c.args.table.now.rates.rates (variant_from x.case.now.laid.words.now x.case.now.bases.now x.v)) m c.loop-i.priors c.fill.new.self top long (c.fill.ensures.len ∙ rest)
+    then_zeros (all_priors c.args.table.now.rates.rates (variant_from x.alleles.now.known.laid.words.now x.alleles.now.bases.now x.v)) m c.loop-i.priors c.fill.new.self top long (c.fill.ensures.len ∙ rest)
     (λ p h. c.loop-i.invariant p (rw e h))
     (λ p h. c.fill.ensures.clones p (pos 0) (omega arith) refl)
-    (λ p h. past_places c.args.table.now.rates.rates x.case.now.laid.words.now x.case.now.bases.now x.v k c.count-k.ensures.0 p h)
+    (λ p h. past_places c.args.table.now.rates.rates x.alleles.now.known.laid.words.now x.alleles.now.bases.now x.v k c.count-k.ensures.0 p h)

@@ -6,8 +6,8 @@ use Rattle.genotype_probs.proofs.priors.get_all_priors.Given as goal
 
 abbrev pub invariant-loop-i : goal.invariant-loop-i
 invariant-loop-i l =
-    (p : ℕ) → p < l.i * l.k → get_or l.priors p (pos 0) ≡ all_priors l.table.rates.rates (variant_from l.variant.case.now.laid.words.now l.variant.case.now.bases.now l.variant.v) p
+    (p : ℕ) → p < l.i * l.k → get_or l.priors p (pos 0) ≡ all_priors l.table.rates.rates (variant_from l.variant.alleles.now.known.laid.words.now l.variant.alleles.now.bases.now l.variant.v) p
 
 abbrev pub invariant-loop-j : goal.invariant-loop-j
 invariant-loop-j l =
-    (p : ℕ) → p < l.i * l.k + l.j → get_or l.priors p (pos 0) ≡ all_priors l.table.rates.rates (variant_from l.variant.case.now.laid.words.now l.variant.case.now.bases.now l.variant.v) p
+    (p : ℕ) → p < l.i * l.k + l.j → get_or l.priors p (pos 0) ≡ all_priors l.table.rates.rates (variant_from l.variant.alleles.now.known.laid.words.now l.variant.alleles.now.bases.now l.variant.v) p

@@ -8,4 +8,4 @@ use Rattle.genotype_probs.proofs.priors.write_priors.Given as goal
 
 abbrev pub invariant-loop-v : goal.invariant-loop-v
 invariant-loop-v l =
-    (l.at ≡ alleles_start l.case.laid.words.now l.v) × (l.priors ≡ written (prior_at l.table.rates.rates (decode l.case.laid.words.now l.case.bases.now)) (9 * l.v) l.fn.priors)
+    (l.at ≡ alleles_start l.alleles.known.laid.words.now l.v) × (l.priors ≡ written (prior_at l.table.rates.rates (decode l.alleles.known.laid.words.now l.alleles.bases.now)) (9 * l.v) l.fn.priors)
