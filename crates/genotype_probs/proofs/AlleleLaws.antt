@@ -16,9 +16,8 @@ use Rattle.variants_and_fragments.specs.Inner.Alleles.{VariantsIn}
 use Rattle.variants_and_fragments.specs.Decode.{allele_start, allele_at, variant_from, decode}
 use Rattle.variants_and_fragments.proofs.AlleleBytes.{off_on, off_le}
 use Rattle.variants_and_fragments.proofs.Decoded.{tabulate_length, tabulate_at, variant_is}
-use Rattle.genotype_probs.specs.declared.Rates.{Rates}
-use Rattle.genotype_probs.specs.Priors.{get_prior, all_priors, prior_at}
-use Rattle.genotype_probs.specs.Inner.PriorTable.{lookup, table_prior}
+use Rattle.genotype_probs.specs.declared.table.Rows.{Rows}
+use Rattle.genotype_probs.specs.Inner.PriorTable.{lookup, table_prior, table_priors, table_prior_at}
 
 module _ {w : List ℤ} {s : Sizes} (k : VariantsIn w s) where
   -- at most 64 bases per allele, 192 per variant
@@ -71,7 +70,7 @@ allele_is : (w : List ℤ) (b : List ℕ) (v j : ℕ) → j < allele_count_at w 
 unfolding variant_from
 allele_is w b v j h = tabulate_at _ _ j [] h
 
-pub prior_is : (table : List ℤ) (w : List ℤ) (b : List ℕ) (v i j : ℕ) (reference first second : List ℕ) → 0 < allele_count_at w v → i < allele_count_at w v → j < allele_count_at w v
+pub prior_is : (table : List Rows) (w : List ℤ) (b : List ℕ) (v i j : ℕ) (reference first second : List ℕ) → 0 < allele_count_at w v → i < allele_count_at w v → j < allele_count_at w v
     → reference ≡ allele_at w b v 0 → first ≡ allele_at w b v i → second ≡ allele_at w b v j → lookup table reference first second ≡ table_prior table (variant_from w b v) i j
 unfolding table_prior
 prior_is table w b v i j reference first second h k l p q r = rw (p, q, r, allele_is w b v 0 h, allele_is w b v i k, allele_is w b v j l)
@@ -85,17 +84,17 @@ nine (suc (suc (suc zero))) h = omega arith
 nine (suc (suc (suc (suc k)))) h = absurd (omega arith)
 
 -- place i × k + j of them, and those past the k × k
-module _ (rates : Rates) (w : List ℤ) (b : List ℕ) (v k : ℕ) (e : k ≡ allele_count_at w v) where
-  pub place_is : (i j : ℕ) → j < k → i * k + j < k * k → get_prior rates (variant_from w b v) i j ≡ all_priors rates (variant_from w b v) (i * k + j)
-  unfolding all_priors
+module _ (table : List Rows) (w : List ℤ) (b : List ℕ) (v k : ℕ) (e : k ≡ allele_count_at w v) where
+  pub place_is : (i j : ℕ) → j < k → i * k + j < k * k → table_prior table (variant_from w b v) i j ≡ table_priors table (variant_from w b v) (i * k + j)
+  unfolding table_priors
   place_is i j h l = rw (count_is w b v, ← e, lt-ltb (i * k + j) (k * k) l, digits_div i h, digits_mod i h)
 
-  pub past_places : (p : ℕ) → k * k ≤ p → all_priors rates (variant_from w b v) p ≡ pos 0
-  unfolding all_priors
+  pub past_places : (p : ℕ) → k * k ≤ p → table_priors table (variant_from w b v) p ≡ pos 0
+  unfolding table_priors
   past_places p h = rw (count_is w b v, ← e, le-ltb p (k * k) h)
 
 -- element 9 v + p of a case's priors is place p of variant v
-pub element_is : (rates : Rates) (w : List ℤ) (b : List ℕ) (v p : ℕ) → v < (sizes_of w).n → p < 9 → all_priors rates (variant_from w b v) p ≡ prior_at rates (decode w b) (9 * v + p)
-unfolding prior_at
-element_is rates w b v p h k =
+pub element_is : (table : List Rows) (w : List ℤ) (b : List ℕ) (v p : ℕ) → v < (sizes_of w).n → p < 9 → table_priors table (variant_from w b v) p ≡ table_prior_at table (decode w b) (9 * v + p)
+unfolding table_prior_at
+element_is table w b v p h k =
     let q : (9 * v + p) / 9 ≡ v = omega arith in let r : (9 * v + p) % 9 ≡ p = omega arith in rw (q, r, variant_is w b v h)

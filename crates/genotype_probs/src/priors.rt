@@ -4,8 +4,7 @@ ghost use Rattle.variants_and_fragments.specs.Layout.{sizes_of, allele_count_at}
 ghost use Rattle.variants_and_fragments.specs.Alleles.{alleles_start};
 ghost use Rattle.variants_and_fragments.specs.Decode.{allele_start, allele_at, tabulate, variant_from, decode};
 ghost use Rattle.variants_and_fragments.specs.Written.{written};
-ghost use Rattle.genotype_probs.specs.Priors.{all_priors, prior_at};
-ghost use Rattle.genotype_probs.specs.Inner.PriorTable.{prior_table, lookup};
+ghost use Rattle.genotype_probs.specs.Inner.PriorTable.{lookup, table_priors, table_prior_at};
 
 use crate::letters::{Allele, Base, compare};
 use crate::table::PriorTable;
@@ -62,7 +61,7 @@ pub fn get_prior(
     first: Allele<'_>,
     second: Allele<'_>,
 ) -> LogProb
-    ensures { result.0 ≡ lookup (prior_table table.now.rates.rates) reference.entry.bases.now first.entry.bases.now second.entry.bases.now }
+    ensures { result.0 ≡ lookup table.now.bases reference.entry.bases.now first.entry.bases.now second.entry.bases.now }
 {
     let base = Base::of(reference.bases[0]);
     let one = compare(reference.bases, first, base);
@@ -73,7 +72,7 @@ pub fn get_prior(
 // Writes a variant's nine places: its k by k genotypes row after row, then zeros.
 pub fn get_all_priors(table: &PriorTable, variant: &VariantAlleles<'_>, priors: &mut [i64])
     requires { length priors.old ≡ 9 }
-    ensures { priors.new ≡ tabulate 9 (all_priors table.now.rates.rates (variant_from variant.now.alleles.now.known.laid.words.now variant.now.alleles.now.bases.now variant.now.v)) }
+    ensures { priors.new ≡ tabulate 9 (table_priors table.now.bases (variant_from variant.now.alleles.now.known.laid.words.now variant.now.alleles.now.bases.now variant.now.v)) }
 {
     let k = variant.count();
     let reference = variant.allele(0);
@@ -89,7 +88,7 @@ pub fn get_all_priors(table: &PriorTable, variant: &VariantAlleles<'_>, priors: 
 // Writes the priors of all variants.
 pub fn write_priors(alleles: &WithAlleles<'_>, table: &PriorTable, priors: &mut [i64])
     requires { (alleles.now.known.laid.sizes ≡ sizes_of alleles.now.known.laid.words.now) × (9 * alleles.now.known.laid.sizes.n ≤ length priors.old) }
-    ensures { priors.new ≡ written (prior_at table.now.rates.rates (decode alleles.now.known.laid.words.now alleles.now.bases.now)) (9 * alleles.now.known.laid.sizes.n) priors.old }
+    ensures { priors.new ≡ written (table_prior_at table.now.bases (decode alleles.now.known.laid.words.now alleles.now.bases.now)) (9 * alleles.now.known.laid.sizes.n) priors.old }
 {
     let mut at = 0;
     for v in 0..alleles.known.laid.sizes.n {
