@@ -5,11 +5,11 @@ use mathlib.Core.List.{List}
 use Prim.Native.Nat.{ℕ}
 use borrow.Author.Tests.{eqb-true, eq-eqb, ne_eqb}
 use lib.Dec.{eqb, ltb}
-use lib.IntN.{ℤ}
 use lib.ListN.{length}
 use Rattle.steps.proofs.Signed.{by_test}
 use Rattle.genotype_probs.specs.declared.letters.Compared.{Compared}
-use Rattle.genotype_probs.specs.Letters.{Base, base, base_number, letter_number, same_letter}
+use Rattle.genotype_probs.specs.declared.table.Rows.{Rows}
+use Rattle.genotype_probs.specs.Letters.{Base, base, letter_number, same_letter}
 use Rattle.genotype_probs.specs.Priors.{base_at, first_letter, stop_at, compared}
 use Rattle.genotype_probs.specs.Inner.PriorTable.{table_value, lookup}
 use Rattle.genotype_probs.proofs.Numbers.{letter_one}
@@ -34,6 +34,6 @@ module _ (reference allele : List ℕ) (current : Base) where
   compared_same stop h e = rw (h, eq-eqb (letter_number (base current)) (letter_number (base current)) refl, e)
 
 -- a lookup, by what the two comparisons left
-pub lookup_is : (table : List ℤ) (reference first second : List ℕ) (current : Base) (one two : Compared) → current ≡ base_at reference 0 → one ≡ compared reference first current → two ≡ compared reference second one.base → table_value table (base_number two.base) (letter_number one.letter) (letter_number two.letter) ≡ lookup table reference first second
+pub lookup_is : (table : List Rows) (reference first second : List ℕ) (current : Base) (one two : Compared) → current ≡ base_at reference 0 → one ≡ compared reference first current → two ≡ compared reference second one.base → table_value table two.base one.letter two.letter ≡ lookup table reference first second
 unfolding lookup
 lookup_is table reference first second current one two e p q = rw (q, p, e)

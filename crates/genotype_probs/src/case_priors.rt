@@ -15,5 +15,5 @@ pub fn make_priors(case: &Case<'_>, rates: AcceptedRates, priors: &mut [i64])
     ensures { priors.new ≡ written (prior_at rates.rates (decode case.now.laid.words.now case.now.bases.now)) (9 * case.now.laid.sizes.n) priors.old }
 {
     let table = PriorTable::new(rates);
-    write_priors(case, &table, priors);
+    write_priors(&case.with_alleles(), &table, priors);
 }

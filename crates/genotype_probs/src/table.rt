@@ -2,9 +2,9 @@
 ghost use Rattle.std.specs.Prelude.{◌≡◌, true, cond, ◌<◌, ◌≤◌, ◌^◌, eqb, pos, nat_abs, ◌+ℤ◌};
 ghost use Rattle.std.specs.Int.Signed.{lt_z};
 ghost use Rattle.genotype_probs.specs.Rates.{het_snv_rate, het_indel_rate, ts_rate, tv_rate, rate_sum};
-ghost use Rattle.genotype_probs.specs.Letters.{base_number, letter_number, transition_of, change};
+ghost use Rattle.genotype_probs.specs.Letters.{base_number, transition_of, change};
 ghost use Rattle.genotype_probs.specs.Priors.{ln_half, ln_quarter, one_minus_exp, diploid};
-ghost use Rattle.genotype_probs.specs.Inner.PriorTable.{letter_value, RowMade, RowsMade, TableMade, prior_table, table_value};
+ghost use Rattle.genotype_probs.specs.Inner.PriorTable.{letter_value, RowMade, RowsMade, TableMade, EntriesSmall, table_value};
 
 use crate::letters::{BASES, Base, LETTERS, Letter};
 use crate::{AcceptedRates, Rates};
@@ -152,17 +152,17 @@ impl Values {
     }
 }
 
-// The table of accepted rates, by reference base, first letter and second letter.
+// A table by reference base, first letter and second letter, whose entries are small.
 #[derive(Drop)]
 pub struct PriorTable {
-    pub rates: AcceptedRates,
     pub bases: [Rows; 4],
-    pub ghost made: { TableMade rates.rates bases },
+    pub ghost small: { EntriesSmall bases },
 }
 
 impl PriorTable {
+    // The table of accepted rates.
     pub fn new(rates: AcceptedRates) -> Self
-        ensures { result.rates ≡ rates }
+        ensures { TableMade rates.rates result.bases }
     {
         let values = Values::of(rates);
         let mut bases = [Rows {
@@ -173,12 +173,12 @@ impl PriorTable {
         for base in BASES {
             bases[usize::from(base)] = values.rows(base);
         }
-        PriorTable { rates, bases }
+        PriorTable { bases }
     }
 
     // The prior of two letters at a reference base: −4096 where they differ.
     pub(crate) fn value(&self, base: Base, first: Letter, second: Letter) -> LogProb
-        ensures { result.0 ≡ table_value (prior_table self.now.rates.rates) (base_number base) (letter_number first) (letter_number second) }
+        ensures { result.0 ≡ table_value self.now.bases base first second }
     {
         let x = usize::from(first);
         let y = usize::from(second);

@@ -1,6 +1,7 @@
 // A case as types, by how much of it is checked: words that are laid out, their variant records too, and all of it. layout.rt reads their fields.
-ghost use Rattle.std.specs.Prelude.{◌≡◌, ◌<◌};
+ghost use Rattle.std.specs.Prelude.{◌≡◌, ◌<◌, length};
 ghost use Rattle.variants_and_fragments.specs.Inner.Accepted.{CaseIn, BasesIn};
+ghost use Rattle.variants_and_fragments.specs.Alleles.{alleles_start};
 ghost use Rattle.variants_and_fragments.specs.Inner.Alleles.{VariantsIn};
 ghost use Rattle.variants_and_fragments.specs.Inner.Layout.{Sized};
 ghost use Rattle.variants_and_fragments.specs.Layout.{pos0_at, depth_at, cutoff_at};
@@ -20,6 +21,14 @@ pub struct Laid<'a> {
 pub struct WithVariants<'a> {
     pub laid: Laid<'a>,
     pub ghost variants_in: { VariantsIn laid.words.now laid.sizes },
+}
+
+// Such words with as many allele bytes as they ask, whatever these are.
+#[derive(Clone, Copy)]
+pub struct WithAlleles<'a> {
+    pub known: WithVariants<'a>,
+    pub bases: &'a [u8],
+    pub ghost long: { length bases.now ≡ alleles_start known.laid.words.now known.laid.sizes.n },
 }
 
 // Words that the check accepts, whatever allele bytes come with them.
@@ -85,5 +94,15 @@ impl<'a> Case<'a> {
         ensures { result.laid ≡ self.now.laid }
     {
         WithVariants { laid: self.laid }
+    }
+
+    // What is known of it once its variant records are checked and its allele bytes are counted.
+    pub fn with_alleles(&self) -> WithAlleles<'a>
+        ensures { (result.known.laid ≡ self.now.laid) × (result.bases ≡ self.now.bases) }
+    {
+        WithAlleles {
+            known: self.with_variants(),
+            bases: self.bases,
+        }
     }
 }

@@ -9,7 +9,7 @@ use crate::chains::check_chains;
 use crate::head::read_head;
 use crate::variants::check_variants;
 pub use faults::first_fault;
-pub use laid::{Case, CaseWords, Laid, WithVariants};
+pub use laid::{Case, CaseWords, Laid, WithAlleles, WithVariants};
 pub use refusals::long_enough;
 
 pub mod alleles;

@@ -3,9 +3,9 @@ use Rattle.std.proofs.Common.{◌≡◌, ◌*◌}
 use Rattle.variants_and_fragments.specs.Alleles.{alleles_start}
 use Rattle.variants_and_fragments.specs.Decode.{decode}
 use Rattle.variants_and_fragments.specs.Written.{written}
-use Rattle.genotype_probs.specs.Priors.{prior_at}
+use Rattle.genotype_probs.specs.Inner.PriorTable.{table_prior_at}
 use Rattle.genotype_probs.proofs.priors.write_priors.Given as goal
 
 abbrev pub invariant-loop-v : goal.invariant-loop-v
 invariant-loop-v l =
-    (l.at ≡ alleles_start l.case.laid.words.now l.v) × (l.priors ≡ written (prior_at l.table.rates.rates (decode l.case.laid.words.now l.case.bases.now)) (9 * l.v) l.fn.priors)
+    (l.at ≡ alleles_start l.alleles.known.laid.words.now l.v) × (l.priors ≡ written (table_prior_at l.table.bases (decode l.alleles.known.laid.words.now l.alleles.bases.now)) (9 * l.v) l.fn.priors)

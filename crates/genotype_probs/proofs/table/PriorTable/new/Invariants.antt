@@ -6,4 +6,4 @@ use Rattle.genotype_probs.proofs.Filled.{FilledTo}
 use Rattle.genotype_probs.proofs.table.PriorTable.new.Given as goal
 
 abbrev pub invariant-loop-base : goal.invariant-loop-base
-invariant-loop-base l = (length l.bases ≡ 4) × FilledTo base_number (RowsMade l.rates.rates) no_rows l.base-index l.bases
+invariant-loop-base l = (length l.bases ≡ 4) × FilledTo base_number (RowsMade l.fn.rates.rates) no_rows l.base-index l.bases
