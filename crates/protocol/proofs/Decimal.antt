@@ -1,11 +1,10 @@
--- What std writes for a number is its decimal text, and what putting it into a buffer leaves.
+-- What std writes for a number is its decimal text.
 -- By induction on the fuel: the last digit falls off on both sides. Assumes nothing.
-use Rattle.std.proofs.Common.{◌≡◌, ℕ, zero, suc, ◌+◌, ◌*◌, ◌/◌, ◌%◌, ◌^◌, ◌<◌, ◌≤◌, Bool, true, false, ltb, List, [], ◌∷◌, ◌++◌, length, set, ℤ, pos, negsuc, nat_abs, sym, refl, ap, ◌∙◌, true≢false, eqb, ne_eqb, append_assoc, append-nil, add-suc, suc-add, add-one, arith, length-set, take-suc-set, drop-set-lt, ltb-false, ltb-true, le-ltb, lt-ltb}
+use Rattle.std.proofs.Common.{◌≡◌, ℕ, zero, suc, ◌+◌, ◌*◌, ◌/◌, ◌%◌, ◌^◌, ◌<◌, ◌≤◌, Bool, true, false, ltb, List, [], ◌∷◌, ◌++◌, ℤ, pos, negsuc, sym, refl, ap, ◌∙◌, eqb, ne_eqb, append_assoc, append-nil, arith, ltb-false, ltb-true, le-ltb, lt-ltb}
 use native.Mathlib.Nat.{pow-succ'}
-use lib.Signed.{lt_z}
-use lib.Seq.{paste}
-use Rattle.std.specs.Fmt.{digits_onto, digits, decimal}
-use Rattle.protocol.specs.Inner.Print.{decimal_from, decimal_of, signed_of, Put}
+use lib.Signed.{mag}
+use Rattle.std.specs.Fmt.{digits_onto, digits, decimal, signed_decimal}
+use Rattle.protocol.specs.Inner.Print.{decimal_from, decimal_of, signed_of}
 
 -- The digits of n in front of a text: a number below 10 has one digit, and any other has the digits of its tenth before its last one.
 one_digit : (k n : ℕ) (acc : List ℕ) → n < 10 → digits_onto (suc k) 10 false n acc ≡ (48 + n) ∷ acc
@@ -57,32 +56,8 @@ pub std_decimal : (n : ℕ) → n < 2 ^ 64 → decimal n ≡ decimal_of n
 unfolding digits decimal_of
 std_decimal n h = digits_from n 63 n [] (omega arith) (omega arith) ∙ append-nil (decimal_of n)
 
--- A number's text put into a buffer.
-pub put_text : (before text : List ℕ) (at n : ℕ) (after : List ℕ) → n < 2 ^ 64 → text ≡ decimal n → at + length text ≤ length before → after ≡ paste before at text (length text) → Put before at (decimal_of n) after (at + length text)
-put_text before text at n after small e room h =
-    rw (← std_decimal n small, ← e) (record { ends = refl; buffer = h; inside = room })
-
--- A byte stored, and a text put after it.
-module _ (before : List ℕ) (at b : ℕ) (text after : List ℕ) (next : ℕ) (room : at < length before) where
-  paste_after : paste (set before at b) (suc at) text (length text) ≡ paste before at (b ∷ text) (suc (length text))
-  paste_after =
-      simp (take-suc-set before at b room, drop-set-lt (suc (at + length text)) before at b (omega arith), add-suc, suc-add, append_assoc)
-
-  pub put_after : Put (set before at b) (at + 1) text after next → Put before at (b ∷ text) after next
-  put_after p =
-      record {
-        ends = p.ends ∙ omega arith;
-        buffer = p.buffer ∙ ap (λ (k : ℕ). paste (set before at b) k text (length text)) (add-one at) ∙ paste_after;
-        inside = rw length-set at p.inside;
-      }
-
--- The text of a signed number, by its sign.
-pub signed_below : (x : ℤ) → lt_z x (pos 0) ≡ true → 45 ∷ decimal_of (nat_abs x) ≡ signed_of x
+-- The same for an i64.
+pub std_signed : (z : ℤ) → mag z < 2 ^ 63 → signed_decimal z ≡ signed_of z
 unfolding signed_of
-signed_below (pos n) h = absurd (omega (arith, ltb-true n 0 h))
-signed_below (negsuc n) h = refl
-
-pub signed_above : (x : ℤ) → lt_z x (pos 0) ≡ false → decimal_of (nat_abs x) ≡ signed_of x
-unfolding signed_of
-signed_above (pos n) h = refl
-signed_above (negsuc n) h = absurd (true≢false h)
+std_signed (pos n) h = std_decimal n (omega (arith, h))
+std_signed (negsuc n) h = ap (λ (ds : List ℕ). 45 ∷ ds) (std_decimal (suc n) (omega (arith, h)))

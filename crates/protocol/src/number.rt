@@ -67,14 +67,10 @@ impl Number {
         ensures { result ≡ State.signed self b }
     {
         let first = !(self.negative | self.value.is_some());
-        if (b == b'-') & first {
-            Some(Number {
-                negative: true,
-                ..self
-            })
-        } else {
-            None
-        }
+        ((b == b'-') & first).then_some(Number {
+            negative: true,
+            ..self
+        })
     }
 
     // A whole integer that is not below 0.

@@ -67,10 +67,11 @@ impl Writer {
         self.waiting.push(b);
     }
 
-    // A text.
+    // A text, in pieces that there is room for.
     pub fn text(&mut self, bytes: &[u8]) {
-        for b in bytes {
-            self.byte(*b);
+        for piece in bytes.chunks(TEXT_BYTES) {
+            self.make_room();
+            self.waiting.try_extend_from_slice(piece).unwrap();
         }
     }
 
@@ -80,7 +81,7 @@ impl Writer {
     {
         self.make_room();
         let mut text = [0; TEXT_BYTES];
-        let end = x.put(&mut text, 0);
+        let end = x.put(&mut text);
         self.waiting.try_extend_from_slice(&text[..end]).unwrap();
     }
 

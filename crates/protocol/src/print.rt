@@ -1,102 +1,74 @@
 // Decimal text put into a lent buffer.
-ghost use Rattle.std.specs.Prelude.{◌≡◌, ℕ, ◌+◌, ◌≤◌, List, length, pos, to_bits};
-ghost use Rattle.std.proofs.Math.Seq.{paste};
+#![tactic(auto, using(crate::proofs::Decimal::std_decimal, crate::proofs::Decimal::std_signed))]
+
+ghost use Rattle.std.specs.Prelude.{◌≡◌, ℕ, ◌≤◌, List, length, to_bits};
 ghost use Rattle.std.specs.Float.{binary64};
-ghost use Rattle.std.proofs.Common.{arith};
 ghost use Rattle.protocol.specs.declared.print.TheConstants.{TEXT_BYTES};
 ghost use Rattle.protocol.specs.Inner.Print.{Put, decimal_of, signed_of};
 
 use crate::float;
+use itoa::Integer;
 
-// The room that any number's text needs at most: twenty digits and a sign.
-pub const TEXT_BYTES: usize = 21;
+// The room that any number's text needs at most: twenty digits, or a sign and nineteen.
+pub const TEXT_BYTES: usize = 20;
 
-// A type whose values are printed as numbers. An impl for every `T: Into<u64>` would overlap with those of i32, i64 and f64,
-// and no macro of a repository may write an impl: so each has its own of one line.
+// A type whose values are printed as numbers. An impl for every `I: Integer` would overlap with that of f64, and no macro of
+// a repository may write an impl: so each has its own of one line.
 pub trait ToText: Copy {
     // The text of a value.
     ghost text: { Self → List ℕ };
 
-    // The room that a text needs at most.
-    ghost room: { ℕ };
-
-    // Puts the text into out from at on, and answers where it ends.
-    fn put(self, out: &mut [u8], at: usize) -> usize
-        requires { at + room ≤ length out.old }
-        ensures { Put out.old at (text self) out.new result };
-
-    ghost room_fits: { room ≤ TEXT_BYTES };
+    // Puts the text into the front of out, and answers where it ends.
+    fn put(self, out: &mut [u8]) -> usize
+        requires { TEXT_BYTES ≤ length out.old }
+        ensures { Put out.old 0 (text self) out.new result };
 }
 
 impl ToText for u8 {
     ghost text = { decimal_of };
 
-    ghost room = { 20 };
-
-    ghost room_fits = { Prim.search arith };
-
-    fn put(self, out: &mut [u8], at: usize) -> usize {
-        put_u64(out, at, u64::from(self))
+    fn put(self, out: &mut [u8]) -> usize {
+        put_integer(out, self)
     }
 }
 
 impl ToText for u32 {
     ghost text = { decimal_of };
 
-    ghost room = { 20 };
-
-    ghost room_fits = { Prim.search arith };
-
-    fn put(self, out: &mut [u8], at: usize) -> usize {
-        put_u64(out, at, u64::from(self))
+    fn put(self, out: &mut [u8]) -> usize {
+        put_integer(out, self)
     }
 }
 
 impl ToText for u64 {
     ghost text = { decimal_of };
 
-    ghost room = { 20 };
-
-    ghost room_fits = { Prim.search arith };
-
-    fn put(self, out: &mut [u8], at: usize) -> usize {
-        put_u64(out, at, self)
+    fn put(self, out: &mut [u8]) -> usize {
+        put_integer(out, self)
     }
 }
 
 impl ToText for usize {
     ghost text = { decimal_of };
 
-    ghost room = { 20 };
-
-    ghost room_fits = { Prim.search arith };
-
-    fn put(self, out: &mut [u8], at: usize) -> usize {
-        put_u64(out, at, self as u64)
+    fn put(self, out: &mut [u8]) -> usize {
+        put_integer(out, self)
     }
 }
 
 impl ToText for i32 {
     ghost text = { signed_of };
 
-    ghost room = { 21 };
-
-    ghost room_fits = { Prim.search arith };
-
-    fn put(self, out: &mut [u8], at: usize) -> usize {
-        put_i64(out, at, i64::from(self))
+    fn put(self, out: &mut [u8]) -> usize {
+        put_integer(out, self)
     }
 }
 
 impl ToText for i64 {
     ghost text = { signed_of };
 
-    ghost room = { 21 };
-
-    ghost room_fits = { Prim.search arith };
-
-    fn put(self, out: &mut [u8], at: usize) -> usize {
-        put_i64(out, at, self)
+    fn put(self, out: &mut [u8]) -> usize {
+        put_integer(out, self)
     }
 }
 
@@ -104,36 +76,18 @@ impl ToText for i64 {
 impl ToText for f64 {
     ghost text = { λ x. decimal_of (to_bits binary64 x) };
 
-    ghost room = { 20 };
-
-    ghost room_fits = { Prim.search arith };
-
-    fn put(self, out: &mut [u8], at: usize) -> usize {
-        put_u64(out, at, float::pattern(self))
+    fn put(self, out: &mut [u8]) -> usize {
+        put_integer(out, float::pattern(self))
     }
 }
 
-// Puts x's decimal text into out from at on, and answers where it ends.
-fn put_u64(out: &mut [u8], at: usize, x: u64) -> usize
-    requires { at + 20 ≤ length out.old }
-    ensures { Put out.old at (decimal_of x) out.new result }
+// Puts x's decimal text into the front of out, and answers where it ends.
+fn put_integer<I: Integer>(out: &mut [u8], x: I) -> usize
+    requires { I.MAX_STR_LEN ≤ length out.old }
+    ensures { Put out.old 0 (I.text x) out.new result }
 {
     let mut digits = itoa::Buffer::new();
     let text = digits.format(x).as_bytes();
-    let end = at + text.len();
-    out[at..end].copy_from_slice(text);
-    end
-}
-
-// The same for a signed number: a `-` in front of a negative one.
-fn put_i64(out: &mut [u8], at: usize, x: i64) -> usize
-    requires { at + 21 ≤ length out.old }
-    ensures { Put out.old at (signed_of x) out.new result }
-{
-    if x < 0 {
-        out[at] = b'-';
-        put_u64(out, at + 1, x.unsigned_abs())
-    } else {
-        put_u64(out, at, x.unsigned_abs())
-    }
+    out[..text.len()].copy_from_slice(text);
+    text.len()
 }
