@@ -217,9 +217,11 @@ impl Sums {
 // The first of the greatest numbers. At the loop's head b is the first of the greatest among the first g, and `best` is number b. Both are chosen
 // without a jump, which no machine could guess; so this is no `max_by_key`.
 pub fn first_max(s: &[i64]) -> usize
-    requires { 0 < length s.now }
     ensures { result ≡ first_maximum (λ g. get_or s.now g (pos 0)) (length s.now) }
 {
+    if s.is_empty() {
+        return 0;
+    }
     let mut b: usize = 0;
     let mut best: i64 = s[0];
     for g in 1..s.len() {

@@ -1,4 +1,5 @@
-// A case as types, by how much of it is checked: words that are laid out, their variant records too, and all of it. layout.rt reads their fields.
+// A case as types, by how much of it is checked: words that are laid out, their variant records too, these with their alleles, all of the words, and
+// the allele bytes with them. layout.rt reads their fields.
 ghost use Rattle.std.specs.Prelude.{◌≡◌, ◌<◌, length};
 ghost use Rattle.variants_and_fragments.specs.Inner.Accepted.{CaseIn, BasesIn};
 ghost use Rattle.variants_and_fragments.specs.Alleles.{alleles_start};
