@@ -1,6 +1,7 @@
 // Standard input through a buffer, token by token.
 ghost use Rattle.std.specs.Prelude.{◌≡◌, ℕ, ◌<◌, ◌≤◌, List, length, take, Some, IfSome, IfOk, IfErr};
 ghost use Rattle.std.specs.List.{FoldsTo};
+ghost use Rattle.std.specs.Iterator.{at_most};
 ghost use Rattle.protocol.specs.Text.{int_of};
 ghost use Rattle.protocol.specs.Inner.State.{length_of, pushed_on};
 ghost use Rattle.protocol.specs.Inner.Word.{word_of};
@@ -25,7 +26,7 @@ pub enum Reason {
 }
 
 impl Reason {
-    // The reason's word in the program's answer.
+    // The reason's word in the program's answer. A `Writer` is no `fmt::Write`, so a `Display` would have none to write to.
     #[tactic(auto, unfolding(crate::specs::Inner::Input::reason_text))]
     pub fn text(self) -> &'static [u8]
         ensures { result.now ≡ reason_text self }
@@ -87,60 +88,57 @@ pub struct Start {
 }
 
 // Standard input and the buffer of its bytes, of which those from `at` up to `fill` are not yet read; how many bytes
-// may still be read; the place; and whether a read failed, which counts as the end of the input. std's `BufReader` allocates,
+// may still be read; and whether a read failed, which counts as the end of the input. std's `BufReader` allocates,
 // and this program has no heap; an `ArrayVec` lends std's `read` no room past its elements.
 #[derive(Drop)]
-pub struct Reader {
+struct Bytes {
     stdin: Stdin,
     bytes: Buffer,
     at: usize,
     fill: usize,
     left: u64,
-    place: Place,
     outcome: io::Result<()>,
     ghost unread: { at ≤ fill },
     ghost filled: { fill ≤ BUFFER_BYTES },
 }
 
-impl Reader {
+impl Bytes {
     // The start of the input. A proved loop has to end, so at most 2^64 − 1 bytes are read.
-    pub fn new(stdin: Stdin) -> Reader {
-        Reader {
+    fn new(stdin: Stdin) -> Bytes {
+        Bytes {
             stdin,
             bytes: [0; BUFFER_BYTES],
             at: 0,
             fill: 0,
             left: u64::MAX,
-            place: Place {
-                line: 1,
-                below: 1,
-                token: 0,
-            },
             outcome: Ok(()),
         }
     }
 
-    // The error of the last read that failed.
-    pub fn finish(self) -> io::Result<()> {
-        self.outcome
-    }
-
-    // The last token, which cannot be read.
-    pub fn unreadable(&self, reason: Reason) -> Unreadable
-        ensures { result ≡ unreadable_at self.now.place reason }
+    // Reads once into the buffer, whose bytes are all read. None come at the end of the input, or where the read fails.
+    fn refill(&mut self)
+        ensures { self.new.left ≡ self.old.left }
     {
-        Unreadable {
-            line: self.place.line,
-            token: self.place.token,
-            reason,
-        }
+        self.at = 0;
+        self.fill = match self.stdin.read(&mut self.bytes) {
+            Ok(count) => count,
+            Err(e) => {
+                self.outcome = Err(e);
+                0
+            }
+        };
     }
+}
+
+impl Iterator for Bytes {
+    type Item = u8;
+
+    ghost next_gives = { λ s b t. ahead b t.left ≤ s.left };
+
+    ghost remaining = { λ s. at_most s.left };
 
     // The next byte of the input.
-    fn next(&mut self) -> Option<u8>
-        ensures falls { ahead result self.new.left ≤ self.old.left }
-        ensures place { self.new.place ≡ self.old.place }
-    {
+    fn next(&mut self) -> Option<u8> {
         if self.left == 0 {
             return None;
         }
@@ -155,27 +153,49 @@ impl Reader {
         self.left -= 1;
         Some(b)
     }
+}
 
-    // Reads once into the buffer, whose bytes are all read. None come at the end of the input, or where the read fails.
-    fn refill(&mut self)
-        ensures left { self.new.left ≡ self.old.left }
-        ensures place { self.new.place ≡ self.old.place }
+// The bytes of the input that are left, and the place of the last token.
+#[derive(Drop)]
+pub struct Reader {
+    input: Bytes,
+    place: Place,
+}
+
+impl Reader {
+    // The start of the input.
+    pub fn new(stdin: Stdin) -> Reader {
+        Reader {
+            input: Bytes::new(stdin),
+            place: Place {
+                line: 1,
+                below: 1,
+                token: 0,
+            },
+        }
+    }
+
+    // The error of the last read that failed.
+    pub fn finish(self) -> io::Result<()> {
+        self.input.outcome
+    }
+
+    // The last token, which cannot be read.
+    pub fn unreadable(&self, reason: Reason) -> Unreadable
+        ensures { result ≡ unreadable_at self.now.place reason }
     {
-        self.at = 0;
-        self.fill = match self.stdin.read(&mut self.bytes) {
-            Ok(count) => count,
-            Err(e) => {
-                self.outcome = Err(e);
-                0
-            }
-        };
+        Unreadable {
+            line: self.place.line,
+            token: self.place.token,
+            reason,
+        }
     }
 
     // The start of the next token: white space and comments are passed.
     fn start(&mut self) -> Start {
         let mut line = self.place.below;
         let mut comment = false;
-        while let Some(b) = self.next() {
+        for b in &mut self.input {
             comment = (b != b'\n') & (comment | opens_comment(b));
             if !(comment | is_space(b)) {
                 return Start {
@@ -198,9 +218,10 @@ impl Reader {
         self.place = Place::after(token, line, None);
         let mut b = first?;
         let mut read = empty;
+        // A `for` would push in two places, the first byte before it, and keep the byte that ends the token in a variable more.
         loop {
             read = push(read, b);
-            match self.next() {
+            match self.input.next() {
                 Some(next) if !is_space(next) => b = next,
                 ended => {
                     self.place = Place::after(token, line, ended);

@@ -9,4 +9,4 @@ invariant-loop-next g l =
     (l.self.place.token ≡ l.fn.token) × ((bytes : List ℕ) × FoldsTo (λ x b y. goal.F-post g l.push x b y) l.fn.empty bytes l.read)
 
 abbrev pub decreases-loop-next : goal.decreases-loop-next
-decreases-loop-next g l = l.self.left
+decreases-loop-next g l = l.self.input.left
