@@ -37,7 +37,7 @@ module _ {w : List ℤ} {s : Sizes} (k : VariantsIn w s) where
   start_top v top h = omega (arith, start_high v h)
 
 -- an allele's bytes are among its variant's
-pub allele_within : (w : List ℤ) (v j : ℕ) → j < 3 → allele_start w v j + length_at w v j ≤ alleles_start w v + alleles_length w v
+allele_within : (w : List ℤ) (v j : ℕ) → j < 3 → allele_start w v j + length_at w v j ≤ alleles_start w v + alleles_length w v
 unfolding allele_start
 allele_within w v zero h = omega arith
 allele_within w v (suc zero) h = omega arith

@@ -1,5 +1,5 @@
 // The table of priors that is made from accepted rates: 36 pairs of letters for each reference base.
-ghost use Rattle.std.specs.Prelude.{◌≡◌, true, cond, ◌<◌, ◌≤◌, ◌^◌, eqb, pos, nat_abs, ◌+ℤ◌};
+ghost use Rattle.std.specs.Prelude.{◌≡◌, true, cond, ◌≤◌, ◌^◌, eqb, pos, nat_abs, ◌+ℤ◌};
 ghost use Rattle.std.specs.Int.Signed.{lt_z};
 ghost use Rattle.genotype_probs.specs.Rates.{het_snv_rate, het_indel_rate, ts_rate, tv_rate, rate_sum};
 ghost use Rattle.genotype_probs.specs.Letters.{base_number, transition_of, change};
