@@ -30,7 +30,7 @@ use Rattle.haplotype_assembly.proofs.Decodes.{accepted_in, count_is, rule_is}
 
 -- where the rows of fragments stand
 pub given : (s : Sizes) {group : ℕ → List Row} {rows ends : List ℕ} → s.n ≤ 1024 → s.f ≤ 4096 → Grouped s.n s.f s.f group ends rows → LinesGiven s rows ends
-given s n_top f_top grouped = record { ends_long = grouped.ends_long; rises = grouped.rises; rows_in = λ f l. group_in grouped n_top f_top f l }
+given s n_top f_top grouped = record { ends_long = grouped.ends_long; rows_in = λ f l. group_in grouped n_top f_top f l }
 
 module _ (w : List ℤ) (b : List ℕ) (s : Sizes) (h : check_case_outcome w b ≡ done s) (rows ends : List ℕ) (grouped : Grouped s.n s.f s.f (fragment_rows (decode w b)) ends rows) where
   abbrev case : Case

@@ -5,9 +5,11 @@ use mathlib.Core.Bool.{Bool, true, false, cond}
 use mathlib.Core.List.{List, [], ◌∷◌, map}
 use Prim.Native.Nat.{ℕ, zero, suc, ◌+◌, ◌-◌, ◌≤◌, ◌<◌}
 use native.Mathlib.Omega.{arith}
+use native.Mathlib.Decide.{dec_le}
 use lib.IntN.{ℤ}
 use lib.ListN.{length, get_or, take, drop, length-map}
-use Rattle.std.proofs.Common.{length-take}
+use Rattle.std.proofs.Common.{length-take, min}
+use Rattle.std.proofs.lemmas.Bool.Decides.{nat_tests}
 use lib.Seq.{drop-cons}
 use Rattle.variants_and_fragments.specs.declared.Sizes.{Sizes}
 use Rattle.variants_and_fragments.specs.Decode.{tabulate_from}
@@ -15,7 +17,7 @@ use Rattle.variants_and_fragments.specs.Inner.Case.{All, end, also}
 use Rattle.variants_and_fragments.specs.Pileup.{Row}
 use Rattle.variants_and_fragments.proofs.Alls.{all_from}
 use Rattle.pileup.specs.declared.row.Row.{Row as RowHeld}
-use Rattle.pileup.specs.Inner.Packed.{held_row, RowIn, unpacked, row_at, rows_at, group_start, group_words}
+use Rattle.pileup.specs.Inner.Packed.{held_row, RowIn, unpacked, row_at, rows_at, group_start}
 use Rattle.haplotype_assembly.specs.Inner.PhaseRead.{rule_at}
 use Rattle.haplotype_assembly.specs.Inner.LinesRead.{shown_calls, shown_at, LinesGiven, call_of, ShownIn}
 
@@ -84,16 +86,32 @@ unfolding tabulate_from
 rows_slice words zero a h = refl
 rows_slice words (suc n) a h = let l : a < length words = omega arith in rw (drop-cons words a 0 l) (ap (λ (t : List Row). row_at words a ∷ t) (rows_slice words n (suc a) (omega arith)))
 
--- what a fragment's line shows, off the words of its rows
+-- what a fragment's line shows, off the words of its rows: none where they would end before they start
 module _ {s : Sizes} {rows ends : List ℕ} (g : LinesGiven s rows ends) (f : ℕ) (h : f < s.f) where
-  words_are : rows_at rows (group_start ends f) (get_or ends f 0) ≡ map unpacked (group_words ends rows f)
-  words_are = rows_slice rows (get_or ends f 0 - group_start ends f) (group_start ends f) (omega (arith, g.rises f h, (g.rows_in f h).long))
+  abbrev pub a : ℕ
+  a = group_start ends f
 
-  pub rows_all : All (RowIn s.n s.f) (map unpacked (group_words ends rows f))
-  rows_all = rw words_are at (all_from {P = RowIn s.n s.f} (row_at rows) (group_start ends f) (get_or ends f 0 - group_start ends f) (λ k l m. (g.rows_in f h).rows_in k l (omega (arith, g.rises f h))))
+  abbrev pub e : ℕ
+  e = get_or ends f 0
 
-  pub shown_words : (w : List ℤ) → shown_calls w (map unpacked (group_words ends rows f)) ≡ shown_at w rows (group_start ends f) (get_or ends f 0)
+  abbrev pub words : List ℕ
+  words = take (e - min a e) (drop (min a e) rows)
+
+  words_are : rows_at rows a e ≡ map unpacked words
+  unfolding tabulate_from
+  words_are = elim (dec_le a e) [
+    | yes l ↦ let m : min a e ≡ a = grind (arith, nat_tests) in rw (m) (rows_slice rows (e - a) a (omega (arith, (g.rows_in f h).long)))
+    | no l ↦
+        let m : min a e ≡ e = grind (arith, nat_tests) in
+        let z : e - a ≡ 0 = omega arith in
+        let y : e - e ≡ 0 = omega arith in rw (m, z, y) refl
+  ]
+
+  pub rows_all : All (RowIn s.n s.f) (map unpacked words)
+  rows_all = rw words_are at (all_from {P = RowIn s.n s.f} (row_at rows) a (e - a) (λ k l m. (g.rows_in f h).rows_in k l (omega arith)))
+
+  pub shown_words : (w : List ℤ) → shown_calls w (map unpacked words) ≡ shown_at w rows a e
   shown_words w = ap (shown_calls w) (sym words_are)
 
-  pub words_few : length (map unpacked (group_words ends rows f)) ≤ 16384
+  pub words_few : length (map unpacked words) ≤ 16384
   words_few = simp (length-map, length-take) (omega (arith, (g.rows_in f h).few))

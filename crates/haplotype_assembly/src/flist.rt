@@ -1,12 +1,12 @@
 // What fragment lines are read from: the calls that a line shows, off the rows of its fragment.
-ghost use Rattle.std.specs.Prelude.{◌≡◌, ◌<◌, ◌≤◌, length, get_or};
+ghost use Rattle.std.specs.Prelude.{◌≡◌, ◌<◌, ◌≤◌, length, get_or, map};
 ghost use Rattle.std.specs.Iterator.{item_count};
 ghost use Rattle.variants_and_fragments.specs.Inner.Case.{All};
-ghost use Rattle.pileup.specs.Inner.Packed.{group_start};
-ghost use Rattle.haplotype_assembly.specs.Inner.LinesRead.{shown_at, ShownIn, ShowsFirst, LinesGiven};
+ghost use Rattle.pileup.specs.Inner.Packed.{group_start, unpacked, RowIn};
+ghost use Rattle.haplotype_assembly.specs.Inner.LinesRead.{shown_at, shown_calls, ShownIn, ShowsFirst, LinesGiven};
 
 use crate::phase::phased_rule;
-use pileup::grouped::Groups;
+use pileup::grouped::{Groups, group_start};
 use pileup::row::Row;
 use std::marker::Model;
 use variants_and_fragments::CaseWords;
@@ -30,6 +30,16 @@ impl<'a> Model for ShownCalls<'a> {
     ghost view = { λ shown. shown_calls shown.case.laid.words.now (map unpacked shown.rows.now) };
 
     ghost invariant = { λ shown. All (RowIn shown.case.laid.sizes.n shown.case.laid.sizes.f) (map unpacked shown.rows.now) };
+}
+
+impl<'a> ShownCalls<'a> {
+    // Those of any rows of the case, whichever fragments they are of.
+    pub fn new(case: CaseWords<'a>, rows: &'a [u64]) -> ShownCalls<'a>
+        requires { All (RowIn case.laid.sizes.n case.laid.sizes.f) (map unpacked rows.now) }
+        ensures { result ≡ shown_calls case.entry.laid.words.now (map unpacked rows.now) }
+    {
+        ShownCalls { case, rows }
+    }
 }
 
 impl<'a> Iterator for ShownCalls<'a> {
@@ -68,9 +78,8 @@ impl<'a> Flist<'a> {
         ensures in_case { All ShownIn result }
         ensures few { length result ≤ 16384 }
     {
-        ShownCalls {
-            case: self.case,
-            rows: self.rows.group(f),
-        }
+        let end = self.rows.ends[f];
+        let start = group_start(self.rows.ends, f).min(end);
+        ShownCalls::new(self.case, &self.rows.words[start..end])
     }
 }

@@ -43,7 +43,6 @@ shown_fragments w s rows ends = tabulate s.f (shown_fragment w s rows ends)
 -- where the rows of each fragment stand
 pub record LinesGiven (s : Sizes) (rows ends : List ℕ) : Type 0 where
   pub ends_long : s.f ≤ length ends
-  pub rises : (f : ℕ) → f < s.f → group_start ends f ≤ get_or ends f 0
   pub rows_in : (f : ℕ) → f < s.f → RowsIn s.n s.f rows (group_start ends f) (get_or ends f 0)
 
 -- a row that the code holds, as a call
