@@ -15,7 +15,8 @@ pub struct RunAnswer {
     pub settled: bool,
 }
 
-// Lent orders of n variants each, one after the other, m of them.
+// Lent orders of n variants each, one after the other, m of them. That the entries are so many is a clause and no ghost field: `run_sweeps` has it of its
+// case (`RunStart`).
 #[derive(Clone, Copy)]
 pub struct Orders<'a> {
     pub entries: &'a [u32],

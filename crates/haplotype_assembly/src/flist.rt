@@ -49,6 +49,7 @@ impl<'a> Iterator for ShownCalls<'a> {
 
     ghost remaining = { item_count (λ calls. calls) };
 
+    // A `while let`: when a call is answered, `rows` has to be what is left, since the view is made of it.
     fn next(&mut self) -> Option<Row> {
         while let Some((word, rest)) = self.rows.split_first() {
             self.rows = rest;

@@ -65,7 +65,7 @@ pub fn write_haplotypes(case: &CaseWords<'_>, phase: &[u8], haplotypes: &mut [u8
     }
 }
 
-// The phased flags: 1 where a variant is phased, else 0.
+// The phased flags: 1 where a variant is phased, else 0. Bytes and no bools, as C reads the slice that `given_phase` writes.
 pub fn write_flags(case: &CaseWords<'_>, phase: &[u8], phased: &mut [u8])
     requires { (case.now.laid.sizes.n ≤ length phase.now) × (case.now.laid.sizes.n ≤ length phased.old) }
     ensures { phased.new ≡ written (flags_at case.now.laid.words.now phase.now) case.now.laid.sizes.n phased.old }

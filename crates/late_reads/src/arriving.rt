@@ -16,7 +16,8 @@ use variants_and_fragments::{CallWords, CaseWords, Refusal, first_fault};
 // The words of an arriving call.
 const ARRIVING_WORDS: usize = 4;
 
-// A read that arrives: the number of its fragment, its strand, and the words of its calls.
+// A read that arrives: the number of its fragment, its strand, and the words of its calls. The strand is the word that C lends: it is tested once, and
+// written as it is.
 #[derive(Clone, Copy)]
 pub struct Arrival<'a> {
     pub fragment: usize,
@@ -130,7 +131,8 @@ impl Calls for ArrivingCalls<'_> {
     ghost goes_on = { λ s. (tt, tt) };
 }
 
-// Free and unused records together are at least m. At the loop's head i counts the unused records and the free ones before r.
+// Free and unused records together are at least m. At the loop's head i counts the unused records and the free ones before r. A walk of its own: it counts
+// records, where those of chains.rt test links or mark, and `last_record` wants the end.
 fn has_room(case: &CaseWords<'_>, m: usize) -> bool
     ensures { result ≡ leb m (length (room case.now.laid.words.now case.now.laid.sizes)) }
 {

@@ -31,7 +31,7 @@ impl Calls for ChainReader<'_> {
     ghost goes_on = { λ s. (tt, tt) };
 }
 
-// A call as the counts see it, with its read's strand.
+// A call as the counts see it, with its read's strand, a number: the place of a count is reckoned from it, so an enum would be turned back there.
 #[derive(Clone, Copy)]
 pub struct CountedCall {
     pub variant: usize,

@@ -97,7 +97,7 @@ fn weighed(flag: u8, x: LogProb) -> LogProb
 impl Haplotypes<'_> {
     // What a row's call adds to its read's likelihood on haplotype h: nothing at a variant whose flag is not 1. It takes the row's word: where the
     // caller unpacks it for both haplotypes, the product above goes, the test is a jump, and the largest run takes 1.70 ms for 1.51. late_reads' `share`
-    // is of a call that may not be usable, by the case's phase, where a row has its flag; what both are at last is `call_term`.
+    // is of a call that may not be usable, by the case's phase, where this goes by `mask`; both contracts say `call_term`.
     fn call_share(&self, word: u64, h: usize) -> LogProb
         requires { CallIn (row_call (unpacked word)) self.now.hap.now self.now.mask.now × (h < 2) }
         ensures { (result.0 ≡ call_share (flagged self.now.mask.now) (allele_on self.now.hap.now h) (row_call (unpacked word))) × (nat_abs result.0 ≤ 262144) }

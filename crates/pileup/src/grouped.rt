@@ -2,7 +2,7 @@
 ghost use Rattle.std.specs.Prelude.{◌≡◌, ◌≤◌, length};
 ghost use Rattle.pileup.specs.Inner.Packed.{group_start, group_words, GroupThere};
 
-// The words, and where those of each group end.
+// The words, and where those of each group end. How many groups there are is a clause: `ends` may be scratch that is longer than the groups.
 #[derive(Clone, Copy)]
 pub struct Groups<'a> {
     pub words: &'a [u64],

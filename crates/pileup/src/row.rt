@@ -74,7 +74,7 @@ impl Row {
 }
 
 // Whether a call is usable: its quality is below the cutoff, equality being ambiguous, and its fragment, which has this strand, votes. The strand
-// is the case's own word, asked this once and then gone: an enum would be made of it and matched at once.
+// is the case's number, and only compared with MUTED here: an enum would be made for that and matched at once.
 pub fn usable(cutoff: i32, strand: usize, qual: i32) -> bool
     ensures { UsableIs cutoff strand qual result }
 {

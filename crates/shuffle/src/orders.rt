@@ -18,8 +18,8 @@ pub fn order_count(n: usize, elements: usize) -> Option<usize>
 }
 
 // Writes m orders of n variants, each from ascending, the state running on. By index: after `chunks_exact_mut` a proof knows the slice's
-// length alone. No struct holds (orders, n, m) for this and `first_bad_order`: one slice is lent for writing and one for reading, so it would take two, each
-// made at one call.
+// length alone. (orders, n, m) are no struct here: call_genotypes' `Orders` is for reading, and is made once `first_bad_order` has found none; for writing
+// it would hold a `&mut`, and each contract would have to name the loan.
 pub fn write_orders(orders: &mut [u32], n: usize, m: usize, seed: u64)
     requires n_bound { n ≤ 1024 }
     requires n_value { m * n ≡ length orders.old }

@@ -9,7 +9,7 @@ use crate::addend::addend;
 // Probability zero. A number and no Option: document 01 and the C interface have a log probability as one i64.
 pub const MARK: i64 = -9223372036854775808;
 
-// Whether a stands for probability zero.
+// Whether a stands for probability zero. A function and no bare `==`: its contract says what equality with MARK is in the definitions.
 #[tactic(auto, using(crate::proofs::Marks::mark_bits))]
 pub fn is_mark(a: i64) -> bool
     ensures { result ≡ is_mark a }

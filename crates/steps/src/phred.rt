@@ -37,7 +37,7 @@ pub fn capped_phred(p: LogProb) -> PHREDProb
     }
 }
 
-// The quality byte: 33 and the number of w in 1..93 with w at most q. A loop: by `filter` and `count` 4,096 qualities take 830 µs, and so 207.
+// The quality byte: 33 and the number of w in 1..93 with w at most q. A loop: by `filter` and `count` 4,096 qualities take 830 µs, by this loop 207.
 #[tactic(auto, unfolding(crate::specs::Phred::count_up_to))]
 pub fn quality_byte(q: PHREDProb) -> u8
     ensures { result ≡ quality_byte q.0 }

@@ -4,8 +4,9 @@ ghost use Rattle.var_filter.specs.Inner.FilterWindow.{WindowAt, Extended, Slid};
 
 use crate::Scan;
 
-// end is the first variant past the window, and ahead says how many of it are strong and still to be visited. Bounds as end is, below which
-// at 0 there is nothing: strong_end is one past the last strong variant below end, and marked_end one past the last that is marked so far.
+// end is the first variant past the window, and ahead says how many of it are strong and still to be visited. strong_end is one
+// past the last strong variant below end, and marked_end one past the last that is marked so far. They are bounds as end is and no Options: 0 says that
+// there is no such variant, and `v < marked_end` needs no case of its own.
 #[derive(Clone, Copy, Default)]
 pub struct Window {
     pub end: usize,

@@ -11,7 +11,8 @@ ghost use Rattle.variants_and_fragments.specs.Case.{direction};
 
 use crate::{CallWords, Laid, Sizes};
 
-// What a word that passes no range reads as. No Option: each reader tests its number against an upper bound, which NONE fails as any too large one does.
+// What a word that passes no range reads as. No Option: each check tests the number against an upper bound, which NONE fails as any
+// too large one does, and in accepted words none stands where nothing is tested.
 pub const NONE: usize = 4294967296;
 
 // Words of the head and of each record.
@@ -172,7 +173,7 @@ pub fn call_at(s: Sizes, r: usize) -> usize
 
 // ---- readings of a word
 
-// What a word names as a record, and 0 where that is none of those used.
+// What a word names as a record, and 0 where that is none of those used. No Option: 0 is none in C's words too, and each walk asks for it at once.
 pub fn record_of(s: Sizes, t: usize) -> usize
     ensures { result ≡ record_of s t }
 {

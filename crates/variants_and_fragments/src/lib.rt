@@ -33,7 +33,8 @@ pub struct Sizes {
     pub cutoff: i32,
 }
 
-// The first four words of a call's record. Not one generic struct with pileup's `Call`, which has a checked call's numbers: no function takes both.
+// The first four words of a call's record. Not one generic struct with pileup's `Call`: two of the four fields differ in type, and no function
+// is written over both.
 #[derive(Clone, Copy)]
 pub struct CallWords {
     pub variant: i32,
