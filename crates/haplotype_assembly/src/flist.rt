@@ -33,8 +33,8 @@ impl<'a> Model for ShownCalls<'a> {
 }
 
 impl<'a> ShownCalls<'a> {
-    // Those of any rows of the case, whichever fragments they are of.
-    pub fn new(case: CaseWords<'a>, rows: &'a [u64]) -> ShownCalls<'a>
+    // Those of some rows of the case.
+    fn new(case: CaseWords<'a>, rows: &'a [u64]) -> ShownCalls<'a>
         requires { All (RowIn case.laid.sizes.n case.laid.sizes.f) (map unpacked rows.now) }
         ensures { result ≡ shown_calls case.entry.laid.words.now (map unpacked rows.now) }
     {
