@@ -25,7 +25,8 @@ pub enum Operation {
     Depart,
 }
 
-// A request that is answered: what its parts are read from, what its answer is written to, and its case.
+// A request that is answered: what its parts are read from, what its answer is written to, and its case. Each `answer` takes it apart first: the borrow
+// checker covers no call that is lent two fields of one struct.
 #[derive(Drop)]
 pub struct Request<'a> {
     pub reader: &'a mut Reader,
