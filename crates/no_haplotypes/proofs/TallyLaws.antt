@@ -17,7 +17,7 @@ use Rattle.variants_and_fragments.specs.Sums.{sum_over}
 use Rattle.variants_and_fragments.proofs.Alls.{at_all, all_imp}
 use Rattle.variants_and_fragments.proofs.Bounds.{down_abs}
 use Rattle.variants_and_fragments.proofs.Only.{only_none, only_in, only_out, only_length}
-use Rattle.pileup.specs.Inner.Packed.{RowIn, unpacked}
+use Rattle.pileup.specs.Inner.Packed.{RowIn, RowsIn, unpacked}
 use Rattle.genotype_probs.specs.Priors.{ln_half}
 use Rattle.genotype_probs.proofs.ListLaws.{sum_last}
 use Rattle.genotype_probs.proofs.TableSizes.{by_cond}
@@ -175,17 +175,21 @@ module _ {w : List ℤ} {s : Sizes} {n f : ℕ} {rows : List Row} {t : Tally} (m
     counts_few = λ strand x l h. omega (arith, made.counts_are strand x l h, only_length (shown_on w s strand x) rows, few);
   }
 
--- so of all calls of a variant, and of the first i
-module _ {w : List ℤ} {s : Sizes} {v : ℕ} {words : List ℕ} {ambiguous : ℕ} (held : CallsHeld w s v words ambiguous) where
-  pub all_in : All (RowIn s.n s.f) (map unpacked words)
-  all_in =
-      at_all (map unpacked words) (unpacked 0)
-      (λ i h. let l : i < length words = rw length-map at h in rw (get_or-map unpacked words i 0 (unpacked 0) l) (held.rows_in i l))
+-- so of all rows of words, and of the first i
+pub all_in : {n f : ℕ} {words : List ℕ} → RowsIn n f words 0 (length words) → All (RowIn n f) (map unpacked words)
+all_in {n} {f} {words} r =
+    at_all (map unpacked words) (unpacked 0)
+    (λ i h. let l : i < length words = rw length-map at h in rw (get_or-map unpacked words i 0 (unpacked 0) l) (r.rows_in i (omega arith) l))
 
-  pub sums_to : {t : Tally} (i : ℕ) → Tallied w s (map unpacked (take i words)) t → SumsIn t
+module _ {w : List ℤ} {s : Sizes} {n f : ℕ} {words : List ℕ} {t : Tally} (r : RowsIn n f words 0 (length words)) where
+  pub sums_to : (i : ℕ) → Tallied w s (map unpacked (take i words)) t → SumsIn t
   sums_to i made =
-      let rows_in : All (RowIn s.n s.f) (map unpacked (take i words)) = rw (← take-map unpacked i words) (all_take i all_in) in
-      sums_in made (omega (arith, length-map (take i words) unpacked, length-take i words, held.few)) rows_in
+      let rows_in : All (RowIn n f) (map unpacked (take i words)) = rw (← take-map unpacked i words) (all_take i (all_in r)) in
+      sums_in made (omega (arith, length-map (take i words) unpacked, length-take i words, r.few)) rows_in
 
-  pub sums_all : {t : Tally} → Tallied w s (map unpacked words) t → SumsIn t
-  sums_all made = sums_in made (omega (arith, length-map words unpacked, held.few)) all_in
+  pub sums_all : Tallied w s (map unpacked words) t → SumsIn t
+  sums_all made = sums_in made (omega (arith, length-map words unpacked, r.few)) (all_in r)
+
+-- as the calls of a variant are
+pub rows_held : {w : List ℤ} {s : Sizes} {v : ℕ} {words : List ℕ} {ambiguous : ℕ} → CallsHeld w s v words ambiguous → RowsIn s.n s.f words 0 (length words)
+rows_held held = record { few = held.few; long = omega arith; rows_in = λ i _ h. held.rows_in i h }
