@@ -9,8 +9,12 @@ use Rattle.genotype_probs.specs.declared.posteriors.Genotype.{Genotype}
 use Rattle.genotype_probs.specs.declared.Rates.{Rates}
 use Rattle.genotype_probs.specs.Posteriors.{qual_of}
 use Rattle.no_haplotypes.specs.declared.answer.Answer.{Answer}
-use Rattle.no_haplotypes.specs.NoHaplotypes.{answer_from, gq_from, answer_at, qual_at, gq_at}
+use Rattle.no_haplotypes.specs.NoHaplotypes.{calls_at, answer_from, gq_from, answer_at, qual_at, gq_at}
 use Rattle.no_haplotypes.specs.Inner.Tally.{count_of, CountsIn, posteriors_from}
+
+-- no variant has more calls than a case
+abbrev pub FewCalls : List ℤ → Type 0
+FewCalls w = (b : List ℕ) (v : ℕ) → calls_at (decode w b) v ≤ 16384
 
 -- ---- the answer of one variant
 
