@@ -3,7 +3,7 @@ use Rattle.std.proofs.Common.{◌≡◌, ℕ, ◌+◌, ◌^◌, ◌≤◌, ◌<�
 use Rattle.steps.proofs.Signed.{add_abs, plus_read, read_small, sfits}
 use Rattle.no_haplotypes.specs.declared.tally.Tally.{Tally}
 use Rattle.no_haplotypes.specs.Inner.Tally.{SumsIn, gain_of, pair_gain}
-use Rattle.no_haplotypes.proofs.tally.Summed.pair_gain.Goals as goal
+use Rattle.no_haplotypes.proofs.tally.Tally.pair_gain.Goals as goal
 
 module _ (a b d : ℤ) (h : nat_abs a + nat_abs b + nat_abs d ≤ 2 ^ 36) where
   three_small : nat_abs (a +ℤ b +ℤ d) ≤ 2 ^ 36
@@ -21,15 +21,15 @@ gains_small sums i j h l = omega (arith, sums.total_small, sums.one_small i h, s
 
 pub overflow_add-result-3 : goal.overflow_add-result-3
 overflow_add-result-3 c =
-    let t = c.args.self.now.tally in
-    three_fits t.total.0 (gain_of t c.args.i).one (gain_of t c.args.j).one (gains_small c.args.self.now.sums_in c.args.i c.args.j c.requires.0 c.requires.1)
+    let t = c.args.self.now in
+    three_fits t.total.0 (gain_of t c.args.i).one (gain_of t c.args.j).one (gains_small c.requires.sums_in c.args.i c.args.j c.requires.pair_in.0 c.requires.pair_in.1)
 
 pub returns-then-i-j : goal.returns-then-i-j
 unfolding pair_gain
 returns-then-i-j c =
-    let t = c.args.self.now.tally in
+    let t = c.args.self.now in
     let i = c.args.i in
-    let sums = c.args.self.now.sums_in in
+    let sums = c.requires.sums_in in
     let small : nat_abs t.total.0 + nat_abs (gain_of t i).both ≤ 2 ^ 35 = omega (arith, sums.total_small, sums.both_small i (omega arith)) in
     let e = plus_read w64 t.total.0 (gain_of t i).both (omega arith) in
     (rw (eq-eqb i c.args.j c.if-i-j.true) e, omega (arith, ap nat_abs e, add_abs t.total.0 (gain_of t i).both))
@@ -37,8 +37,8 @@ returns-then-i-j c =
 pub returns : goal.returns
 unfolding pair_gain
 returns c =
-    let t = c.args.self.now.tally in
-    let small = gains_small c.args.self.now.sums_in c.args.i c.args.j c.requires.0 c.requires.1 in
+    let t = c.args.self.now in
+    let small = gains_small c.requires.sums_in c.args.i c.args.j c.requires.pair_in.0 c.requires.pair_in.1 in
     let first = (gain_of t c.args.i).one in
     let second = (gain_of t c.args.j).one in
     let e = three_read t.total.0 first second small in
