@@ -4,7 +4,7 @@ use Rattle.genotype_probs.specs.Letters.{letter_number}
 use Rattle.genotype_probs.specs.Inner.PriorTable.{RowMade, no_row}
 use Rattle.genotype_probs.proofs.Filled.{filled_on}
 use Rattle.genotype_probs.proofs.Numbers.{letter_one, letter_listed, letter_low}
-use Rattle.genotype_probs.proofs.table.Values.rows.Goals as goal
+use Rattle.genotype_probs.proofs.table.Values.fill.Goals as goal
 
 pub loop-first-preserved : goal.loop-first-preserved
 loop-first-preserved c =
