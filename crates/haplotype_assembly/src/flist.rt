@@ -72,7 +72,7 @@ pub struct Flist<'a> {
 }
 
 impl<'a> Flist<'a> {
-    // The words of fragment f's rows.
+    // The words of fragment f's rows: none where they would end before they start, for `ends` may stand in any order.
     pub fn words(&self, f: usize) -> &'a [u64]
         requires { f < self.now.case.laid.sizes.f }
         ensures rows_in { All (RowIn self.now.case.laid.sizes.n self.now.case.laid.sizes.f) (map unpacked result.now) }

@@ -89,7 +89,7 @@ impl Flist<'_> {
         tally_rows(self.shown(f), self.case.laid.sizes.n)
     }
 
-    // The same, by what these lines are made from.
+    // A fragment of these with this many shown calls has a line.
     pub fn has_line(&self, calls: usize) -> bool
         ensures { result ≡ has_line self.now.single calls }
     {
