@@ -23,7 +23,7 @@ OPERATIONS = {
     "shuffle/src/lib.rt": ["sweep_orders"],
     "with_haplotypes/src/lib.rt": ["call_genotypes_with_haplotypes"],
     "late_reads/src/lib.rt": ["arrive", "depart"],
-    "condorbed/src/requests.rt": ["next"],
+    "condorbed/src/requests.rt": ["named", "next"],
 }
 SAMPLES = "samples/specs/Samples.antt"
 PROGRAM = "protocol/specs/Text.antt"

@@ -169,6 +169,12 @@ module _ {C : SweepCase} {reads : SweepReads} {state : SweepState} {v : ℕ} (S 
   pub in_haps : 2 * v + 1 < length h
   in_haps = omega (arith, S.standing.haps.len, S.v_in)
 
+  -- the alleles that stand are two of three
+  pub pair_three : (old : Pair) → old ≡ pair_at h v → (old.first < 3) × (old.second < 3)
+  pair_three old e =
+      let t = H.good.three_alleles v S.v_in in
+      rw e (omega (arith, S.standing.haps.low v S.v_in), omega (arith, S.standing.haps.high v S.v_in))
+
   -- the same from what the code has: the pile, the flag of a phased variant, each allele's turn and the sums
   pub scored : (pile : List ℕ) (old : Pair) (phased : Bool) (turns : List ℤ) (of : List Mixes) (post' : List ℤ) (base : ℤ) → PileIs reads.ends reads.piles v pile → old ≡ pair_at h v
       → phased ≡ not (eqb (get_or reads.ph v 0) 0) → ((x : ℕ) → get_or turns x (pos 0) ≡ turn phased old.first old.second x)

@@ -4,6 +4,7 @@ use mathlib.Core.Bool.{Bool, true, false, not, cond}
 use mathlib.Core.List.{List}
 use Prim.Native.Nat.{ℕ, suc, ◌+◌, ◌-◌, ◌*◌, ◌%◌, ◌<◌, ◌≤◌}
 use native.Mathlib.Omega.{arith}
+use native.Mathlib.Nat.{mod-lt, mul-le-mul_right}
 use native.Mathlib.Numerals.{add-one}
 use lib.ListN.{length, take, drop}
 use Rattle.shuffle.specs.Permutation.{Permutation}
@@ -51,6 +52,9 @@ module _ {C : SweepCase} {reads : SweepReads} {before : SweepState} {orders : Li
   o = order_of orders n m
 
   -- ---- the orders
+  pub end_fits : (s : ℕ) → s % m * n + n ≤ length orders
+  end_fits s = omega (arith, R.orders_long, mul-le-mul_right n (mod-lt s R.some_order))
+
   order_good : (s : ℕ) → Permutation C.n (o s)
   order_good s = subst (λ (x : ℕ). Permutation x (o s)) R.n_is (R.orders_good s)
 

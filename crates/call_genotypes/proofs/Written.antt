@@ -4,7 +4,7 @@ use mathlib.Core.Bool.{cond}
 use mathlib.Core.List.{List}
 use Prim.Native.Nat.{ℕ, suc, ◌+◌, ◌-◌, ◌*◌, ◌/◌, ◌%◌, ◌<◌, ◌≤◌}
 use native.Mathlib.Omega.{arith}
-use native.Mathlib.Nat.{mod-eq-sub-div-mul, mul-le-mul_right}
+use native.Mathlib.Nat.{div-mul-le_self, mod-eq-sub-div-mul, mul-le-mul_right}
 use mir.Val.{bool_byte}
 use borrow.Author.Tests.{leb-false}
 use lib.Arith.{digits_div}
@@ -95,6 +95,12 @@ module _ (post : List ℤ) (v k b : ℕ) (least : 1 ≤ k) (top : k ≤ 3) (e : 
   best_few = omega (arith, best_in, mul-le-mul_right k top)
 
   module _ (r : ℕ) (er : r ≡ b / k) where
+    pub row_low : r * k ≤ b
+    row_low = rw er (div-mul-le_self b k)
+
+    pub row_few : r * k < 9
+    row_few = omega (arith, row_low, best_in, nine k top)
+
     pub best_pair : BestPair post v k (record { first = r; second = b - r * k })
     best_pair =
         let i = pair_in k b least best_in in

@@ -14,6 +14,7 @@ pub fn make_priors(case: &Case<'_>, rates: AcceptedRates, priors: &mut [i64])
     requires { 9 * case.now.laid.sizes.n ≤ length priors.old }
     ensures { priors.new ≡ written (prior_at rates.rates (decode case.now.laid.words.now case.now.bases.now)) (9 * case.now.laid.sizes.n) priors.old }
 {
-    let table = PriorTable::new(rates);
+    let mut table = PriorTable::zeros();
+    table.fill(rates);
     write_priors(&case.with_alleles(), &table, priors);
 }

@@ -136,19 +136,13 @@ impl Values {
         row
     }
 
-    // The entries of a reference base, by both letters.
-    fn rows(&self, base: Base) -> Rows
-        ensures { RowsMade self.now.rates.rates base result }
+    // Writes the entries of a reference base, by both letters.
+    fn fill(&self, base: Base, rows: &mut Rows)
+        ensures { RowsMade self.now.rates.rates base rows.new }
     {
-        let mut rows = Rows {
-            rows: [Row {
-                entries: [LogProb(0); 6],
-            }; 6],
-        };
         for first in LETTERS {
             rows.rows[usize::from(first)] = self.row(base, first);
         }
-        rows
     }
 }
 
@@ -159,21 +153,39 @@ pub struct PriorTable {
     pub ghost small: { EntriesSmall bases },
 }
 
+// No entries yet.
+const ZEROS: [Rows; 4] = [Rows {
+    rows: [Row {
+        entries: [LogProb(0); 6],
+    }; 6],
+}; 4];
+
 impl PriorTable {
     // The table of accepted rates.
     pub fn new(rates: AcceptedRates) -> Self
         ensures { TableMade rates.rates result.bases }
     {
+        let mut table = PriorTable::zeros();
+        table.fill(rates);
+        table
+    }
+
+    // A table of zeros.
+    pub(crate) fn zeros() -> Self
+        ensures { result.bases ≡ ZEROS }
+    {
+        PriorTable { bases: ZEROS }
+    }
+
+    // Makes it the table of accepted rates, where it stands: a table that is handed back is copied by C's `memcpy`, which the static library would then
+    // need from outside.
+    pub fn fill(&mut self, rates: AcceptedRates)
+        ensures { TableMade rates.rates self.new.bases }
+    {
         let values = Values::of(rates);
-        let mut bases = [Rows {
-            rows: [Row {
-                entries: [LogProb(0); 6],
-            }; 6],
-        }; 4];
         for base in BASES {
-            bases[usize::from(base)] = values.rows(base);
+            values.fill(base, &mut self.bases[usize::from(base)]);
         }
-        PriorTable { bases }
     }
 
     // The prior of two letters at a reference base: −4096 where they differ.

@@ -5,9 +5,9 @@ use native.Mathlib.Nat.{one-mul}
 use native.Mathlib.Omega.{arith}
 use lib.IntN.{ℤ, pos, negsuc, neg_ℤ, nat_abs, ◌+ℤ◌, ◌-ℤ◌, ◌*ℤ◌}
 use mir.Syntax.{w64}
-use mir.Val.{to_z, of_z}
+use mir.Val.{SFits, to_z, of_z}
 use Rattle.steps.specs.Logs.{mix_of}
-use Rattle.steps.proofs.Signed.{neg_abs, times_abs, read_small, plus_read}
+use Rattle.steps.proofs.Signed.{neg_abs, times_abs, read_small, sfits, plus_fits, plus_read}
 
 pub times_one : (z : ℤ) → pos 1 *ℤ z ≡ z
 times_one (pos n) = ap pos (one-mul n)
@@ -35,8 +35,14 @@ module _ (total share d : ℤ) (t : nat_abs total ≤ 2 ^ 40) (h : nat_abs share
   low : nat_abs (d *ℤ share) ≤ 2 ^ 41
   low = omega (arith, times_small d share one)
 
+  pub product_fits : SFits w64 (to_z w64 (of_z w64 d) *ℤ to_z w64 (of_z w64 share))
+  product_fits = rw (d_read, share_read) (sfits w64 (d *ℤ share) (omega (arith, low)))
+
   product_read : to_z w64 (of_z w64 d) *ℤ to_z w64 (of_z w64 share) ≡ d *ℤ share
   product_read = rw (d_read, share_read)
+
+  pub moved_fits : SFits w64 (to_z w64 (of_z w64 total) +ℤ to_z w64 (of_z w64 (to_z w64 (of_z w64 d) *ℤ to_z w64 (of_z w64 share))))
+  moved_fits = rw product_read (plus_fits w64 total (d *ℤ share) (omega (arith, low)))
 
   pub moved_read : to_z w64 (of_z w64 (to_z w64 (of_z w64 total) +ℤ to_z w64 (of_z w64 (to_z w64 (of_z w64 d) *ℤ to_z w64 (of_z w64 share))))) ≡ total +ℤ (d *ℤ share)
   moved_read = rw product_read (plus_read w64 total (d *ℤ share) (omega (arith, low)))

@@ -66,7 +66,7 @@ module _ (input : LateInput) (f : ℕ) (strand : ℤ) (calls : List ℤ) where
       unfolding arrive_written
       arrive_written_lem x e = rw (e, (kept_case input s ok).shape)
 
-      arrives : {answer : Outcome LateAnswer} {after : LateSlices} → ArrivesKept input.words s input.phase input.haplotypes input.kept f strand calls answer after → Arrives input f strand calls answer after
+      pub arrives : {answer : Outcome LateAnswer} {after : LateSlices} → ArrivesKept input.words s input.phase input.haplotypes input.kept f strand calls answer after → Arrives input f strand calls answer after
       arrives p = promise_same arrive_answered (arrive_written_lem _ arrive_values) p
 
       -- the new total and counts, and the likelihoods of the read
@@ -122,7 +122,7 @@ module _ (input : LateInput) (f : ℕ) where
       unfolding depart_written
       depart_written_lem x e = rw (e, (kept_case input s ok).shape)
 
-      departs : {answer : Outcome LateAnswer} {after : LateSlices} → DepartsKept input.words s input.kept f answer after → Departs input f answer after
+      pub departs : {answer : Outcome LateAnswer} {after : LateSlices} → DepartsKept input.words s input.kept f answer after → Departs input f answer after
       departs p = promise_same depart_answered (depart_written_lem _ depart_values) p
 
       abbrev total_left : ℤ

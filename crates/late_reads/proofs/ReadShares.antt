@@ -31,6 +31,7 @@ use Rattle.variants_and_fragments.proofs.Sums.{sum_over_cong, sum_to_cong}
 use Rattle.pileup.specs.declared.reader.Call.{Call as CallHeld}
 use Rattle.pileup.specs.Inner.Packed.{UsableIs, call_read}
 use Rattle.pileup.specs.Inner.Reader.{held_call}
+use Rattle.haplotype_assembly.specs.Phase.{flag_of}
 use Rattle.sweeps.specs.Sweeps.{call_term}
 use Rattle.likelihoods.specs.Inner.Likelihoods.{call_share}
 use Rattle.likelihoods.proofs.RunningSums.{table_sum}
@@ -97,6 +98,15 @@ term_match call own e = rw (eq-eqb call.allele own e)
 pub term_other : (call : Call) (own : ℕ) → (call.allele ≡ own → ⊥) → call.qual ≡ call_term call own
 unfolding call_term
 term_other call own e = rw (ne_eqb call.allele own e)
+
+-- a flag read back
+pub flag_off : (b : Bool) → flag_of b ≡ 0 → b ≡ false
+flag_off true e = absurd (omega arith)
+flag_off false e = refl
+
+pub flag_on : (b : Bool) → (flag_of b ≡ 0 → ⊥) → b ≡ true
+flag_on true e = refl
+flag_on false e = absurd (e refl)
 
 -- a quality as the code returns it
 module _ (x : ℤ) (fits : SFits w32 x) where

@@ -147,20 +147,10 @@ fn has_room(case: &CaseWords<'_>, m: usize) -> bool
     true
 }
 
-// An arrival that passed its tests.
-#[derive(Clone, Copy)]
-pub struct TestedArrival<'a> {
-    pub ready: Ready<'a>,
-    pub read: Arrival<'a>,
-    ghost arriving: { Arriving ready.case.laid.words.now ready.case.laid.sizes read.fragment read.strand read.calls.now },
-}
-
-// The arrival, or what refuses it: 4 and 5 of its calls and strand, 13, 14.
-pub fn test_arrival<'a>(ready: &Ready<'a>, read: &Arrival<'a>) -> Result<TestedArrival<'a>, Refusal>
-    ensures outcome { answered (λ arrival. arrival.ready.case.laid.sizes) result ≡ arriving_tests ready.now.case.laid.words.now ready.now.case.laid.sizes read.now.fragment read.now.strand read.now.calls.now }
-    ensures same { IfOk result (λ arrival. (arrival.ready ≡ ready.now) × (arrival.read ≡ read.now)) }
+// What refuses an arrival at a case, if anything does: 4 and 5 of its calls and strand, 13, 14.
+pub fn arriving_fault(case: &CaseWords<'_>, read: &Arrival<'_>) -> Result<(), Refusal>
+    ensures { answered (λ _. case.now.laid.sizes) result ≡ arriving_tests case.now.laid.words.now case.now.laid.sizes read.now.fragment read.now.strand read.now.calls.now }
 {
-    let case = &ready.case;
     let m = read.count();
     let f = read.fragment;
     read.check_calls(case)?;
@@ -174,6 +164,23 @@ pub fn test_arrival<'a>(ready: &Ready<'a>, read: &Arrival<'a>) -> Result<TestedA
     if !has_room(case, m) {
         return Err(Refusal::Room(m));
     }
+    Ok(())
+}
+
+// An arrival that passed its tests.
+#[derive(Clone, Copy)]
+pub struct TestedArrival<'a> {
+    pub ready: Ready<'a>,
+    pub read: Arrival<'a>,
+    pub ghost arriving: { Arriving ready.case.laid.words.now ready.case.laid.sizes read.fragment read.strand read.calls.now },
+}
+
+// The arrival, or what refuses it.
+pub fn test_arrival<'a>(ready: &Ready<'a>, read: &Arrival<'a>) -> Result<TestedArrival<'a>, Refusal>
+    ensures outcome { answered (λ arrival. arrival.ready.case.laid.sizes) result ≡ arriving_tests ready.now.case.laid.words.now ready.now.case.laid.sizes read.now.fragment read.now.strand read.now.calls.now }
+    ensures same { IfOk result (λ arrival. (arrival.ready ≡ ready.now) × (arrival.read ≡ read.now)) }
+{
+    arriving_fault(&ready.case, read)?;
     Ok(TestedArrival {
         ready: *ready,
         read: *read,

@@ -15,7 +15,7 @@ pub struct Ready<'a> {
     pub case: CaseWords<'a>,
     pub phase: &'a [u8],
     pub haplotypes: &'a [u8],
-    ghost ready: { ReadyCase case.laid.words.now case.laid.sizes phase.now haplotypes.now },
+    pub ghost ready: { ReadyCase case.laid.words.now case.laid.sizes phase.now haplotypes.now },
 }
 
 // The case, or the first refusal: 1 to 5, 7, 10, and 10 at place 0. The seven come one by one, as C lends them: in one struct, the likelihoods and

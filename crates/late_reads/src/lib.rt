@@ -5,12 +5,13 @@
 ghost use Rattle.late_reads.specs.Values.{values};
 ghost use Rattle.late_reads.specs.LateReads.{late_input, late_slices, outcome_of, Arrives, Departs};
 
-use crate::arriving::{Arrival, test_arrival};
+use crate::arriving::test_arrival;
 use crate::counts::{count, fits};
 use crate::kept::check_kept;
 use crate::ranges::total_ok;
 use crate::reads::moved;
 use crate::words::{lay_arrival, lay_departure};
+pub use arriving::Arrival;
 use likelihoods::likelihoods::ReadLikelihoods;
 use pileup::reader::ChainReader;
 use steps::LogProb;

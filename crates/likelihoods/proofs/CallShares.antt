@@ -31,20 +31,28 @@ pub term_small : (n : ℕ) (c : Call) (a : ℕ) → nat_abs c.qual ≤ n → nat
 unfolding call_term
 term_small n c a h k = either_small n (eqb c.allele a) c.one_minus_qual c.qual k h
 
--- what a call adds from its parts: its term where its flag is 1, and else nothing
+-- what a call adds: its term where its flag is 1, and else nothing
 module _ (call : Call) (hap mask : List ℕ) (h : ℕ) where
+  pub share_flagged : get_or mask call.variant 0 ≡ 1 → call_term call (allele_on hap h call.variant) ≡ call_share (flagged mask) (allele_on hap h) call
+  unfolding flagged
+  share_flagged e = rw (eq-eqb (get_or mask call.variant 0) 1 e)
+
+  pub share_unflagged : (get_or mask call.variant 0 ≡ 1 → ⊥) → pos 0 ≡ call_share (flagged mask) (allele_on hap h) call
+  unfolding flagged
+  share_unflagged e = rw (ne_eqb (get_or mask call.variant 0) 1 e)
+
+  -- the same from the call's parts, and how far from 0 that is
   pub share_counted : (q o y : ℤ) → CallIn call hap mask → get_or mask call.variant 0 ≡ 1 → q ≡ call.qual → o ≡ call.one_minus_qual → y ≡ call_term (record { variant = call.variant; allele = call.allele; qual = q; one_minus_qual = o }) (allele_on hap h call.variant)
       → (y ≡ call_share (flagged mask) (allele_on hap h) call) × (nat_abs y ≤ 262144)
-  unfolding flagged call_term
+  unfolding call_term
   share_counted q o y k e eq eo ey =
       let t : y ≡ cond (eqb call.allele (allele_on hap h call.variant)) call.one_minus_qual call.qual = rw (eq, eo) at ey in (
-        rw (eq-eqb (get_or mask call.variant 0) 1 e) t,
+        t ∙ share_flagged e,
         rw t (either_small 262144 (eqb call.allele (allele_on hap h call.variant)) _ _ k.one_minus_qual_small k.qual_small),
       )
 
   pub share_left_out : (get_or mask call.variant 0 ≡ 1 → ⊥) → (pos 0 ≡ call_share (flagged mask) (allele_on hap h) call) × (0 ≤ 262144)
-  unfolding flagged
-  share_left_out n = (rw (ne_eqb (get_or mask call.variant 0) 1 n), omega arith)
+  share_left_out n = (share_unflagged n, omega arith)
 
 -- a likelihood over the first n rows adds up what each adds
 abbrev pub row_share : List ℕ → List ℕ → List ℕ → ℕ → ℕ → ℤ
@@ -87,6 +95,17 @@ ends_within ends (suc n) rises f h = elim (ℕ_discrete f n) [
   | yes e ↦ rw e (omega arith)
   | no e ↦ omega (arith, ends_within ends n (λ g k. rises g (omega arith)) f (omega arith), rises n (omega arith))
 ]
+
+-- what holds of the calls holds of fewer
+pub calls_fewer : {rows : List ℕ} {n m : ℕ} {hap mask : List ℕ} → m ≤ n → CallsIn rows n hap mask → CallsIn rows m hap mask
+calls_fewer h k = record {
+  count_top = omega (arith, k.count_top);
+  long = omega (arith, k.long);
+  pair_there = λ i l. k.pair_there i (omega arith);
+  flag_there = λ i l. k.flag_there i (omega arith);
+  qual_small = λ i l. k.qual_small i (omega arith);
+  one_minus_qual_small = λ i l. k.one_minus_qual_small i (omega arith);
+}
 
 -- row j of a read's
 pub row_in : {rows hap mask : List ℕ} → CallsIn rows (length rows) hap mask → (j : ℕ) → j < length rows → CallIn (call_at rows j) hap mask

@@ -64,18 +64,38 @@ standing_is lik f r term h is e =
     (m, rw m (mix_small _ _ (2 ^ 32) (h (2 * f)) (h (2 * f + 1))))
 
 -- ---- a variant
+module _ (ks : List ℕ) (pri : List ℤ) (hap mask : List ℕ) (v : ℕ) where
+  pub share_flagged : get_or mask v 0 ≡ 1 → pair_prior ks pri v (allele0 hap v) (allele1 hap v) ≡ prior_share ks pri hap mask v
+  unfolding prior_share flagged
+  share_flagged e = rw (eq-eqb (get_or mask v 0) 1 e)
+
+  pub share_unflagged : (get_or mask v 0 ≡ 1 → ⊥) → pos 0 ≡ prior_share ks pri hap mask v
+  unfolding prior_share flagged
+  share_unflagged e = rw (ne_eqb (get_or mask v 0) 1 e)
+
 module _ {n : ℕ} {ks : List ℕ} {pri : List ℤ} {hap mask : List ℕ} (k : PriorsIn n ks pri hap mask) (v : ℕ) (h : v < n) where
   -- its prior as it is read, where its flag is 1
-  pub share_flagged : get_or mask v 0 ≡ 1
+  pub share_read : get_or mask v 0 ≡ 1
       → let x = to_z w64 (of_z w64 (get_or pri (9 * v + (get_or hap (2 * v) 0 * get_or ks v 0 + get_or hap (2 * v + 1) 0)) (pos 0))) in (x ≡ prior_share ks pri hap mask v) × (nat_abs x ≤ 2 ^ 21)
-  unfolding prior_share flagged pair_prior
-  share_flagged e =
+  unfolding pair_prior
+  share_read e =
       let s = k.small v h in
-      rw (read_small w64 (pair_prior ks pri v (allele0 hap v) (allele1 hap v)) (omega (arith, s)), eq-eqb (get_or mask v 0) 1 e) (refl, s)
+      rw (read_small w64 (pair_prior ks pri v (allele0 hap v) (allele1 hap v)) (omega (arith, s))) (share_flagged ks pri hap mask v e, s)
 
-  pub share_unflagged : (get_or mask v 0 ≡ 1 → ⊥) → (pos 0 ≡ prior_share ks pri hap mask v) × (0 ≤ 2 ^ 21)
-  unfolding prior_share flagged
-  share_unflagged e = (rw (ne_eqb (get_or mask v 0) 1 e), omega arith)
+  pub share_left_out : (get_or mask v 0 ≡ 1 → ⊥) → (pos 0 ≡ prior_share ks pri hap mask v) × (0 ≤ 2 ^ 21)
+  share_left_out e = (share_unflagged ks pri hap mask v e, omega arith)
+
+-- what holds of the priors holds of fewer
+pub priors_fewer : {n m : ℕ} {ks : List ℕ} {pri : List ℤ} {hap mask : List ℕ} → m ≤ n → PriorsIn n ks pri hap mask → PriorsIn m ks pri hap mask
+priors_fewer h p = record {
+  variants_top = omega (arith, p.variants_top);
+  ks_long = omega (arith, p.ks_long);
+  mask_long = omega (arith, p.mask_long);
+  hap_long = omega (arith, p.hap_long);
+  pri_long = omega (arith, p.pri_long);
+  pair_in = λ v l. p.pair_in v (omega arith);
+  small = λ v l. p.small v (omega arith);
+}
 
 -- ---- the total of the case that the slices hold
 module _ (n f : ℕ) (ks : List ℕ) (pri : List ℤ) (rows ends hap mask : List ℕ) where

@@ -21,7 +21,7 @@ use Rattle.no_haplotypes.specs.Inner.Piles.{CallsHeld}
 use Rattle.no_haplotypes.specs.Inner.Tally.{shown_on, count_of, Tallied, scored_from, posteriors_from}
 use Rattle.no_haplotypes.specs.Inner.Calling.{answer_values, made_from}
 use Rattle.no_haplotypes.proofs.CountLaws.{only_same, all_calls, forward_reverse}
-use Rattle.no_haplotypes.proofs.TallyLaws.{all_in}
+use Rattle.no_haplotypes.proofs.TallyLaws.{all_in, rows_held}
 
 listed : (g : Genotype) (counts : List (List ℕ)) (ambiguous depth : ℕ) → map pos (answer_values g counts ambiguous depth) ≡ tabulate 13 (λ p. pos (get_or (answer_values g counts ambiguous depth) p 0))
 unfolding answer_values tabulate_from
@@ -33,7 +33,7 @@ module _ {w : List ℤ} {s : Sizes} {v : ℕ} {words : List ℕ} {ambiguous : �
   rows = map unpacked words
 
   shown_alike : (strand x : ℕ) → All (λ row. shown_on w s strand x row ≡ (eqb (row_strand (decode w b) row) strand && eqb row.call.allele x)) rows
-  shown_alike strand x = all_imp (λ row i. rw (strand_is accepted b row.fragment i.fragment_in)) (all_in held)
+  shown_alike strand x = all_imp (λ row i. rw (strand_is accepted b row.fragment i.fragment_in)) (all_in (rows_held held))
 
   shown_same : (strand x : ℕ) → length (only (shown_on w s strand x) rows) ≡ strand_calls (decode w b) v strand x
   unfolding strand_calls

@@ -1,20 +1,24 @@
 -- Calling an accepted case: its piles, its priors, and that what is made from them are the posteriors of the definition.
 -- Assumes nothing.
-use Rattle.std.proofs.Common.{◌≡◌, List, [], map, ℕ, ◌+◌, ◌-◌, ◌*◌, ◌/◌, ◌%◌, ◌^◌, ◌≤◌, ◌<◌, ltb, Float, ℤ, pos, nat_abs, length, get_or, drop, sym, ap, ◌∙◌, arith, length-take}
+use Rattle.std.proofs.Common.{◌≡◌, List, [], map, ℕ, ◌+◌, ◌-◌, ◌*◌, ◌/◌, ◌%◌, ◌^◌, ◌≤◌, ◌<◌, eqb, ltb, Float, ℤ, pos, nat_abs, length, get_or, drop, refl, sym, ap, ◌∙◌, arith, length-take}
 use Rattle.std.proofs.lemmas.List.{length-map, get_or-map, get_or-drop, drop-take}
 use Rattle.steps.proofs.Signed.{by_test}
 use Rattle.variants_and_fragments.specs.declared.Sizes.{Sizes}
 use Rattle.variants_and_fragments.specs.Inner.Accepted.{CaseIn}
 use Rattle.variants_and_fragments.specs.Inner.Case.{All}
-use Rattle.variants_and_fragments.specs.Case.{Variant, allele_count, variant_of}
+use Rattle.variants_and_fragments.specs.Case.{Case, Variant, Call, allele_count, variant_of, call_count}
+use Rattle.variants_and_fragments.specs.Check.{check_case_outcome}
 use Rattle.variants_and_fragments.specs.Decode.{decode}
 use Rattle.variants_and_fragments.specs.Layout.{allele_count_at}
-use Rattle.variants_and_fragments.specs.Pileup.{pile_of}
+use Rattle.variants_and_fragments.specs.Pileup.{only, pile_of}
+use Rattle.variants_and_fragments.specs.Refusals.{done}
 use Rattle.variants_and_fragments.specs.Visits.{Visit, visits, visited}
 use Rattle.variants_and_fragments.specs.Written.{written}
 use Rattle.variants_and_fragments.proofs.Alls.{all_at, all_imp}
 use Rattle.variants_and_fragments.proofs.Decoded.{allele_count_is}
-use Rattle.variants_and_fragments.proofs.Sums.{count_to_on, count_to_grows}
+use Rattle.variants_and_fragments.proofs.GoodCases.{good_case}
+use Rattle.variants_and_fragments.proofs.Only.{only_length}
+use Rattle.variants_and_fragments.proofs.Sums.{count_le, count_to_on, count_to_grows}
 use Rattle.variants_and_fragments.proofs.Visits.{visits_top}
 use Rattle.variants_and_fragments.proofs.Written.{written_at, written_length, written_same}
 use Rattle.pileup.specs.Inner.Collected.{collected}
@@ -29,10 +33,24 @@ use Rattle.genotype_probs.specs.Inner.Rates.{rates_fault}
 use Rattle.genotype_probs.proofs.PriorSizes.{prior_small}
 use Rattle.genotype_probs.proofs.TableSizes.{by_cond}
 use Rattle.genotype_probs.proofs.TableSums.{tabulate_cong}
-use Rattle.no_haplotypes.specs.NoHaplotypes.{pair_score, score_at, posteriors, variant_answer, answer_at, qual_at, gq_at}
+use Rattle.no_haplotypes.specs.NoHaplotypes.{pair_score, score_at, posteriors, calls_at, variant_answer, answer_at, qual_at, gq_at}
 use Rattle.no_haplotypes.specs.Inner.Piles.{CallsHeld, Piled}
 use Rattle.no_haplotypes.specs.Inner.Tally.{scored_from, posteriors_from}
-use Rattle.no_haplotypes.specs.Inner.Calling.{made_at, PriorsIn, VariantsCalled, AcceptedCalled}
+use Rattle.no_haplotypes.specs.Inner.Calling.{FewCalls, made_at, PriorsIn, VariantsCalled, AcceptedCalled}
+
+-- ---- how many calls
+calls_of : (case : Case) (v : ℕ) → calls_at case v ≤ call_count case
+unfolding calls_at
+calls_of case v =
+    count_le case.fragments (λ fragment. length (only (λ (call : Call). eqb call.variant v) fragment.calls)) (λ fragment. length fragment.calls) (λ fragment. only_length (λ (call : Call). eqb call.variant v) fragment.calls)
+
+-- the calls do not go by the bases
+same_calls : (w : List ℤ) (b other : List ℕ) (v : ℕ) → calls_at (decode w b) v ≡ calls_at (decode w other) v
+unfolding calls_at decode
+same_calls w b other v = refl
+
+pub few_calls : (w : List ℤ) (b : List ℕ) (s : Sizes) → check_case_outcome w b ≡ done s → FewCalls w
+few_calls w b s h other v = omega (arith, same_calls w other b v, calls_of (decode w b) v, (good_case w b s h).calls_top)
 
 -- ---- the calls of each variant, as the walk leaves them
 module _ {w : List ℤ} {s : Sizes} (k : CaseIn w s) {rows row_ends ambiguous ends piles : List ℕ} {count : ℕ} (made : CallsPiled w s rows row_ends ambiguous piles ends count) (long : s.n ≤ length ambiguous) where

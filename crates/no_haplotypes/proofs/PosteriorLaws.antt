@@ -37,14 +37,16 @@ module _ {priors : List ℤ} (scored : List ℤ) {k : ℕ} {t : Tally} (low : 1 
 
   -- ---- and normalized
   module _ {post : List ℤ} (f : post ≡ tabulate 9 (normalized scored k)) where
+    pub posteriors_small : (p : ℕ) → p < 9 → nat_abs (get_or post p (pos 0)) ≤ 2 ^ 40
+    posteriors_small p h =
+        omega (arith, ap (λ (l : List ℤ). nat_abs (get_or l p (pos 0))) f, ap nat_abs (tabulate_at 9 (normalized scored k) p (pos 0) h), normal_size (2 ^ 36) scored k top score_small p)
+
     pub posteriors_table : TableIn post k
     posteriors_table = record {
       k_low = low;
       k_high = top;
       size = ap length f ∙ tabulate_length 9 (normalized scored k);
-      small = λ p h.
-          let m : p < 9 = omega (arith, nine k top) in
-          omega (arith, ap (λ (l : List ℤ). nat_abs (get_or l p (pos 0))) f, ap nat_abs (tabulate_at 9 (normalized scored k) p (pos 0) m), normal_size (2 ^ 36) scored k top score_small p);
+      small = λ p h. posteriors_small p (omega (arith, nine k top));
     }
 
     pub posteriors_are : {w : List ℤ} {s : Sizes} {rows : List Row} → Tallied w s rows t → post ≡ posteriors_from priors k rows

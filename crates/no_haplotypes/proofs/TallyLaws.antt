@@ -1,6 +1,6 @@
 -- What one pass over a variant's calls adds up: one more row at a time, and how small it is.
 -- Assumes nothing.
-use Rattle.std.proofs.Common.{◌≡◌, false, List, [], ◌∷◌, ◌++◌, map, ℕ, zero, suc, ◌+◌, ◌*◌, ◌^◌, ◌≤◌, ◌<◌, eqb, ℤ, pos, nat_abs, ◌+ℤ◌, length, get_or, set, take, replicate, refl, sym, ap, ◌∙◌, arith, eq-eqb, ne_eqb, length-set, length-take}
+use Rattle.std.proofs.Common.{◌≡◌, false, List, [], ◌∷◌, ◌++◌, map, ℕ, zero, suc, ◌+◌, ◌-◌, ◌*◌, ◌^◌, ◌≤◌, ◌<◌, eqb, ℤ, pos, nat_abs, ◌+ℤ◌, length, get_or, set, take, replicate, refl, sym, ap, ◌∙◌, arith, eq-eqb, ne_eqb, length-set, length-take}
 use Rattle.std.proofs.lemmas.List.{length-map, get_or-map, take-map, take_more, map-append, get_or-set_same, get_or-set_other}
 use native.Mathlib.Decide.{ℕ_discrete}
 use lib.IntN.{+ℤ_idr}
@@ -11,15 +11,16 @@ use Rattle.steps.specs.Logs.{mix_of}
 use Rattle.variants_and_fragments.specs.declared.Sizes.{Sizes}
 use Rattle.variants_and_fragments.specs.Case.{Call, direction}
 use Rattle.variants_and_fragments.specs.Inner.Case.{All, end, also}
+use Rattle.variants_and_fragments.specs.Decode.{tabulate_from}
 use Rattle.variants_and_fragments.specs.Layout.{strand_at}
 use Rattle.variants_and_fragments.specs.Pileup.{Row, only}
 use Rattle.variants_and_fragments.specs.Sums.{sum_over}
 use Rattle.variants_and_fragments.proofs.Alls.{at_all, all_imp}
 use Rattle.variants_and_fragments.proofs.Bounds.{down_abs}
 use Rattle.variants_and_fragments.proofs.Only.{only_none, only_in, only_out, only_length}
-use Rattle.pileup.specs.Inner.Packed.{RowIn, unpacked}
+use Rattle.pileup.specs.Inner.Packed.{RowIn, RowsIn, unpacked, row_at, rows_at}
 use Rattle.genotype_probs.specs.Priors.{ln_half}
-use Rattle.genotype_probs.proofs.ListLaws.{sum_last}
+use Rattle.genotype_probs.proofs.ListLaws.{sum_last, table_last}
 use Rattle.genotype_probs.proofs.TableSizes.{by_cond}
 use Rattle.no_haplotypes.specs.declared.tally.Gain.{Gain}
 use Rattle.no_haplotypes.specs.declared.tally.Tally.{Tally}
@@ -30,6 +31,17 @@ use Rattle.no_haplotypes.proofs.CountLaws.{only_count}
 -- ---- the rows, one more at a time
 pub rows_more : (words : List ℕ) (i : ℕ) → i < length words → map unpacked (take (i + 1) words) ≡ map unpacked (take i words) ++ (unpacked (get_or words i 0) ∷ [])
 rows_more words i h = rw (take_more words i 0 h, map-append) refl
+
+-- the same of the rows at a..c
+pub rows_none : (words : List ℕ) (a : ℕ) → rows_at words a a ≡ []
+unfolding tabulate_from
+rows_none words a = let e : a - a ≡ 0 = omega arith in rw e
+
+pub rows_at_more : (words : List ℕ) (a c : ℕ) → a ≤ c → rows_at words a (c + 1) ≡ rows_at words a c ++ (row_at words c ∷ [])
+rows_at_more words a c h =
+    let e : c + 1 - a ≡ suc (c - a) = omega arith in
+    let d : a + (c - a) ≡ c = omega arith in
+    rw (e, table_last (row_at words) a (c - a), d)
 
 -- ---- one more row added
 abbrev no_counts : List ℕ
@@ -175,17 +187,21 @@ module _ {w : List ℤ} {s : Sizes} {n f : ℕ} {rows : List Row} {t : Tally} (m
     counts_few = λ strand x l h. omega (arith, made.counts_are strand x l h, only_length (shown_on w s strand x) rows, few);
   }
 
--- so of all calls of a variant, and of the first i
-module _ {w : List ℤ} {s : Sizes} {v : ℕ} {words : List ℕ} {ambiguous : ℕ} (held : CallsHeld w s v words ambiguous) where
-  pub all_in : All (RowIn s.n s.f) (map unpacked words)
-  all_in =
-      at_all (map unpacked words) (unpacked 0)
-      (λ i h. let l : i < length words = rw length-map at h in rw (get_or-map unpacked words i 0 (unpacked 0) l) (held.rows_in i l))
+-- so of all rows of words, and of the first i
+pub all_in : {n f : ℕ} {words : List ℕ} → RowsIn n f words 0 (length words) → All (RowIn n f) (map unpacked words)
+all_in {n} {f} {words} r =
+    at_all (map unpacked words) (unpacked 0)
+    (λ i h. let l : i < length words = rw length-map at h in rw (get_or-map unpacked words i 0 (unpacked 0) l) (r.rows_in i (omega arith) l))
 
-  pub sums_to : {t : Tally} (i : ℕ) → Tallied w s (map unpacked (take i words)) t → SumsIn t
+module _ {w : List ℤ} {s : Sizes} {n f : ℕ} {words : List ℕ} {t : Tally} (r : RowsIn n f words 0 (length words)) where
+  pub sums_to : (i : ℕ) → Tallied w s (map unpacked (take i words)) t → SumsIn t
   sums_to i made =
-      let rows_in : All (RowIn s.n s.f) (map unpacked (take i words)) = rw (← take-map unpacked i words) (all_take i all_in) in
-      sums_in made (omega (arith, length-map (take i words) unpacked, length-take i words, held.few)) rows_in
+      let rows_in : All (RowIn n f) (map unpacked (take i words)) = rw (← take-map unpacked i words) (all_take i (all_in r)) in
+      sums_in made (omega (arith, length-map (take i words) unpacked, length-take i words, r.few)) rows_in
 
-  pub sums_all : {t : Tally} → Tallied w s (map unpacked words) t → SumsIn t
-  sums_all made = sums_in made (omega (arith, length-map words unpacked, held.few)) all_in
+  pub sums_all : Tallied w s (map unpacked words) t → SumsIn t
+  sums_all made = sums_in made (omega (arith, length-map words unpacked, r.few)) (all_in r)
+
+-- as the calls of a variant are
+pub rows_held : {w : List ℤ} {s : Sizes} {v : ℕ} {words : List ℕ} {ambiguous : ℕ} → CallsHeld w s v words ambiguous → RowsIn s.n s.f words 0 (length words)
+rows_held held = record { few = held.few; long = omega arith; rows_in = λ i _ h. held.rows_in i h }

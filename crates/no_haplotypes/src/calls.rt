@@ -1,6 +1,6 @@
 // The calls of a variant, and the piles that they are read from.
-ghost use Rattle.std.specs.Prelude.{◌≡◌, List, ℕ, ◌<◌, ◌≤◌};
-ghost use Rattle.variants_and_fragments.specs.Layout.{allele_count_at};
+ghost use Rattle.std.specs.Prelude.{◌≡◌, List, ℕ, ◌<◌, ◌≤◌, max};
+ghost use Rattle.variants_and_fragments.specs.Layout.{allele_count_at, depth_at};
 ghost use Rattle.variants_and_fragments.specs.Decode.{decode};
 ghost use Rattle.no_haplotypes.specs.NoHaplotypes.{depth_after};
 ghost use Rattle.no_haplotypes.specs.Inner.Piles.{CallsHeld, Piled};
@@ -18,6 +18,14 @@ pub struct Calls<'a> {
     pub ghost held: { CallsHeld case.laid.words.now case.laid.sizes v usable.now ambiguous },
 }
 
+// The larger of variant v's depth in the case and this number of calls, usable and ambiguous.
+pub fn depth_after(case: &CaseWords<'_>, calls: usize, v: usize) -> usize
+    requires { (v < case.now.laid.sizes.n) × (calls < 2147483648) }
+    ensures { (result ≡ max (depth_at case.now.laid.words.now v) calls) × (result < 2147483648) }
+{
+    case.with_variants().depth(v).max(calls)
+}
+
 impl Calls<'_> {
     // The number of the variant's alleles.
     pub fn allele_count(&self) -> usize
@@ -32,10 +40,7 @@ impl Calls<'_> {
     pub fn depth_after(&self) -> usize
         ensures { ((b : List ℕ) → result ≡ depth_after (decode self.now.case.laid.words.now b) self.now.v) × (result < 2147483648) }
     {
-        self.case
-            .with_variants()
-            .depth(self.v)
-            .max(self.usable.len() + self.ambiguous)
+        depth_after(&self.case, self.usable.len() + self.ambiguous, self.v)
     }
 }
 

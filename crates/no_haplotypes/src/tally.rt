@@ -1,10 +1,10 @@
-// What one pass over a variant's calls adds up: the qualities, what each allele gains on them, and the calls by strand and allele.
-ghost use Rattle.std.specs.Prelude.{◌≡◌, ◌*◌, ◌/◌, ◌%◌, ◌<◌, ◌≤◌, ◌^◌, ℕ, pos, nat_abs, ◌+ℤ◌, map, get_or};
-ghost use Rattle.pileup.specs.Inner.Packed.{RowIn, row_from, unpacked};
-ghost use Rattle.no_haplotypes.specs.Inner.Tally.{SumsIn, CallAdded, Tallied, pair_gain, NinePriors, Scored};
-ghost use Rattle.variants_and_fragments.specs.Layout.{allele_count_at};
+// What one pass over a variant's calls adds up, the qualities, what each allele gains on them and the calls by strand and allele; and the posteriors from that.
+ghost use Rattle.std.specs.Prelude.{◌≡◌, ◌*◌, ◌/◌, ◌%◌, ◌<◌, ◌≤◌, ◌^◌, ℕ, pos, nat_abs, ◌+ℤ◌, length, map, get_or};
+ghost use Rattle.pileup.specs.Inner.Packed.{RowIn, RowsIn, row_from, unpacked};
+ghost use Rattle.no_haplotypes.specs.Inner.Tally.{SumsIn, CallAdded, Tallied, pair_gain, NinePriors, Scored, PosteriorsMade};
 
 use crate::calls::Calls;
+use genotype_probs::posteriors::normalize;
 use pileup::row::Row;
 use steps::LogProb;
 use variants_and_fragments::CaseWords;
@@ -44,20 +44,61 @@ impl Tally {
         gain.one += mixed - q;
     }
 
-    // Adds up a variant's calls.
-    pub fn of(calls: &Calls<'_>) -> Tally
-        ensures { Tallied calls.now.case.laid.words.now calls.now.case.laid.sizes (map unpacked calls.now.usable.now) result }
+    // Adds up usable calls, each as the word of its row, whichever rows these are.
+    pub fn of(case: &CaseWords<'_>, usable: &[u64]) -> Tally
+        requires { RowsIn case.now.laid.sizes.n case.now.laid.sizes.f usable.now 0 (length usable.now) }
+        ensures { Tallied case.now.laid.words.now case.now.laid.sizes (map unpacked usable.now) result }
     {
         let mut tally = Tally {
             total: LogProb(0),
             gains: [Gain { both: 0, one: 0 }; 3],
             counts: [[0; 2]; 3],
         };
-        for word in calls.usable {
-            tally.add(&calls.case, Row::unpack(*word));
+        for word in usable {
+            tally.add(case, Row::unpack(*word));
         }
         tally
     }
+
+    // What the calls add to the prior of the pair (i, j).
+    fn pair_gain(&self, i: usize, j: usize) -> LogProb
+        requires sums_in { SumsIn self.now }
+        requires pair_in { (i < 3) × (j < 3) }
+        ensures { (result.0 ≡ pair_gain self.now i j) × (nat_abs result.0 ≤ 2 ^ 36) }
+    {
+        let total = self.total.0;
+        let gains = &self.gains;
+        if i == j {
+            return LogProb(total + gains[i].both);
+        }
+        LogProb(total + gains[i].one + gains[j].one)
+    }
+
+    // Adds what the calls add to each of the k × k priors of a variant with k alleles.
+    pub fn score(&self, k: usize, post: &mut [i64])
+        requires sums_in { SumsIn self.now }
+        requires k_in { (1 ≤ k) × (k ≤ 3) }
+        requires priors_in { NinePriors post.old }
+        ensures { Scored self.now k post.old post.new }
+    {
+        for p in 0..k * k {
+            post[p] += self.pair_gain(p / k, p % k).0;
+        }
+    }
+}
+
+// Turns the nine priors of variant v into its posteriors by these usable calls, whichever rows they are. Answers what they add up to.
+pub fn write_posteriors(case: &CaseWords<'_>, v: usize, usable: &[u64], post: &mut [i64]) -> Tally
+    requires variant_in { v < case.now.laid.sizes.n }
+    requires rows_in { RowsIn case.now.laid.sizes.n case.now.laid.sizes.f usable.now 0 (length usable.now) }
+    requires priors_in { NinePriors post.old }
+    ensures { PosteriorsMade case.now.laid.words.now case.now.laid.sizes (map unpacked usable.now) v post.old post.new result }
+{
+    let tally = Tally::of(case, usable);
+    let k = case.laid.allele_count(v);
+    tally.score(k, post);
+    normalize(post, k);
+    tally
 }
 
 // A variant's calls, and what they add up to.
@@ -67,30 +108,4 @@ pub struct Summed<'a> {
     pub tally: Tally,
     pub ghost tallied: { Tallied calls.case.laid.words.now calls.case.laid.sizes (map unpacked calls.usable.now) tally },
     pub ghost sums_in: { SumsIn tally },
-}
-
-impl Summed<'_> {
-    // What the calls add to the prior of the pair (i, j).
-    fn pair_gain(&self, i: usize, j: usize) -> LogProb
-        requires { (i < 3) × (j < 3) }
-        ensures { (result.0 ≡ pair_gain self.now.tally i j) × (nat_abs result.0 ≤ 2 ^ 36) }
-    {
-        let total = self.tally.total.0;
-        let gains = &self.tally.gains;
-        if i == j {
-            return LogProb(total + gains[i].both);
-        }
-        LogProb(total + gains[i].one + gains[j].one)
-    }
-
-    // Adds what the calls add to each prior of the variant.
-    pub fn score(&self, post: &mut [i64])
-        requires { NinePriors post.old }
-        ensures { Scored self.now.tally (allele_count_at self.now.calls.case.laid.words.now self.now.calls.v) post.old post.new }
-    {
-        let k = self.calls.allele_count();
-        for p in 0..k * k {
-            post[p] += self.pair_gain(p / k, p % k).0;
-        }
-    }
 }

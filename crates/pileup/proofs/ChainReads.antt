@@ -1,6 +1,6 @@
 -- A chain that can be read: a fragment's chain is one, and each record leaves one. More steps than its records add nothing.
 -- Assumes nothing.
-use mathlib.Core.Path.{◌≡◌, refl, ap}
+use mathlib.Core.Path.{◌≡◌, refl, ap, ◌∙◌}
 use mathlib.Core.Bool.{Bool, true, false, not, cond, ◌&&◌}
 use mathlib.Core.List.{List, [], ◌∷◌, map}
 use Prim.Native.Nat.{ℕ, zero, suc, ◌≤◌}
@@ -15,8 +15,8 @@ use Rattle.variants_and_fragments.specs.Inner.Chain.{first_record_at}
 use Rattle.variants_and_fragments.proofs.Bools.{both}
 use Rattle.variants_and_fragments.proofs.Chain.{next_top, record_top, record_chain}
 use Rattle.variants_and_fragments.proofs.Linked.{chain_linked, chain_length, linked_fuel}
-use Rattle.variants_and_fragments.proofs.Walks.{chain_end, chain_on}
-use Rattle.pileup.specs.Inner.Reader.{held_call, calls_left, Readable}
+use Rattle.variants_and_fragments.proofs.Walks.{chain_end, chain_none, chain_on}
+use Rattle.pileup.specs.Inner.Reader.{held_call, calls_left, Readable, read_at, next_at, gather, calls_read}
 
 module _ (w : List ℤ) (s : Sizes) where
   -- a chain that ends within k records is the same at any more steps
@@ -95,3 +95,19 @@ module _ (w : List ℤ) (s : Sizes) where
         go : (n : ℕ) → n ≡ s.c → length (chain_from w s (suc s.c) (next_call_at w s r)) ≤ s.c
         go zero e = absurd (omega (arith, short))
         go (suc k) e = rw (same k e (suc s.c) (omega arith), ← same k e s.c (omega arith)) (omega (arith, short))
+
+  -- ---- reading one record at a time
+  reads_along : (k r : ℕ) → r ≤ s.used → allb (next_ok w s) (chain_from w s k r) ≡ true → calls_read w s k r ≡ map held_call (map (call_from w s) (chain_from w s k r))
+  unfolding allb calls_read gather read_at next_at
+  reads_along zero r top right = rw (chain_none w s 0 r refl) refl
+  reads_along (suc k) zero top right = rw (chain_end w s (suc k) 0 refl) refl
+  reads_along (suc k) (suc r) top right =
+      let on = chain_on w s k (suc r) (omega arith) top in
+      let b = both (next_ok w s (suc r)) (allb (next_ok w s) (chain_from w s k (next_call_at w s (suc r)))) (rw on at right) in
+      rw (on, reads_along k (next_call_at w s (suc r)) (next_top w s (suc r) b.0) b.1) refl
+
+  pub chain_read : (f : ℕ) → FragmentIn w s f → calls_read w s s.c (first_record_at w s f) ≡ map held_call (fragment_from w s f).calls
+  unfolding chain_of calls_left
+  chain_read f i =
+      reads_along s.c (first_record_at w s f) (record_top s (first_call_at w s f)) (rw record_chain (links (reached w s f) (chain_of w s f) i.right))
+      ∙ fragment_left f (first_record_at w s f) refl

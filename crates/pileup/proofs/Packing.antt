@@ -1,7 +1,7 @@
 -- The row of a packable row's word is that row: the word's parts, one above the other, come out by division.
 -- Assumes nothing.
 use mathlib.Core.Path.{◌≡◌, refl, sym, ap, ◌∙◌}
-use Prim.Native.Nat.{ℕ, zero, suc, ◌+◌, ◌*◌, ◌-◌, ◌/◌, ◌%◌, ◌≤◌}
+use Prim.Native.Nat.{ℕ, zero, suc, ◌+◌, ◌*◌, ◌-◌, ◌/◌, ◌%◌, ◌≤◌, ◌<◌, ◌^◌}
 use native.Mathlib.Nat.{zero-add, div-div-eq-div-mul}
 use native.Mathlib.Omega.{arith}
 use borrow.Author.Tests.{leb-true}
@@ -65,6 +65,10 @@ module _ {row : Row} (r : Packable row) where
 
   other_below : debt_of row.call.one_minus_qual ≤ 262144
   other_below = down_debt row.call.one_minus_qual r.one_minus_qual_in
+
+  pub packed_top : packed row < 2 ^ 63
+  unfolding packed
+  packed_top = omega (arith, below, other_below)
 
   -- the parts of the word
   fragment_part : packed row / 2251799813685248 ≡ row.fragment

@@ -1,12 +1,13 @@
-// Reading a fragment's chain, one call at a time.
+// Reading a chain, one call at a time: a case's fragment's by `ChainReader`, and from any record of words that are only laid out by `RecordReader`.
 ghost use Rattle.std.specs.Prelude.{◌≡◌, ◌<◌, ◌≤◌, map};
 ghost use Rattle.std.specs.Iterator.{YieldsFirst, item_count};
 ghost use Rattle.variants_and_fragments.specs.Decode.{call_from, fragment_from};
-ghost use Rattle.pileup.specs.Inner.Reader.{held_call, worded_call};
+ghost use Rattle.variants_and_fragments.specs.Inner.Layout.{Sized};
+ghost use Rattle.pileup.specs.Inner.Reader.{held_call, worded_call, read_at, step_at, reader_at, moved_on};
 
 use std::marker::Model;
 use variants_and_fragments::layout::nat_of;
-use variants_and_fragments::{CallWords, CaseWords, Laid};
+use variants_and_fragments::{CallWords, CaseWords, Laid, Sizes};
 
 // A call of a fragment.
 #[derive(Clone, Copy)]
@@ -97,4 +98,59 @@ pub fn call_at(laid: &Laid<'_>, r: usize) -> Call
     ensures { result ≡ held_call (call_from laid.now.words.now laid.now.sizes r) }
 {
     laid.call_words(r).into()
+}
+
+// A step along a chain: the call that is read, none at the chain's end, and the number of the record after it.
+#[derive(Clone, Copy)]
+pub struct CallStep {
+    pub read: Option<Call>,
+    pub next: usize,
+}
+
+// The step from record r, where 0 ends a chain. (`ChainReader` tests that apart, for speed.)
+pub fn read_call(laid: &Laid<'_>, r: usize) -> CallStep
+    requires { r ≤ laid.now.sizes.c }
+    ensures { result ≡ step_at laid.now.words.now laid.now.sizes r }
+{
+    if r == 0 {
+        return CallStep {
+            read: None,
+            next: 0,
+        };
+    }
+    CallStep {
+        read: Some(call_at(laid, r)),
+        next: laid.next_call(r),
+    }
+}
+
+// A reader of the records from any one on: the words, and the number of the next record. No iterator, since in words that no check has
+// accepted a chain may have no end.
+#[derive(Drop)]
+pub struct RecordReader<'a> {
+    pub words: &'a [i32],
+    pub next: usize,
+}
+
+impl<'a> RecordReader<'a> {
+    // The reader whose next record is `next`.
+    pub fn new(words: &'a [i32], next: usize) -> RecordReader<'a>
+        ensures { result ≡ reader_at words.entry next }
+    {
+        RecordReader { words, next }
+    }
+
+    // The call of the next record, or none at the end; the reader moves on to the record after it.
+    pub fn next(&mut self, s: Sizes) -> Option<Call>
+        requires { Sized self.old.words.now s × (self.old.next ≤ s.c) }
+        ensures { (result ≡ read_at self.old.words.now s self.old.next) × (self.new ≡ moved_on s self.old) }
+    {
+        let laid = Laid {
+            words: self.words,
+            sizes: s,
+        };
+        let step = read_call(&laid, self.next);
+        self.next = step.next;
+        step.read
+    }
 }

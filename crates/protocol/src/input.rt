@@ -3,7 +3,7 @@ ghost use Rattle.std.specs.Prelude.{◌≡◌, ℕ, ◌<◌, ◌≤◌, List, le
 ghost use Rattle.std.specs.List.{FoldsTo};
 ghost use Rattle.std.specs.Iterator.{at_most};
 ghost use Rattle.protocol.specs.Text.{int_of};
-ghost use Rattle.protocol.specs.Inner.State.{length_of, pushed_on};
+ghost use Rattle.protocol.specs.Inner.State.{length_of, pushed_on, pushed_all, start};
 ghost use Rattle.protocol.specs.Inner.Word.{word_of};
 ghost use Rattle.protocol.specs.declared.TheConstants.{BUFFER_BYTES};
 ghost use Rattle.protocol.specs.Inner.Input.{after_token, ahead, line_after, line_below, next_token, reason_text, unreadable_at};
@@ -180,13 +180,21 @@ impl Reader {
         self.input.outcome
     }
 
+    // The place after the last token.
+    pub fn place(&self) -> Place
+        ensures { result ≡ self.now.place }
+    {
+        self.place
+    }
+
     // The last token, which cannot be read.
     pub fn unreadable(&self, reason: Reason) -> Unreadable
         ensures { result ≡ unreadable_at self.now.place reason }
     {
+        let place = self.place();
         Unreadable {
-            line: self.place.line,
-            token: self.place.token,
+            line: place.line,
+            token: place.token,
             reason,
         }
     }
@@ -239,9 +247,9 @@ impl Reader {
         self.token(1, Word::new(), Word::push)
     }
 
-    // The next token as a value of the type: the one that the token's bytes stand for.
-    pub fn read<T: FromToken>(&mut self) -> Result<T, Unreadable>
-        ensures value { IfOk result (λ x. (bytes : List ℕ) × (T.of_reading (int_of bytes) ≡ Some x)) }
+    // The next token as a number: the state after its bytes, one or more.
+    pub fn number(&mut self) -> Result<Number, Unreadable>
+        ensures state { IfOk result (λ s. (bytes : List ℕ) × (0 < length bytes) × (pushed_all (Some start) bytes ≡ Some s)) }
         ensures token { self.new.place.token ≡ next_token self.old.place.token }
         ensures fails { IfErr result (λ e. e ≡ unreadable_at self.new.place e.reason) }
     {
@@ -250,10 +258,20 @@ impl Reader {
             ensures { result ≡ pushed_on number b }
         { number?.push(b) };
         match self.token(token, Some(Number::new()), push) {
-            Some(Some(number)) => T::from_number(number).ok_or(self.unreadable(Reason::Number)),
+            Some(Some(number)) => Ok(number),
             Some(None) => Err(self.unreadable(Reason::Number)),
             None => Err(self.unreadable(Reason::End)),
         }
+    }
+
+    // The next token as a value of the type: the one that the token's bytes stand for.
+    pub fn read<T: FromToken>(&mut self) -> Result<T, Unreadable>
+        ensures value { IfOk result (λ x. (bytes : List ℕ) × (T.of_reading (int_of bytes) ≡ Some x)) }
+        ensures token { self.new.place.token ≡ next_token self.old.place.token }
+        ensures fails { IfErr result (λ e. e ≡ unreadable_at self.new.place e.reason) }
+    {
+        let number = self.number()?;
+        T::from_number(number).ok_or(self.unreadable(Reason::Number))
     }
 
     // The next token as the length of a slice of at most `most` elements.
@@ -281,15 +299,26 @@ impl Reader {
         Ok(&mut out[..length])
     }
 
-    // An input slice, read into the front of out.
+    // An input slice, read into the front of out, and its length. Out keeps its own, also where a token cannot be read.
+    pub fn fill<T: FromToken>(&mut self, out: &mut [T]) -> Result<usize, Unreadable>
+        ensures kept { length out.new ≡ length out.old }
+        ensures counts { IfOk result (λ n. n ≤ length out.new) }
+        ensures value { IfOk result (λ n. (bytes : List ℕ) × (length_of (int_of bytes) ≡ Some n)) }
+        ensures fails { IfErr result (λ e. e ≡ unreadable_at self.new.place e.reason) }
+    {
+        let filled = self.length(out.len())?;
+        for x in out[..filled].iter_mut() {
+            *x = self.read()?;
+        }
+        Ok(filled)
+    }
+
+    // The same, as the front of out.
     pub fn slice<'a, T: FromToken>(&mut self, out: &'a mut [T]) -> Result<&'a mut [T], Unreadable>
         ensures length { IfOk result (λ s. length s.now ≤ length out.old) }
         ensures fails { IfErr result (λ e. e ≡ unreadable_at self.new.place e.reason) }
     {
-        let front = self.front(out)?;
-        for x in front.iter_mut() {
-            *x = self.read()?;
-        }
-        Ok(front)
+        let filled = self.fill(out)?;
+        Ok(&mut out[..filled])
     }
 }

@@ -1,3 +1,4 @@
+pub mod LowProduct
 pub mod Ascending
 pub mod Swaps
 pub mod Times

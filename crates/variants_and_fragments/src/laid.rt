@@ -1,11 +1,11 @@
 // A case as types, by how much of it is checked: words that are laid out, their variant records too, these with their alleles, all of the words, and
 // the allele bytes with them. layout.rt reads their fields.
-ghost use Rattle.std.specs.Prelude.{◌≡◌, ◌<◌, length};
+ghost use Rattle.std.specs.Prelude.{◌≡◌, length};
 ghost use Rattle.variants_and_fragments.specs.Inner.Accepted.{CaseIn, BasesIn};
 ghost use Rattle.variants_and_fragments.specs.Alleles.{alleles_start};
 ghost use Rattle.variants_and_fragments.specs.Inner.Alleles.{VariantsIn};
 ghost use Rattle.variants_and_fragments.specs.Inner.Layout.{Sized};
-ghost use Rattle.variants_and_fragments.specs.Layout.{pos0_at, depth_at, cutoff_at};
+ghost use Rattle.variants_and_fragments.specs.Layout.{cutoff_at};
 
 use crate::Sizes;
 
@@ -46,24 +46,6 @@ pub struct Case<'a> {
     pub bases: &'a [u8],
     pub ghost case_in: { CaseIn laid.words.now laid.sizes },
     pub ghost bases_in: { BasesIn laid.words.now laid.sizes bases.now },
-}
-
-impl WithVariants<'_> {
-    // The position of variant v.
-    pub fn pos0(&self, v: usize) -> usize
-        requires { v < self.now.laid.sizes.n }
-        ensures { (result ≡ pos0_at self.now.laid.words.now v) × (result < 2147483648) }
-    {
-        self.laid.pos0_word(v) as usize
-    }
-
-    // The depth of variant v.
-    pub fn depth(&self, v: usize) -> usize
-        requires { v < self.now.laid.sizes.n }
-        ensures { (result ≡ depth_at self.now.laid.words.now v) × (result < 2147483648) }
-    {
-        self.laid.depth_word(v) as usize
-    }
 }
 
 impl<'a> CaseWords<'a> {

@@ -9,7 +9,7 @@ ghost use Rattle.variants_and_fragments.specs.Inner.Chain.{record_of, first_reco
 ghost use Rattle.variants_and_fragments.specs.Inner.Alleles.{VariantsIn};
 ghost use Rattle.variants_and_fragments.specs.Case.{direction};
 
-use crate::{CallWords, Laid, Sizes};
+use crate::{CallWords, Laid, Sizes, WithVariants};
 
 // What a word that passes no range reads as. No Option: each check tests the number against an upper bound, which NONE fails as any
 // too large one does, and in accepted words none stands where nothing is tested.
@@ -102,6 +102,15 @@ pub fn nat_at(words: &[i32], i: usize) -> usize
     ensures { result ≡ nat_at words.now i }
 {
     nat_of(words[i])
+}
+
+// Word i, which is not negative, so below 2^31.
+pub fn low_at(words: &[i32], i: usize) -> usize
+    requires i_in_bounds { i < length words.now }
+    requires i_value { le_z (pos 0) (word words.now i) ≡ true }
+    ensures { (result ≡ nat_at words.now i) × (result < 2147483648) }
+{
+    words[i] as usize
 }
 
 // A word in −262144..0, as the cutoff and both qualities are.
@@ -358,6 +367,24 @@ impl Laid<'_> {
         ensures { result ≡ record_of self.now.sizes (next_call_at self.now.words.now self.now.sizes r) }
     {
         record_of(self.sizes, self.next_call(r))
+    }
+}
+
+impl WithVariants<'_> {
+    // The position of variant v.
+    pub fn pos0(&self, v: usize) -> usize
+        requires { v < self.now.laid.sizes.n }
+        ensures { (result ≡ pos0_at self.now.laid.words.now v) × (result < 2147483648) }
+    {
+        low_at(self.laid.words, variant_at(v) + POS0)
+    }
+
+    // The depth of variant v.
+    pub fn depth(&self, v: usize) -> usize
+        requires { v < self.now.laid.sizes.n }
+        ensures { (result ≡ depth_at self.now.laid.words.now v) × (result < 2147483648) }
+    {
+        low_at(self.laid.words, variant_at(v) + DEPTH)
     }
 }
 

@@ -34,7 +34,7 @@ use Rattle.call_genotypes.specs.Inner.Runs.{Plan, order_of, RunStart, Ran}
 use Rattle.call_genotypes.proofs.Linked.{lik_within}
 use Rattle.with_haplotypes.specs.declared.RoundAnswer.{RoundAnswer}
 use Rattle.with_haplotypes.specs.Round.{RunInput, run_input, sweep_case, order_of_sweep, result}
-use Rattle.with_haplotypes.specs.Inner.Steps.{CaseGiven, OrdersGiven, Scratch, Prepared, RunGiven, StateGiven, RunMade}
+use Rattle.with_haplotypes.specs.Inner.Steps.{CaseGiven, OrdersGiven, Scratch, Prepared, RunGiven, PhasedGiven, SomePhased, RunMade, RunPromise, PreparedGiven, PreparedPromise}
 use Rattle.with_haplotypes.proofs.OrdersHeld.{order_good}
 
 pub known : {w : List ℤ} {b : List ℕ} {rates : Rates} {s : Sizes} → CaseGiven w b rates s → CaseIn w s
@@ -50,6 +50,17 @@ rows_of m = rw (← m.rows_held.count_is) (record {
   rows_in = m.rows_in;
   grouped = m.grouped;
 })
+
+-- ---- a run with scratch of its own, of whatever size
+module _ {w : List ℤ} {b : List ℕ} {rates : Rates} {s : Sizes} {plan : Plan} {ks ph orders : List ℕ} {state : SweepState} {x : Scratch}
+    (G : RunGiven w b rates s plan ks ph orders) (P : Prepared w b rates s x) where
+  -- what the run over prepared scratch asks
+  pub run_asks : SomePhased (PhasedGiven w b rates s plan ph orders state) → PreparedGiven plan ks ph x orders state
+  run_asks F = record { words = w; bases = b; rates = rates; sizes = s; phased = F.phased; given = G; phased_given = F.holds; prepared = P }
+
+  -- and what it promises
+  pub run_promised : {after : SweepState} {r : RoundAnswer} → PreparedPromise plan ks ph x orders state after r → RunPromise w b rates s plan ph orders state after r
+  run_promised p phased F = p (record { words = w; bases = b; rates = rates; sizes = s; phased = phased; given = G; phased_given = F; prepared = P })
 
 -- ---- a case, phased variants and orders
 module _ {w : List ℤ} {b : List ℕ} {rates : Rates} (s : Sizes) (g : CaseGiven w b rates s) (phased : ℕ → Bool) (start orders : List ℕ) (limit : ℕ) where
@@ -73,8 +84,7 @@ module _ {w : List ℤ} {b : List ℕ} {rates : Rates} (s : Sizes) (g : CaseGive
 
 -- ---- what is prepared and the run is given
 module _ {w : List ℤ} {b : List ℕ} {rates : Rates} {s : Sizes} {plan : Plan} {ks ph orders : List ℕ} {state : SweepState} {phased : ℕ → Bool} {x : Scratch}
-    (G : RunGiven w b rates s plan ks ph orders phased) (P : Prepared w b rates s x)
-    (S : StateGiven (sweep_case (run_input w b rates phased state.hap orders plan.limit)) s state) where
+    (G : RunGiven w b rates s plan ks ph orders) (P : Prepared w b rates s x) (F : PhasedGiven w b rates s plan ph orders state phased) where
   abbrev run : RunInput
   run = run_input w b rates phased state.hap orders plan.limit
 
@@ -88,7 +98,7 @@ module _ {w : List ℤ} {b : List ℕ} {rates : Rates} {s : Sizes} {plan : Plan}
   unfolding sweep_case
   case_held =
       held rates phased w b s G.given.accepted ks ks ph x.pri x.pri G.given.good_rates (omega (arith, G.counts.long))
-      G.counts.are G.ph_long G.ph_are P.pri_long P.pri_are P.piles_made
+      G.counts.are G.ph_long F.ph_are P.pri_long P.pri_are P.piles_made
 
   fragments_counted : length C.frags ≡ s.f
   unfolding sweep_case
@@ -108,11 +118,11 @@ module _ {w : List ℤ} {b : List ℕ} {rates : Rates} {s : Sizes} {plan : Plan}
   module _ {lik : List ℤ} (lik-written : lik ≡ written (likelihood_at x.rows x.row_ends state.hap ph) (2 * length x.row_ends) state.lik) where
     pub liks_here : Liks C state.hap lik
     unfolding sweep_case
-    liks_here = liks_held rates phased w b s G.given.accepted P.rows_made state.hap ph state.lik lik G.ph_are S.liks_long (rw P.ends_long at lik-written)
+    liks_here = liks_held rates phased w b s G.given.accepted P.rows_made state.hap ph state.lik lik F.ph_are F.state_given.liks_long (rw P.ends_long at lik-written)
 
     pub begins : RunStart C (sweep_reads ks ph x.pri x.pile_ends x.piles) (sweep_state state.hap lik state.post) orders plan
     begins = record {
-      standing = record { held = case_held; haps = S.good_start; liks = liks_here; room = omega (arith, n_is, S.post_long) };
+      standing = record { held = case_held; haps = F.state_given.good_start; liks = liks_here; room = omega (arith, n_is, F.state_given.post_long) };
       n_is = omega (arith, n_is, G.good_orders.n_is);
       some_order = omega (arith, G.good_orders.good.some);
       some_sweep = G.good_orders.limit_low;
@@ -148,7 +158,7 @@ module _ {w : List ℤ} {b : List ℕ} {rates : Rates} {s : Sizes} {plan : Plan}
     left_good =
         let e = R.demand3.ends in
         rw (e.reached, orders_here)
-        (after_good C case_held.good (order_of_sweep run) (orders_good s G.given phased state.hap orders plan.limit G.good_orders) state.hap (suc e.last) S.good_start)
+        (after_good C case_held.good (order_of_sweep run) (orders_good s G.given phased state.hap orders plan.limit G.good_orders) state.hap (suc e.last) F.state_given.good_start)
 
     pub run_made : (a : RoundAnswer) → a.sweeps ≡ r.sweeps → a.settled ≡ r.settled → a.start.0 ≡ phased_total C state.hap → a.end.0 ≡ phased_total C after.hap → a.source.0 ≡ source_total C after.hap → RunMade run state after a
     unfolding result

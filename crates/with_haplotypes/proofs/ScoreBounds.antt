@@ -143,6 +143,9 @@ module _ (rates : Rates) (phased : ℕ → Bool) (w : List ℤ) (b : List ℕ) (
       down_more (1052672 + count_over C.frags share_top) (2 ^ 36) _ (omega (arith, frags_top))
       (down_add 1052672 (count_over C.frags share_top) (C.prior v i j) (sum_over C.frags own) (prior_in v i j) (down_sum C.frags share_top own (all_imp (own_in v (put_pair h v i j)) frags_in)))
 
+  pub score_in : (v : ℕ) (h : List ℕ) (i j : ℕ) → DownTo (2 ^ 40) (score_with C v h i j)
+  score_in v h i j = down_more (2 ^ 36) (2 ^ 40) (score_with C v h i j) (omega arith) (score_down v h i j)
+
   -- the same of the pair with the row-major number g, with what a sum over the pairs needs
   pub number_small : (v : ℕ) (h : List ℕ) (g : ℕ) → nat_abs (score C v h g) ≤ 2 ^ 36
   unfolding score

@@ -23,7 +23,7 @@ use Rattle.call_genotypes.specs.Inner.Scores.{SweepState, sweep_state}
 use Rattle.with_haplotypes.specs.declared.RoundAnswer.{RoundAnswer}
 use Rattle.variants_and_fragments.specs.declared.Sizes.{Sizes}
 use Rattle.with_haplotypes.specs.Round.{run_input, RoundInput, case_of_round, run_of, sweep_case}
-use Rattle.with_haplotypes.specs.Inner.Steps.{Admitted, StateGiven, RunMade}
+use Rattle.with_haplotypes.specs.Inner.Steps.{Admitted, StateGiven, PhasedGiven, RunMade}
 
 -- a written slice is as long as it was
 pub as_long : {X : Type 0} (g : ℕ → X) (n : ℕ) (l l' : List X) → l' ≡ written g n l → length l' ≡ length l
@@ -65,6 +65,12 @@ module _ {input : RoundInput} {s : Sizes} {plan : Plan} (A : Admitted input s pl
       → StateGiven (sweep_case (run_input input.words input.bases input.rates (run_of input).phased hap input.orders plan.limit)) s (sweep_state hap lik post)
   unfolding sweep_case
   state_here e q r = record { good_start = rw e start_good; liks_long = q; post_long = r }
+
+  -- what it starts from: these flags say section 5's phased variants
+  pub phased_here : {ph hap : List ℕ} {lik post : List ℤ} → ((v : ℕ) → v < s.n → get_or ph v 0 ≡ cond ((run_of input).phased v) 1 0)
+      → hap ≡ (run_of input).start → length lik ≡ 2 * s.f → 9 * s.n ≤ length post
+      → PhasedGiven input.words input.bases input.rates s plan ph input.orders (sweep_state hap lik post) (run_of input).phased
+  phased_here f e q r = record { ph_are = f; state_given = state_here e q r }
 
   -- the run from the haplotypes that stand is the round's
   pub run_here : {before after : SweepState} {r : RoundAnswer} → before.hap ≡ (run_of input).start

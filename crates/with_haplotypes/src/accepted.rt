@@ -34,7 +34,10 @@ impl AcceptedRound<'_> {
         let mut ph = [0u8; MAX_VARIANTS];
         write_phase(&self.case.accepted_words(), self.phase, haplotypes, &mut ph);
         let reads = RunReads {
-            round: *self,
+            case: self.case,
+            rates: self.rates,
+            orders: self.orders,
+            limit: self.limit,
             ks,
             ph: &ph,
         };

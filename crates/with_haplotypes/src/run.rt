@@ -5,12 +5,10 @@ ghost use Rattle.sweeps.specs.Sweeps.{total_of};
 ghost use Rattle.likelihoods.specs.Inner.Likelihoods.{CallsIn, EndsIn, flagged};
 ghost use Rattle.likelihoods.specs.Inner.Totals.{PriorsIn, held_case, standing_total};
 ghost use Rattle.call_genotypes.specs.Inner.Scores.{sweep_state};
-ghost use Rattle.with_haplotypes.specs.Round.{sweep_case};
-ghost use Rattle.with_haplotypes.specs.Inner.Steps.{scratch, Prepared, StateGiven, RunMade};
-ghost use Rattle.with_haplotypes.specs.Inner.Reads.{run_from};
+ghost use Rattle.with_haplotypes.specs.Inner.Reads.{prepared_given, prepared_promise};
 
 use crate::RoundAnswer;
-use crate::reads::{PreparedRun, RunReads};
+use crate::reads::PreparedRun;
 use call_genotypes::reads::SweepReads;
 use call_genotypes::run::run_sweeps;
 use likelihoods::likelihoods::{Haplotypes, ReadRows, Standing};
@@ -21,16 +19,13 @@ use variants_and_fragments::layout::MAX_VARIANTS;
 impl PreparedRun<'_> {
     // The total of these haplotypes over the phased variants, of the likelihoods that stand.
     fn phased_total(&self, hap: &[u8], standing: &Standing<'_>) -> LogProb
-        requires { PriorsIn (length self.now.reads.ks.now) self.now.reads.ks.now self.now.pri.now hap.now self.now.reads.ph.now }
-        ensures { result.0 ≡ standing_total (length self.now.reads.ks.now) (length standing.now.lik.now / 2) self.now.reads.ks.now self.now.pri.now standing.now.lik.now hap.now self.now.reads.ph.now }
+        requires { PriorsIn (length self.now.ks.now) self.now.ks.now self.now.pri.now hap.now self.now.ph.now }
+        ensures { result.0 ≡ standing_total (length self.now.ks.now) (length standing.now.lik.now / 2) self.now.ks.now self.now.pri.now standing.now.lik.now hap.now self.now.ph.now }
     {
         let priors = PairPriors {
-            ks: self.reads.ks,
+            ks: self.ks,
             pri: self.pri,
-            on: Haplotypes {
-                hap,
-                mask: self.reads.ph,
-            },
+            on: Haplotypes { hap, mask: self.ph },
         };
         standing_total(&priors, standing)
     }
@@ -38,13 +33,13 @@ impl PreparedRun<'_> {
     // The total of these haplotypes over all variants, recomputed from the rows.
     fn source_total(&self, hap: &[u8]) -> LogProb
         requires rows_in { CallsIn self.now.rows.words.now (group_start self.now.rows.ends.now (length self.now.rows.ends.now)) hap.now (replicate 1024 1) × EndsIn self.now.rows.ends.now (length self.now.rows.ends.now) × (length self.now.rows.ends.now ≤ 4096) }
-        requires priors_in { PriorsIn (length self.now.reads.ks.now) self.now.reads.ks.now self.now.pri.now hap.now (replicate 1024 1) }
-        ensures { result.0 ≡ total_of (held_case (length self.now.reads.ks.now) (length self.now.rows.ends.now) self.now.reads.ks.now self.now.pri.now self.now.rows.words.now self.now.rows.ends.now (replicate 1024 1)) (flagged (replicate 1024 1)) hap.now }
+        requires priors_in { PriorsIn (length self.now.ks.now) self.now.ks.now self.now.pri.now hap.now (replicate 1024 1) }
+        ensures { result.0 ≡ total_of (held_case (length self.now.ks.now) (length self.now.rows.ends.now) self.now.ks.now self.now.pri.now self.now.rows.words.now self.now.rows.ends.now (replicate 1024 1)) (flagged (replicate 1024 1)) hap.now }
     {
         let all = [1u8; MAX_VARIANTS];
         let on = Haplotypes { hap, mask: &all };
         let priors = PairPriors {
-            ks: self.reads.ks,
+            ks: self.ks,
             pri: self.pri,
             on,
         };
@@ -58,24 +53,22 @@ impl PreparedRun<'_> {
     // The run from the haplotypes that stand in hap: the phased totals are those of the likelihoods that stand, the source's is recomputed from
     // the rows.
     pub fn sweep(&self, hap: &mut [u8], lik: &mut [i64], post: &mut [i64]) -> RoundAnswer
-        requires prepared { Prepared self.now.reads.round.case.laid.words.now self.now.reads.round.case.bases.now self.now.reads.round.rates.rates self.now.reads.round.case.laid.sizes (scratch self.now.rows.words.now self.now.rows.ends.now self.now.piles.words.now self.now.piles.ends.now self.now.pri.now) }
-        requires state { StateGiven (sweep_case (run_from self.now.reads hap.old)) self.now.reads.round.case.laid.sizes (sweep_state hap.old lik.old post.old) }
-        ensures { RunMade (run_from self.now.reads hap.old) (sweep_state hap.old lik.old post.old) (sweep_state hap.new lik.new post.new) result }
+        requires { prepared_given self.now (sweep_state hap.old lik.old post.old) }
+        ensures { prepared_promise self.now (sweep_state hap.old lik.old post.old) (sweep_state hap.new lik.new post.new) result }
     {
-        let RunReads { round, ks, ph } = self.reads;
         let rows = ReadRows {
             rows: self.rows,
-            on: Haplotypes { hap, mask: ph },
+            on: Haplotypes { hap, mask: self.ph },
         };
         rows.write_likelihoods(lik);
         let start = self.phased_total(hap, &Standing { lik });
         let reads = SweepReads {
-            ks,
-            ph,
+            ks: self.ks,
+            ph: self.ph,
             pri: self.pri,
             piles: self.piles,
         };
-        let r = run_sweeps(&reads, &round.orders, round.limit, hap, lik, post);
+        let r = run_sweeps(&reads, &self.orders, self.limit, hap, lik, post);
         let end = self.phased_total(hap, &Standing { lik });
         let source = self.source_total(hap);
         RoundAnswer {

@@ -1,9 +1,8 @@
 // A run with scratch of its own.
 ghost use Rattle.std.specs.Prelude.{◌*◌, ◌≤◌};
 ghost use Rattle.call_genotypes.specs.Inner.Scores.{sweep_state};
-ghost use Rattle.with_haplotypes.specs.Round.{sweep_case};
-ghost use Rattle.with_haplotypes.specs.Inner.Steps.{StateGiven, RunMade};
-ghost use Rattle.with_haplotypes.specs.Inner.Reads.{run_from};
+ghost use Rattle.with_haplotypes.specs.Inner.Steps.{SomePhased};
+ghost use Rattle.with_haplotypes.specs.Inner.Reads.{phased_given, run_promise};
 
 use crate::RoundAnswer;
 use crate::reads::{PreparedRun, RunReads};
@@ -33,12 +32,12 @@ impl RunReads<'_> {
         const VARIANTS: usize,
         const NINE: usize,
     >(&self, hap: &mut [u8], lik: &mut [i64], post: &mut [i64]) -> RoundAnswer
-        requires given { StateGiven (sweep_case (run_from self.now hap.old)) self.now.round.case.laid.sizes (sweep_state hap.old lik.old post.old) }
+        requires some_phased { SomePhased (phased_given self.now (sweep_state hap.old lik.old post.old)) }
         requires lengths { (RECORDS ≤ 16384) × (FRAGMENTS ≤ 4096) × (VARIANTS ≤ 1024) × (NINE ≤ 9216) }
-        requires room { (self.now.round.case.laid.sizes.c ≤ RECORDS) × (self.now.round.case.laid.sizes.f ≤ FRAGMENTS) × (self.now.round.case.laid.sizes.n ≤ VARIANTS) × (9 * self.now.round.case.laid.sizes.n ≤ NINE) }
-        ensures { RunMade (run_from self.now hap.old) (sweep_state hap.old lik.old post.old) (sweep_state hap.new lik.new post.new) result }
+        requires room { (self.now.case.laid.sizes.c ≤ RECORDS) × (self.now.case.laid.sizes.f ≤ FRAGMENTS) × (self.now.case.laid.sizes.n ≤ VARIANTS) × (9 * self.now.case.laid.sizes.n ≤ NINE) }
+        ensures { run_promise self.now (sweep_state hap.old lik.old post.old) (sweep_state hap.new lik.new post.new) result }
     {
-        let case = &self.round.case;
+        let case = &self.case;
         let mut rows = [0u64; RECORDS];
         let mut fragment_ends = [0usize; FRAGMENTS];
         let row_ends = &mut fragment_ends[..case.laid.sizes.f];
@@ -53,9 +52,12 @@ impl RunReads<'_> {
             &mut pile_ends,
         );
         let mut pri = [0i64; NINE];
-        make_priors(case, self.round.rates, &mut pri);
+        make_priors(case, self.rates, &mut pri);
         let prepared = PreparedRun {
-            reads: *self,
+            orders: self.orders,
+            limit: self.limit,
+            ks: self.ks,
+            ph: self.ph,
             rows: Groups {
                 words: &rows,
                 ends: row_ends,
@@ -71,10 +73,10 @@ impl RunReads<'_> {
 
     // The run with scratch as long as the largest case needs, or less of it, which costs a small case less to clear.
     pub fn run(&self, hap: &mut [u8], lik: &mut [i64], post: &mut [i64]) -> RoundAnswer
-        requires { StateGiven (sweep_case (run_from self.now hap.old)) self.now.round.case.laid.sizes (sweep_state hap.old lik.old post.old) }
-        ensures { RunMade (run_from self.now hap.old) (sweep_state hap.old lik.old post.old) (sweep_state hap.new lik.new post.new) result }
+        requires { SomePhased (phased_given self.now (sweep_state hap.old lik.old post.old)) }
+        ensures { run_promise self.now (sweep_state hap.old lik.old post.old) (sweep_state hap.new lik.new post.new) result }
     {
-        let s = self.round.case.laid.sizes;
+        let s = self.case.laid.sizes;
         if s.c <= FEW_CALLS && s.n <= FEW_VARIANTS && s.f <= FEW_FRAGMENTS {
             return self.run_in::<FEW_CALLS, FEW_FRAGMENTS, FEW_VARIANTS, FEW_PRIORS>(
                 hap, lik, post,

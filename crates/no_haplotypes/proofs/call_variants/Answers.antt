@@ -14,4 +14,4 @@ loop-v-preserved c =
     (omega (arith, c.loop-v.auto.post, c.requires.priors_in.room))
     (omega (arith, c.loop-v.auto.variants, c.requires.n_in_bounds.0))
     (c.answer-answer.auto.post ∙ priors.size)
-    (rw (c.calls.ensures.0, c.calls.ensures.1) at c.answer-answer.ensures))
+    (rw (c.calls.ensures.0, c.calls.ensures.1) at c.answer-answer.ensures.called))

@@ -9,8 +9,12 @@ use Rattle.genotype_probs.specs.declared.posteriors.Genotype.{Genotype}
 use Rattle.genotype_probs.specs.declared.Rates.{Rates}
 use Rattle.genotype_probs.specs.Posteriors.{qual_of}
 use Rattle.no_haplotypes.specs.declared.answer.Answer.{Answer}
-use Rattle.no_haplotypes.specs.NoHaplotypes.{answer_from, gq_from, answer_at, qual_at, gq_at}
-use Rattle.no_haplotypes.specs.Inner.Tally.{count_of, posteriors_from}
+use Rattle.no_haplotypes.specs.NoHaplotypes.{calls_at, answer_from, gq_from, answer_at, qual_at, gq_at}
+use Rattle.no_haplotypes.specs.Inner.Tally.{count_of, CountsIn, posteriors_from}
+
+-- no variant has more calls than a case
+abbrev pub FewCalls : List ℤ → Type 0
+FewCalls w = (b : List ℕ) (v : ℕ) → calls_at (decode w b) v ≤ 16384
 
 -- ---- the answer of one variant
 
@@ -22,6 +26,12 @@ answer_values g counts ambiguous depth =
     ∷ count_of counts 0 0 ∷ count_of counts 0 1 ∷ count_of counts 0 2
     ∷ count_of counts 1 0 ∷ count_of counts 1 1 ∷ count_of counts 1 2
     ∷ ambiguous ∷ depth ∷ []
+
+-- counts and numbers that fit a word
+pub record WordsIn (counts : List (List ℕ)) (ambiguous depth : ℕ) : Type 0 where
+  pub counts_in : CountsIn counts
+  pub ambiguous_few : ambiguous ≤ 16384
+  pub depth_top : depth < 2147483648
 
 -- the posteriors of v that are made from its priors
 abbrev pub made_from : List ℤ → List ℤ → List ℕ → ℕ → List ℤ

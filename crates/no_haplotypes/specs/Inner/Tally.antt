@@ -5,7 +5,7 @@ use Rattle.std.specs.Prelude.{◌≡◌, Bool, cond, ◌&&◌, List, [], ℕ, �
 use Rattle.variants_and_fragments.specs.declared.Sizes.{Sizes}
 use Rattle.variants_and_fragments.specs.Case.{Call, direction}
 use Rattle.variants_and_fragments.specs.Decode.{tabulate}
-use Rattle.variants_and_fragments.specs.Layout.{strand_at}
+use Rattle.variants_and_fragments.specs.Layout.{strand_at, allele_count_at}
 use Rattle.variants_and_fragments.specs.Pileup.{Row, only}
 use Rattle.variants_and_fragments.specs.Sums.{sum_over}
 use Rattle.genotype_probs.specs.Posteriors.{normalized}
@@ -42,6 +42,10 @@ gain_of t x = get_or t.gains x no_gain
 
 abbrev pub count_of : List (List ℕ) → ℕ → ℕ → ℕ
 count_of counts strand x = get_or (get_or counts x []) strand 0
+
+-- none of the counts is near the end of its type
+pub record CountsIn (counts : List (List ℕ)) : Type 0 where
+  pub few : (strand x : ℕ) → strand < 2 → x < 3 → count_of counts strand x ≤ 16384
 
 -- no sum is near the end of its type
 pub record SumsIn (t : Tally) : Type 0 where
@@ -98,3 +102,10 @@ scored_from priors k rows p =
 -- the posteriors of a variant with k alleles and these rows, from its priors
 unfoldable pub posteriors_from : List ℤ → ℕ → List Row → List ℤ
 posteriors_from priors k rows = tabulate 9 (normalized (tabulate 9 (scored_from priors k rows)) k)
+
+-- The nine places of v hold its posteriors by these rows, and small numbers, and the tally is what the rows add up to
+pub record PosteriorsMade (w : List ℤ) (s : Sizes) (rows : List Row) (v : ℕ) (before after : List ℤ) (t : Tally) : Type 0 where
+  pub here : after ≡ posteriors_from before (allele_count_at w v) rows
+  pub small : (p : ℕ) → p < 9 → nat_abs (get_or after p (pos 0)) ≤ 2 ^ 40
+  pub tallied : Tallied w s rows t
+  pub sums_in : SumsIn t

@@ -22,7 +22,7 @@ use Rattle.likelihoods.specs.Inner.Held.{Liks}
 use Rattle.call_genotypes.specs.Inner.Scores.{over_first, SweepState}
 use Rattle.call_genotypes.specs.Inner.Runs.{Plan, result_of}
 use Rattle.with_haplotypes.specs.declared.RoundAnswer.{RoundAnswer}
-use Rattle.with_haplotypes.specs.Round.{RunInput, RoundInput, sweep_case, order_of_sweep, result, returned, haplotype_at, likelihood_at, posterior_at, final}
+use Rattle.with_haplotypes.specs.Round.{RunInput, run_input, RoundInput, sweep_case, order_of_sweep, result, returned, haplotype_at, likelihood_at, posterior_at, final}
 use Rattle.with_haplotypes.specs.Promise.{RoundSlices, max_limit}
 
 -- a case of these words and bases that is accepted, at accepted rates
@@ -70,19 +70,28 @@ pub record AlleleCounts (w : List ℤ) (n : ℕ) (ks : List ℕ) : Type 0 where
   pub long : length ks ≡ n
   pub are : ks ≡ written (allele_count_at w) n ks
 
--- what a run reads: an accepted case's words and bases, its numbers of alleles, flags of the phased variants, and orders
-pub record RunGiven (w : List ℤ) (b : List ℕ) (rates : Rates) (s : Sizes) (plan : Plan) (ks ph orders : List ℕ) (phased : ℕ → Bool) : Type 0 where
+-- what a run reads: an accepted case's words and bases, its numbers of alleles, as many flags, and orders
+pub record RunGiven (w : List ℤ) (b : List ℕ) (rates : Rates) (s : Sizes) (plan : Plan) (ks ph orders : List ℕ) : Type 0 where
   pub given : CaseGiven w b rates s
   pub good_orders : OrdersGiven orders s.n plan
   pub counts : AlleleCounts w s.n ks
   pub ph_long : s.n ≤ length ph
-  pub ph_are : (v : ℕ) → v < s.n → get_or ph v 0 ≡ cond (phased v) 1 0
 
 -- what a run of C changes: haplotypes whose alleles the variants have, likelihoods of exactly the need, and room for the scores
 pub record StateGiven (C : SweepCase) (s : Sizes) (state : SweepState) : Type 0 where
   pub good_start : GoodHaps C state.hap
   pub liks_long : length state.lik ≡ 2 * s.f
   pub post_long : 9 * s.n ≤ length state.post
+
+-- what a run of these phased variants starts from: the flags that say them, and what it changes
+pub record PhasedGiven (w : List ℤ) (b : List ℕ) (rates : Rates) (s : Sizes) (plan : Plan) (ph orders : List ℕ) (state : SweepState) (phased : ℕ → Bool) : Type 0 where
+  pub ph_are : (v : ℕ) → v < s.n → get_or ph v 0 ≡ cond (phased v) 1 0
+  pub state_given : StateGiven (sweep_case (run_input w b rates phased state.hap orders plan.limit)) s state
+
+-- there are phased variants of which P holds
+pub record SomePhased (P : (ℕ → Bool) → Type 0) : Type 0 where
+  pub phased : ℕ → Bool
+  pub holds : P phased
 
 -- what the sweeps leave, with the scores of each variant's latest visit not normalised yet
 pub record RunMade (input : RunInput) (before after : SweepState) (r : RoundAnswer) : Type 0 where
@@ -93,6 +102,27 @@ pub record RunMade (input : RunInput) (before after : SweepState) (r : RoundAnsw
   pub source_is : r.source.0 ≡ source_total (sweep_case input) after.hap
   pub liks : Liks (sweep_case input) after.hap after.lik
   pub scores : after.post ≡ posts over_first (sweep_case input) (order_of_sweep input) input.start before.post r.sweeps
+
+-- what a run promises of the phased variants, whichever the flags say
+abbrev pub RunPromise : List ℤ → List ℕ → Rates → Sizes → Plan → List ℕ → List ℕ → SweepState → SweepState → RoundAnswer → Type 0
+RunPromise w b rates s plan ph orders before after r =
+    (phased : ℕ → Bool) → PhasedGiven w b rates s plan ph orders before phased → RunMade (run_input w b rates phased before.hap orders plan.limit) before after r
+
+-- the same where the scratch is prepared: there is a case that it was prepared for
+pub record PreparedGiven (plan : Plan) (ks ph : List ℕ) (x : Scratch) (orders : List ℕ) (state : SweepState) : Type 0 where
+  pub words : List ℤ
+  pub bases : List ℕ
+  pub rates : Rates
+  pub sizes : Sizes
+  pub phased : ℕ → Bool
+  pub given : RunGiven words bases rates sizes plan ks ph orders
+  pub phased_given : PhasedGiven words bases rates sizes plan ph orders state phased
+  pub prepared : Prepared words bases rates sizes x
+
+-- and the promise is about every such case
+abbrev pub PreparedPromise : Plan → List ℕ → List ℕ → Scratch → List ℕ → SweepState → SweepState → RoundAnswer → Type 0
+PreparedPromise plan ks ph x orders before after r =
+    (p : PreparedGiven plan ks ph x orders before) → RunMade (run_input p.words p.bases p.rates p.phased before.hap orders plan.limit) before after r
 
 -- ---- the whole round
 -- room for the round in the lent slices

@@ -12,4 +12,4 @@ returns c =
     let y = c.args.case.now in
     let case = decode y.laid.words.now y.bases.now in
     rw (c.with_alleles.ensures.0, c.with_alleles.ensures.1) at c.write_priors.ensures
-    ∙ written_same (table_prior_at c.new-table.result.bases case) (prior_at c.args.rates.rates case) (9 * y.laid.sizes.n) c.args.priors.now (λ p _. places_hold c.new-table.ensures case p)
+    ∙ written_same (table_prior_at c.fill.new.self.bases case) (prior_at c.args.rates.rates case) (9 * y.laid.sizes.n) c.args.priors.now (λ p _. places_hold c.fill.ensures case p)

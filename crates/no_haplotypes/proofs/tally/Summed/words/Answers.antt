@@ -1,30 +1,10 @@
--- Each number is a word as it stands.
-use Rattle.std.proofs.Common.{◌≡◌, ◌^◌, ◌<◌, ℕ, ℤ, pos, w32, to_z, of_z, ◌∙◌}
-use lib.Signed.{mag}
-use mir.Val.{hbits}
-use Rattle.steps.proofs.Signed.{read_back}
-use Rattle.no_haplotypes.specs.Inner.Calling.{answer_values}
+-- The counts are few, and so are the other numbers.
 use Rattle.no_haplotypes.proofs.tally.Summed.words.Goals as goal
 
-word : {z : ℤ} {x : ℕ} → mag z < 2 ^ hbits w32 → z ≡ pos x → to_z w32 (of_z w32 z) ≡ pos x
-word {z} fits e = read_back w32 z fits ∙ e
+pub answer_words-requires : goal.answer_words-requires
+answer_words-requires c =
+    let s = c.args.self.now in
+    record { counts_in = record { few = s.sums_in.counts_few }; ambiguous_few = s.calls.held.ambiguous_few; depth_top = c.depth_after.ensures.1 }
 
 pub returns : goal.returns
-unfolding answer_values
-returns c b =
-    cc (
-      c.depth_after.ensures.0 b,
-      word c.from.type_inv c.from.ensures,
-      word c.from-2.type_inv c.from-2.ensures,
-      word c.word_of.type_inv c.word_of.ensures,
-      word c.word_of-2.type_inv c.word_of-2.ensures,
-      word c.word_of-3.type_inv c.word_of-3.ensures,
-      word c.word_of-4.type_inv c.word_of-4.ensures,
-      word c.word_of-5.type_inv c.word_of-5.ensures,
-      word c.word_of-6.type_inv c.word_of-6.ensures,
-      word c.word_of-7.type_inv c.word_of-7.ensures,
-      word c.word_of-8.type_inv c.word_of-8.ensures,
-      word c.word_of-9.type_inv c.word_of-9.ensures,
-      word c.word_of-10.type_inv c.word_of-10.ensures,
-      word c.word_of-11.type_inv c.word_of-11.ensures,
-    )
+returns c b = rw (c.depth_after.ensures.0 b) at c.answer_words.ensures

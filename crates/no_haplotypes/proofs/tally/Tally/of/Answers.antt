@@ -1,5 +1,5 @@
 -- One call more is added.
-use Rattle.std.proofs.Common.{get_or, refl}
+use Rattle.std.proofs.Common.{get_or, refl, arith}
 use Rattle.pileup.specs.Inner.Packed.{unpacked}
 use Rattle.no_haplotypes.proofs.TallyLaws.{rows_more, tallied_start, tallied_on, sums_to}
 use Rattle.no_haplotypes.proofs.tally.Tally.of.Goals as goal
@@ -8,11 +8,10 @@ pub loop-word-init : goal.loop-word-init
 loop-word-init c = tallied_start refl refl refl
 
 pub add-requires-clause-sums_in : goal.add-requires-clause-sums_in
-add-requires-clause-sums_in c = sums_to c.args.calls.now.held c.loop-word.word-index c.loop-word.invariant
+add-requires-clause-sums_in c = sums_to c.requires c.loop-word.word-index c.loop-word.invariant
 
 pub loop-word-preserved : goal.loop-word-preserved
 loop-word-preserved c =
-    let s = c.args.calls.now in
     let i = c.loop-word.word-index in
-    rw (rows_more s.usable.now i c.loop-word-test.true)
-    (tallied_on c.loop-word.invariant (unpacked (get_or s.usable.now i 0)) (s.held.rows_in i c.loop-word-test.true).allele_in (rw c.unpack.ensures at c.add.ensures))
+    rw (rows_more c.args.usable.now i c.loop-word-test.true)
+    (tallied_on c.loop-word.invariant (unpacked (get_or c.args.usable.now i 0)) (c.requires.rows_in i (omega arith) c.loop-word-test.true).allele_in (rw c.unpack.ensures at c.add.ensures))

@@ -6,5 +6,5 @@ use Rattle.no_haplotypes.proofs.tally.Tally.of.Given as goal
 
 abbrev pub invariant-loop-word : goal.invariant-loop-word
 invariant-loop-word l =
-    let laid = l.calls.case.laid in
-    Tallied laid.words.now laid.sizes (map unpacked (take l.word-index l.calls.usable.now)) l.tally
+    let laid = l.case.laid in
+    Tallied laid.words.now laid.sizes (map unpacked (take l.word-index l.usable)) l.tally
