@@ -1,24 +1,15 @@
 -- The word of a token, its first seven bytes, asks for what the token asks for: every request's word is shorter.
 -- By induction on the rows of the table. Assumes nothing.
-use Rattle.std.proofs.Common.{◌≡◌, ℕ, zero, suc, ◌+◌, ◌<◌, Bool, true, false, ◌&&◌, eqb, ltb, List, [], ◌∷◌, ◌++◌, length, take, Err, sym, refl, ap, ◌∙◌, arith, append_assoc, append-nil, length-append, ltb-true, lt-ltb, le-ltb, eqb-true}
+use Rattle.std.proofs.Common.{◌≡◌, ℕ, zero, suc, ◌<◌, Bool, true, false, ◌&&◌, eqb, ltb, List, [], ◌∷◌, length, take, Err, refl, ap, ◌∙◌, arith, ltb-true, eqb-true}
 use mathlib.Core.Bool.{false≢true}
 use Rattle.std.specs.Str.{IsUtf8, IsAscii}
 use Rattle.std.proofs.lemmas.Str.{IsUtf8-from_ascii}
 use Rattle.std.proofs.lemmas.Str.Ascii.{IsAscii-nil, IsAscii-cons}
 use Rattle.protocol.proofs.Digits.{both}
-use Rattle.protocol.specs.Inner.Word.{pushed_bytes, word_of}
+use Rattle.protocol.specs.Inner.Word.{word_of}
+use Rattle.protocol.proofs.Words.{word_front}
 use Rattle.condorbed.specs.Requests.{Row, requests, found, same_bytes, asked_by}
 use Rattle.protocol.specs.declared.input.Reason.TheVariants.{Request}
-
--- A word of k bytes fewer than seven takes the next k bytes.
-pushed_take : (k : ℕ) (t w : List ℕ) → length w + k ≡ 7 → pushed_bytes w t ≡ w ++ take k t
-unfolding pushed_bytes
-pushed_take zero [] w e = sym (append-nil w)
-pushed_take (suc k) [] w e = sym (append-nil w)
-pushed_take zero (b ∷ t) w e = simp (le-ltb (length w) 7 (omega arith), pushed_take zero t w e)
-pushed_take (suc k) (b ∷ t) w e =
-    let long : length (w ++ (b ∷ [])) + k ≡ 7 = omega (arith, length-append w (b ∷ [])) in
-    simp (lt-ltb (length w) 7 (omega arith), pushed_take k t (w ++ (b ∷ [])) long, append_assoc)
 
 -- At a name that is shorter than seven bytes both tests say the same.
 same_take : (n : ℕ) (t u : List ℕ) → length u < n → same_bytes (take n t) u ≡ same_bytes t u
@@ -45,9 +36,9 @@ rows_same t (r ∷ rs) h =
 
 -- The law.
 pub word_finds : (t : List ℕ) → asked_by (word_of t) ≡ asked_by t
-unfolding asked_by word_of
+unfolding asked_by
 word_finds t =
-    ap (λ (w : List ℕ). found (same_bytes w) requests) (pushed_take 7 t [] refl) ∙ rows_same t requests requests_short
+    ap (λ (w : List ℕ). found (same_bytes w) requests) (word_front t) ∙ rows_same t requests requests_short
 
 -- A word that is no row's name finds none.
 same_true : (t u : List ℕ) → same_bytes t u ≡ true → t ≡ u

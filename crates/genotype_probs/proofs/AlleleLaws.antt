@@ -62,11 +62,11 @@ module _ {w : List ℤ} {s : Sizes} (k : VariantsIn w s) (b : List ℕ) (long : 
   allele_there l = omega (arith, allele_length (omega (arith, (k.each v h).k_high)), (k.each v h).present j l)
 
 -- ---- of the decoded variant
-count_is : (w : List ℤ) (b : List ℕ) (v : ℕ) → allele_count (variant_from w b v) ≡ allele_count_at w v
+pub count_is : (w : List ℤ) (b : List ℕ) (v : ℕ) → allele_count (variant_from w b v) ≡ allele_count_at w v
 unfolding variant_from
 count_is w b v = tabulate_length _ _
 
-allele_is : (w : List ℤ) (b : List ℕ) (v j : ℕ) → j < allele_count_at w v → allele_of (variant_from w b v) j ≡ allele_at w b v j
+pub allele_is : (w : List ℤ) (b : List ℕ) (v j : ℕ) → j < allele_count_at w v → allele_of (variant_from w b v) j ≡ allele_at w b v j
 unfolding variant_from
 allele_is w b v j h = tabulate_at _ _ j [] h
 

@@ -1,11 +1,11 @@
 -- The numbers of bases and letters: A C G T are 0 to 3, D and I are 4 and 5, and each stands at its number in the code's lists.
 -- Assumes nothing.
 use mathlib.Core.Path.{◌≡◌, refl, sym, ap, ◌∙◌}
-use Prim.Native.Nat.{ℕ, zero, suc, ◌<◌}
+use Prim.Native.Nat.{ℕ, zero, suc, ◌+◌, ◌%◌, ◌<◌}
 use native.Mathlib.Omega.{arith}
 use mathlib.Core.List.{List, [], ◌∷◌}
 use lib.ListN.{get_or}
-use Rattle.genotype_probs.specs.Letters.{Base, A, C, G, T, Letter, base, D, I, base_number, letter_number}
+use Rattle.genotype_probs.specs.Letters.{Base, A, C, G, T, Letter, base, D, I, base_number, letter_number, transition_of}
 
 pub base_low : (b : Base) → base_number b < 4
 unfolding base_number
@@ -75,3 +75,11 @@ letter_is_base (suc zero) h = refl
 letter_is_base (suc (suc zero)) h = refl
 letter_is_base (suc (suc (suc zero))) h = refl
 letter_is_base (suc (suc (suc (suc n)))) h = absurd (omega arith)
+
+-- the other base of a transition
+pub transition_number : (b : Base) → base_number (transition_of b) ≡ (base_number b + 2) % 4
+unfolding base_number transition_of
+transition_number A = refl
+transition_number C = refl
+transition_number G = refl
+transition_number T = refl

@@ -7,7 +7,7 @@ use Prim.Native.Nat.{ℕ, zero, suc, ◌+◌, ◌*◌, ◌-◌, ◌/◌, ◌%◌
 use native.Mathlib.Decide.{ℕ_discrete}
 use native.Mathlib.Nat.{mul-le-mul_left, div-add-mod'}
 use native.Mathlib.Omega.{arith}
-use borrow.Author.Tests.{ne_eqb}
+use borrow.Author.Tests.{eq-eqb, ne_eqb}
 use lib.IntN.{ℤ, pos, nat_abs}
 use lib.ListN.{get_or}
 use lib.Signed.{◌≤ℤ◌}
@@ -23,7 +23,15 @@ use Rattle.genotype_probs.specs.Posteriors.{mirror, is_other, others, other_sum,
 use Rattle.genotype_probs.proofs.TableSums.{place_in}
 
 -- ---- the test
-an_other : (p m q : ℕ) → (q ≡ p → ⊥) → (q ≡ m → ⊥) → is_other p m q ≡ true
+pub not_itself : (p m q : ℕ) → q ≡ p → is_other p m q ≡ false
+unfolding is_other
+not_itself p m q e = rw (eq-eqb q p e)
+
+pub not_mirror : (p m q : ℕ) → (q ≡ p → ⊥) → q ≡ m → is_other p m q ≡ false
+unfolding is_other
+not_mirror p m q h e = rw (ne_eqb q p h, eq-eqb q m e)
+
+pub an_other : (p m q : ℕ) → (q ≡ p → ⊥) → (q ≡ m → ⊥) → is_other p m q ≡ true
 unfolding is_other
 an_other p m q h e = rw (ne_eqb q p h, ne_eqb q m e)
 

@@ -1,6 +1,6 @@
 -- What is cited of the laws of other crates, in one place.
 -- Assumes nothing.
-pub use Rattle.variants_and_fragments.proofs.First.{first_all}
+pub use Rattle.variants_and_fragments.proofs.First.{first_at, first_end, first_all}
 pub use Rattle.variants_and_fragments.proofs.Written.{written_on, written_length, written_at}
 pub use Rattle.variants_and_fragments.proofs.Accepted.{case_in, bases_in}
 pub use Rattle.variants_and_fragments.proofs.Bounds.{down_abs}

@@ -1,4 +1,5 @@
 pub mod Cited
+pub mod Ranges
 pub mod Pairs
 pub mod Names
 pub mod Decodes

@@ -22,11 +22,11 @@ use Rattle.haplotype_assembly.specs.GivenPhase.{set_ok, sets_ok}
 use Rattle.haplotype_assembly.specs.Inner.PhaseRead.{set_of, set_name_at, phase_name_at, NamedTo}
 
 -- ---- a variant's set
-set_is : (z : ℤ) (t : ℕ) → set_of z ≡ Some t → is_set z t ≡ true
+pub set_is : (z : ℤ) (t : ℕ) → set_of z ≡ Some t → is_set z t ≡ true
 set_is (pos n) t e = eq-eqb n t cc
 set_is (negsuc n) t e = absurd (let z : ◌≡◌ {A = ℕ} 0 1 = cc in omega arith)
 
-set_other : (z : ℤ) (t u : ℕ) → set_of z ≡ Some t → (u ≡ t → ⊥) → is_set z u ≡ false
+pub set_other : (z : ℤ) (t u : ℕ) → set_of z ≡ Some t → (u ≡ t → ⊥) → is_set z u ≡ false
 set_other (pos n) t u e d = let k : n ≡ t = cc in ne_eqb n u (λ q. d (sym q ∙ k))
 set_other (negsuc n) t u e d = refl
 
@@ -60,19 +60,31 @@ least_some : (o : Option ℕ) (name : ℕ) → 1 ≤ name → ((other : ℕ) →
 least_some None name h l = h
 least_some (Some other) name h l = let z = l other refl in omega arith
 
+-- names before any variant
+pub named_start : (w sets : List ℤ) (n : ℕ) (least : List (Option ℕ)) → n ≤ length least → ((t : ℕ) → t < n → get_or least t None ≡ None) → NamedTo w sets n 0 least
+unfolding set_name_at name_below
+named_start w sets n least room nones =
+    record { room = room; names = λ t l. ap (λ (o : Option ℕ). unwrap_or o 0) (nones t l); some = λ t name l e. absurd (none-some name (sym (nones t l) ∙ e)) }
+
 the_none : Option ℕ
 the_none = None
 
 pub no_names : (w sets : List ℤ) (n : ℕ) → n ≤ 1024 → NamedTo w sets n 0 (replicate 1024 None)
-unfolding set_name_at name_below the_none
-no_names w sets n h =
-    let nones : (t : ℕ) → t < n → get_or (replicate 1024 None) t None ≡ None = λ t l. get_or-replicate 1024 t None None (omega arith) in
-    record { room = omega (arith, length-replicate 1024 the_none); names = λ t l. ap (λ (o : Option ℕ). unwrap_or o 0) (nones t l); some = λ t name l e. absurd (none-some name (sym (nones t l) ∙ e)) }
+unfolding the_none
+no_names w sets n h = named_start w sets n (replicate 1024 None) (omega (arith, length-replicate 1024 the_none)) (λ t l. get_or-replicate 1024 t None None (omega arith))
 
 module _ {w sets : List ℤ} {n v : ℕ} {least : List (Option ℕ)} (i : NamedTo w sets n v least) where
   -- it has no set
   pub named_past : set_of (get_or sets v (pos 0)) ≡ None → NamedTo w sets n (suc v) least
   named_past e = record { room = i.room; names = λ u l. i.names u l ∙ sym (name_out w sets v u (set_none (get_or sets v (pos 0)) u e)); some = i.some }
+
+  -- its set is n or more, so that it is none of these
+  pub named_beyond : (t : ℕ) → set_of (get_or sets v (pos 0)) ≡ Some t → n ≤ t → NamedTo w sets n (suc v) least
+  named_beyond t e h = record {
+    room = i.room;
+    names = λ u l. i.names u l ∙ sym (name_out w sets v u (set_other (get_or sets v (pos 0)) t u e (λ q. omega arith)));
+    some = i.some;
+  }
 
   -- its set is t
   pub named_on : (t : ℕ) → set_of (get_or sets v (pos 0)) ≡ Some t → t < n → NamedTo w sets n (suc v) (set least t (Some (least_of (get_or least t None) (pos0_at w v + 1))))

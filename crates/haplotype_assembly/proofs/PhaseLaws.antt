@@ -1,6 +1,6 @@
 -- Number 7: what is asked after it, what holds past it, and its ways out. Then what `given_phase` writes.
 -- Assumes nothing.
-use mathlib.Core.Path.{◌≡◌, refl, sym, ◌∙◌}
+use mathlib.Core.Path.{◌≡◌, refl, sym, ap, ◌∙◌}
 use mathlib.Core.Bool.{Bool, true, false, ◌&&◌}
 use mathlib.Core.Logic.{◌⊎◌, inl, inr}
 use mathlib.Core.List.{List}
@@ -18,10 +18,10 @@ use Rattle.variants_and_fragments.specs.Refusals.{Outcome, refused, done, refusa
 use Rattle.variants_and_fragments.specs.Check.{check_case_outcome}
 use Rattle.variants_and_fragments.specs.Decode.{decode}
 use Rattle.variants_and_fragments.proofs.Bools.{both}
-use Rattle.variants_and_fragments.proofs.Outcomes.{unless_on, unless_at, unless_past, not_done, each_stops, each_passes, each_past, each_fails, each_holds}
+use Rattle.variants_and_fragments.proofs.Outcomes.{unless_on, unless_at, unless_past, not_done, each_on, each_at, each_past, each_stops, each_passes}
 use Rattle.haplotype_assembly.specs.GivenPhase.{sets_ok, phase_tests, PhaseSlices, phase_slices, given_phase_written}
 use Rattle.haplotype_assembly.specs.Inner.PhaseRead.{start_at, flags_at, phase_name_at, Faultless}
-use Rattle.haplotype_assembly.proofs.Cited.{first_all}
+use Rattle.haplotype_assembly.proofs.Cited.{first_at, first_end, first_all}
 use Rattle.haplotype_assembly.proofs.Decodes.{start_is, flags_are, names_are}
 
 -- ---- what is asked after number 7 matters only where it passes
@@ -62,13 +62,20 @@ module _ (n : ℕ) (bytes : List ℕ) (sets : List ℤ) where
 
   module _ (b : length bytes ≡ n) (s : length sets ≡ n) where
     -- the first set that is not right
+    pub phase_first : (v : ℕ) → v < n → v ≡ first_fail (sets_ok n sets) n → refused 7 v ≡ phase_tests {X = Unit {0}} n bytes sets (done tt)
+    unfolding phase_tests first_fail
+    phase_first v l e = ap (refused 7) e ∙ each_at 7 (sets_ok n sets) 0 n (done tt) (omega arith) ∙ unless_on _ 7 n _ (simp (eq-eqb _ _ b, eq-eqb _ _ s))
+
     pub phase_at : (v : ℕ) → v < n → ((j : ℕ) → j < v → sets_ok n sets j ≡ true) → sets_ok n sets v ≡ false → refused 7 v ≡ phase_tests {X = Unit {0}} n bytes sets (done tt)
-    unfolding phase_tests
-    phase_at v l good bad = each_fails 7 (sets_ok n sets) 0 n (done tt) v (omega arith) (omega arith) (λ j _ k. good j k) bad ∙ unless_on _ 7 n _ (simp (eq-eqb _ _ b, eq-eqb _ _ s))
+    phase_at v l good bad = phase_first v l (first_at (sets_ok n sets) n v good l bad)
+
+    -- where each is right
+    pub phase_none : first_fail (sets_ok n sets) n ≡ n → ◌≡◌ {A = Outcome Unit} (done tt) (phase_tests n bytes sets (done tt))
+    unfolding phase_tests first_fail
+    phase_none e = each_on 7 (sets_ok n sets) 0 n (done tt) (omega arith) ∙ unless_on _ 7 n _ (simp (eq-eqb _ _ b, eq-eqb _ _ s))
 
     pub phase_end : ((j : ℕ) → j < n → sets_ok n sets j ≡ true) → ◌≡◌ {A = Outcome Unit} (done tt) (phase_tests n bytes sets (done tt))
-    unfolding phase_tests
-    phase_end good = each_holds 7 (sets_ok n sets) 0 n (done tt) (λ j _ k. good j (omega arith)) ∙ unless_on _ 7 n _ (simp (eq-eqb _ _ b, eq-eqb _ _ s))
+    phase_end good = phase_none (sym (first_end (sets_ok n sets) n n good refl))
 
 -- ---- what is written, of an accepted case
 pub phase_written : (w : List ℤ) (b : List ℕ) (s : Sizes) → check_case_outcome w b ≡ done s → (bytes : List ℕ) (sets : List ℤ) (before : PhaseSlices) (haplotypes phased names : List ℕ)

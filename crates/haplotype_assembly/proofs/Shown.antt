@@ -17,9 +17,10 @@ use Rattle.variants_and_fragments.specs.Inner.Case.{All, end, also}
 use Rattle.variants_and_fragments.specs.Pileup.{Row}
 use Rattle.variants_and_fragments.proofs.Alls.{all_from}
 use Rattle.pileup.specs.declared.row.Row.{Row as RowHeld}
-use Rattle.pileup.specs.Inner.Packed.{held_row, RowIn, unpacked, row_at, rows_at, group_start}
+use Rattle.pileup.specs.Inner.Packed.{held_row, RowIn, RowsIn, unpacked, row_at, rows_at, group_start}
 use Rattle.haplotype_assembly.specs.Inner.PhaseRead.{rule_at}
 use Rattle.haplotype_assembly.specs.Inner.LinesRead.{shown_calls, shown_at, LinesGiven, call_of, ShownIn}
+use Rattle.haplotype_assembly.proofs.Cited.{table_end}
 
 -- what is known of a row's call
 pub row_shown : {n f : ℕ} → n ≤ 1024 → {row : Row} → RowIn n f row → ShownIn row.call
@@ -75,6 +76,10 @@ module _ (w : List ℤ) {words : List ℕ} {word : ℕ} {rest : List ℕ} (e : w
     pub next_skip : rule ≡ false → shown_calls w (map unpacked words) ≡ shown_calls w (map unpacked rest)
     next_skip t = ap (λ (x : List ℕ). shown_calls w (map unpacked x)) e ∙ shown_skip w _ _ (rule_here ∙ t)
 
+pub shown_end : (w : List ℤ) (rows : List ℕ) (p e : ℕ) → e ≤ p → shown_at w rows p e ≡ []
+unfolding shown_calls
+shown_end w rows p e h = ap (shown_calls w) (table_end (row_at rows) e p h)
+
 pub next_none : (w : List ℤ) (words : List ℕ) → length words ≡ 0 → shown_calls w (map unpacked words) ≡ []
 unfolding shown_calls
 next_none w [] e = refl
@@ -86,7 +91,31 @@ unfolding tabulate_from
 rows_slice words zero a h = refl
 rows_slice words (suc n) a h = let l : a < length words = omega arith in rw (drop-cons words a 0 l) (ap (λ (t : List Row). row_at words a ∷ t) (rows_slice words n (suc a) (omega arith)))
 
--- what a fragment's line shows, off the words of its rows: none where they would end before they start
+-- what rows at a..e show, off the words that stand there: none where they would end before they start
+module _ {n f a e : ℕ} {rows : List ℕ} (i : RowsIn n f rows a e) where
+  abbrev pub row_words : List ℕ
+  row_words = take (e - min a e) (drop (min a e) rows)
+
+  words_are : rows_at rows a e ≡ map unpacked row_words
+  unfolding tabulate_from
+  words_are = elim (dec_le a e) [
+    | yes l ↦ let m : min a e ≡ a = grind (arith, nat_tests) in rw (m) (rows_slice rows (e - a) a (omega (arith, i.long)))
+    | no l ↦
+        let m : min a e ≡ e = grind (arith, nat_tests) in
+        let z : e - a ≡ 0 = omega arith in
+        let y : e - e ≡ 0 = omega arith in rw (m, z, y) refl
+  ]
+
+  pub row_words_in : All (RowIn n f) (map unpacked row_words)
+  row_words_in = rw words_are at (all_from {P = RowIn n f} (row_at rows) a (e - a) (λ k l m. i.rows_in k l (omega arith)))
+
+  pub row_words_shown : (w : List ℤ) → shown_calls w (map unpacked row_words) ≡ shown_at w rows a e
+  row_words_shown w = ap (shown_calls w) (sym words_are)
+
+  pub row_words_few : length (map unpacked row_words) ≤ 16384
+  row_words_few = simp (length-map, length-take) (omega (arith, i.few))
+
+-- of a fragment
 module _ {s : Sizes} {rows ends : List ℕ} (g : LinesGiven s rows ends) (f : ℕ) (h : f < s.f) where
   abbrev pub a : ℕ
   a = group_start ends f
@@ -95,23 +124,13 @@ module _ {s : Sizes} {rows ends : List ℕ} (g : LinesGiven s rows ends) (f : �
   e = get_or ends f 0
 
   abbrev pub words : List ℕ
-  words = take (e - min a e) (drop (min a e) rows)
-
-  words_are : rows_at rows a e ≡ map unpacked words
-  unfolding tabulate_from
-  words_are = elim (dec_le a e) [
-    | yes l ↦ let m : min a e ≡ a = grind (arith, nat_tests) in rw (m) (rows_slice rows (e - a) a (omega (arith, (g.rows_in f h).long)))
-    | no l ↦
-        let m : min a e ≡ e = grind (arith, nat_tests) in
-        let z : e - a ≡ 0 = omega arith in
-        let y : e - e ≡ 0 = omega arith in rw (m, z, y) refl
-  ]
+  words = row_words (g.rows_in f h)
 
   pub rows_all : All (RowIn s.n s.f) (map unpacked words)
-  rows_all = rw words_are at (all_from {P = RowIn s.n s.f} (row_at rows) a (e - a) (λ k l m. (g.rows_in f h).rows_in k l (omega arith)))
+  rows_all = row_words_in (g.rows_in f h)
 
   pub shown_words : (w : List ℤ) → shown_calls w (map unpacked words) ≡ shown_at w rows a e
-  shown_words w = ap (shown_calls w) (sym words_are)
+  shown_words = row_words_shown (g.rows_in f h)
 
   pub words_few : length (map unpacked words) ≤ 16384
-  words_few = simp (length-map, length-take) (omega (arith, (g.rows_in f h).few))
+  words_few = row_words_few (g.rows_in f h)

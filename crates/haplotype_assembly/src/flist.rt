@@ -34,7 +34,7 @@ impl<'a> Model for ShownCalls<'a> {
 
 impl<'a> ShownCalls<'a> {
     // Those of some rows of the case.
-    fn new(case: CaseWords<'a>, rows: &'a [u64]) -> ShownCalls<'a>
+    pub fn new(case: CaseWords<'a>, rows: &'a [u64]) -> ShownCalls<'a>
         requires { All (RowIn case.laid.sizes.n case.laid.sizes.f) (map unpacked rows.now) }
         ensures { result ≡ shown_calls case.entry.laid.words.now (map unpacked rows.now) }
     {
@@ -72,6 +72,18 @@ pub struct Flist<'a> {
 }
 
 impl<'a> Flist<'a> {
+    // The words of fragment f's rows: none where they would end before they start, for `ends` may stand in any order.
+    pub fn words(&self, f: usize) -> &'a [u64]
+        requires { f < self.now.case.laid.sizes.f }
+        ensures rows_in { All (RowIn self.now.case.laid.sizes.n self.now.case.laid.sizes.f) (map unpacked result.now) }
+        ensures calls { shown_calls self.now.case.laid.words.now (map unpacked result.now) ≡ shown_at self.now.case.laid.words.now self.now.rows.words.now (group_start self.now.rows.ends.now f) (get_or self.now.rows.ends.now f 0) }
+        ensures few { length result.now ≤ 16384 }
+    {
+        let end = self.rows.ends[f];
+        let start = group_start(self.rows.ends, f).min(end);
+        &self.rows.words[start..end]
+    }
+
     // The calls that fragment f's line shows.
     pub fn shown(&self, f: usize) -> ShownCalls<'a>
         requires { f < self.now.case.laid.sizes.f }
@@ -79,8 +91,6 @@ impl<'a> Flist<'a> {
         ensures in_case { All ShownIn result }
         ensures few { length result ≤ 16384 }
     {
-        let end = self.rows.ends[f];
-        let start = group_start(self.rows.ends, f).min(end);
-        ShownCalls::new(self.case, &self.rows.words[start..end])
+        ShownCalls::new(self.case, self.words(f))
     }
 }

@@ -2,15 +2,18 @@
 // wrote: a struct with the buffer and the place is no plainer, since each contract would have to say too that the buffer lent is the same.
 ghost use Rattle.std.specs.Prelude.{[], ◌∷◌, ◌++◌, map, ◌≡◌, ◌+◌, ◌≤◌, ◌<◌, length};
 ghost use Rattle.std.proofs.lemmas.List.Edits.{sets};
+ghost use Rattle.variants_and_fragments.specs.Inner.Case.{All};
 ghost use Rattle.variants_and_fragments.specs.Inner.Sums.{DownTo};
+ghost use Rattle.pileup.specs.Inner.Packed.{unpacked, RowIn};
 ghost use Rattle.haplotype_assembly.specs.Lines.{digit, block_start, allele_bytes, call_quality, strand_byte};
-ghost use Rattle.haplotype_assembly.specs.Inner.LinesRead.{Put, call_of, shown_fragment, shown_fragments, header_of, line_with, fragment_line, has_one, lines_over};
+ghost use Rattle.haplotype_assembly.specs.Inner.LinesRead.{Put, call_of, shown_calls, shown_fragment, shown_fragments, header_of, line_with, fragment_line, has_one, lines_over};
 
 use crate::Counted;
 use crate::flist::{Flist, ShownCalls};
 use crate::numbers::write_number;
 use pileup::row::Row;
 use steps::phred::{phred, quality_byte};
+use variants_and_fragments::CaseWords;
 use variants_and_fragments::layout::direction_of;
 
 // ---- the alleles
@@ -117,6 +120,31 @@ pub fn write_header(head: Head, buffer: &mut [u8], at: usize) -> usize
     end2 + 2
 }
 
+// Writes the line of some rows of the case.
+pub fn write_line(
+    case: &CaseWords<'_>,
+    rows: &[u64],
+    head: Head,
+    buffer: &mut [u8],
+    at: usize,
+) -> usize
+    requires rows_in { All (RowIn case.now.laid.sizes.n case.now.laid.sizes.f) (map unpacked rows.now) }
+    requires in_bounds { at + length (line_with case.now.laid.sizes.n head (shown_calls case.now.laid.words.now (map unpacked rows.now))) ≤ length buffer.old }
+    ensures { Put buffer.old buffer.new at result (line_with case.now.laid.sizes.n head (shown_calls case.now.laid.words.now (map unpacked rows.now))) }
+{
+    let alleles = write_header(head, buffer, at);
+    let space = write_alleles(
+        ShownCalls::new(*case, rows),
+        case.laid.sizes.n,
+        buffer,
+        alleles,
+    );
+    buffer[space] = b' ';
+    let last = write_qualities(ShownCalls::new(*case, rows), buffer, space + 1);
+    buffer[last] = 0;
+    last + 1
+}
+
 impl Flist<'_> {
     // Writes fragment f's line.
     pub fn write_line(&self, f: usize, head: Head, buffer: &mut [u8], at: usize) -> usize
@@ -124,12 +152,7 @@ impl Flist<'_> {
         requires in_bounds { at + length (line_with self.now.case.laid.sizes.n head (shown_fragment self.now.case.laid.words.now self.now.case.laid.sizes self.now.rows.words.now self.now.rows.ends.now f).calls) ≤ length buffer.old }
         ensures { Put buffer.old buffer.new at result (line_with self.now.case.laid.sizes.n head (shown_fragment self.now.case.laid.words.now self.now.case.laid.sizes self.now.rows.words.now self.now.rows.ends.now f).calls) }
     {
-        let alleles = write_header(head, buffer, at);
-        let space = write_alleles(self.shown(f), self.case.laid.sizes.n, buffer, alleles);
-        buffer[space] = b' ';
-        let last = write_qualities(self.shown(f), buffer, space + 1);
-        buffer[last] = 0;
-        last + 1
+        write_line(&self.case, self.words(f), head, buffer, at)
     }
 
     // ---- all fragments

@@ -4,7 +4,7 @@ ghost use Rattle.haplotype_assembly.specs.Lines.{decimal, has_line};
 ghost use Rattle.haplotype_assembly.specs.Inner.LinesRead.{shown_fragment, shown_fragments, tally_step, Tallied, SmallTally, CountedOn, LinesCounted};
 
 use crate::Counted;
-use crate::flist::Flist;
+use crate::flist::{Flist, ShownCalls};
 use crate::numbers::digit_count;
 
 // What shown calls add to a line, so far: calls, blocks, allele bytes, and the variant that goes on with the block. That they are at most what 16384
@@ -54,31 +54,46 @@ impl Tally {
     }
 }
 
+// What the calls add to their line, of n variants. At its start no variant goes on with a block: `next` is n then, a number and no Option, for a call
+// is at no variant n, so the one `==` against a call's variant tells both cases.
+pub fn tally_rows(shown: ShownCalls<'_>, n: usize) -> Tally
+    requires { length shown ≤ 16384 }
+    ensures { Tallied n shown.entry result × SmallTally result 16384 }
+{
+    let mut tally = Tally {
+        calls: 0,
+        blocks: 0,
+        bytes: 0,
+        next: n,
+    };
+    for row in shown {
+        tally = tally.with_call(row.variant);
+    }
+    tally
+}
+
+// A fragment with this many shown calls has a line.
+#[tactic(auto, unfolding(crate::specs::Lines::has_line))]
+pub fn has_line(single: bool, calls: usize) -> bool
+    ensures { result ≡ has_line single calls }
+{
+    if single { 1 <= calls } else { 2 <= calls }
+}
+
 impl Flist<'_> {
-    // What fragment f's calls add to its line. At its start no variant goes on with a block: `next` is n then, a number and no Option, for a call is at
-    // no variant n, so the one `==` against a call's variant tells both cases.
+    // What fragment f's calls add to its line.
     pub fn tally(&self, f: usize) -> Tally
         requires { f < self.now.case.laid.sizes.f }
         ensures { Tallied self.now.case.laid.sizes.n (shown_fragment self.now.case.laid.words.now self.now.case.laid.sizes self.now.rows.words.now self.now.rows.ends.now f).calls result × SmallTally result 16384 }
     {
-        let mut tally = Tally {
-            calls: 0,
-            blocks: 0,
-            bytes: 0,
-            next: self.case.laid.sizes.n,
-        };
-        for row in self.shown(f) {
-            tally = tally.with_call(row.variant);
-        }
-        tally
+        tally_rows(self.shown(f), self.case.laid.sizes.n)
     }
 
-    // A fragment with this many shown calls has a line.
-    #[tactic(auto, unfolding(crate::specs::Lines::has_line))]
+    // A fragment of these with this many shown calls has a line.
     pub fn has_line(&self, calls: usize) -> bool
         ensures { result ≡ has_line self.now.single calls }
     {
-        if self.single { 1 <= calls } else { 2 <= calls }
+        has_line(self.single, calls)
     }
 
     // What is counted, with fragment f's line, where it has one.

@@ -6,3 +6,4 @@ pub mod Nans
 pub mod Decimal
 pub mod Printed
 pub mod Samples
+pub mod Words

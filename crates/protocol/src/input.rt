@@ -191,9 +191,10 @@ impl Reader {
     pub fn unreadable(&self, reason: Reason) -> Unreadable
         ensures { result ≡ unreadable_at self.now.place reason }
     {
+        let place = self.place();
         Unreadable {
-            line: self.place.line,
-            token: self.place.token,
+            line: place.line,
+            token: place.token,
             reason,
         }
     }

@@ -1,4 +1,4 @@
--- The place under 6, as `rates_fault` answers it. Assumes nothing.
+-- The place under 6, at which `Rates::accepted` refuses. Assumes nothing.
 use Rattle.std.specs.Prelude.{ℕ}
 use Rattle.variants_and_fragments.specs.First.{first_fail}
 use Rattle.variants_and_fragments.specs.Refusals.{Outcome, done, each}

@@ -21,7 +21,7 @@ returns c =
     let sums = sums_all c.requires.rows_in c.of-tally.ensures in
     let size = c.score.auto.post ∙ priors.size in
     record {
-      here = rw (← c.allele_count-k.ensures) (posteriors_are c.score.new.post low top priors sums size c.score.ensures c.normalize.ensures c.of-tally.ensures);
+      here = cc (posteriors_are c.score.new.post low top priors sums size c.score.ensures c.normalize.ensures c.of-tally.ensures);
       small = posteriors_small c.score.new.post low top priors sums size c.score.ensures c.normalize.ensures;
       tallied = c.of-tally.ensures;
       sums_in = sums;

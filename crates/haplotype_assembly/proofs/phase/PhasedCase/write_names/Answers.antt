@@ -1,11 +1,6 @@
-use Rattle.std.proofs.Common.{refl}
-use Rattle.variants_and_fragments.specs.Written.{written}
-use Rattle.haplotype_assembly.proofs.Cited.{written_on}
+-- No name is read before the first variant.
+use Rattle.haplotype_assembly.proofs.Names.{no_names}
 use Rattle.haplotype_assembly.proofs.phase.PhasedCase.write_names.Goals as goal
 
-pub loop-v-init : goal.loop-v-init
-unfolding written
-loop-v-init c = refl
-
-pub loop-v-preserved : goal.loop-v-preserved
-loop-v-preserved c = written_on _ _ _ _ _ c.loop-v.invariant (rw c.least_names-least.ensures at c.name.ensures)
+pub least_names-requires-clause-named_to : goal.least_names-requires-clause-named_to
+least_names-requires-clause-named_to c = no_names _ _ _ c.args.self.now.case.laid.sized.n_top

@@ -1,8 +1,8 @@
 use Rattle.std.proofs.Common.{◌≡◌}
 use Rattle.variants_and_fragments.specs.Written.{written}
 use Rattle.haplotype_assembly.specs.Inner.PhaseRead.{phase_name_at}
-use Rattle.haplotype_assembly.proofs.phase.PhasedCase.write_names.Given as goal
+use Rattle.haplotype_assembly.proofs.phase.write_names.Given as goal
 
 -- the names of the variants below v are written
 abbrev pub invariant-loop-v : goal.invariant-loop-v
-invariant-loop-v l = l.names ≡ written (phase_name_at l.self.case.laid.words.now l.self.phase.now l.self.sets.now l.self.case.laid.sizes.n) l.v l.initial.names
+invariant-loop-v l = l.names ≡ written (phase_name_at l.words l.phase l.sets l.n) l.v l.initial.names

@@ -1,6 +1,0 @@
-use Rattle.haplotype_assembly.specs.Inner.PhaseRead.{NamedTo}
-use Rattle.haplotype_assembly.proofs.phase.PhasedCase.least_names.Given as goal
-
--- the names are read over the variants below v
-abbrev pub invariant-loop-v : goal.invariant-loop-v
-invariant-loop-v l = NamedTo l.self.case.laid.words.now l.self.sets.now l.self.case.laid.sizes.n l.v l.least
