@@ -73,6 +73,9 @@ module _ {C : SweepCase} {reads : SweepReads} (H : Held C reads) where
     rows_in : RowsIn C.n (length C.frags) reads.piles (group_start reads.ends v) (get_or reads.ends v 0)
     rows_in = group_in H.piles_are H.variants_top H.fragments_top v in_n
 
+    pub pile_in : RowsIn 1024 4096 reads.piles (group_start reads.ends v) (get_or reads.ends v 0)
+    pile_in = rows_wider 1024 4096 H.variants_top H.fragments_top rows_in
+
     pub pile_fits : {h : List ℕ} {lik : List ℤ} → Liks C h lik → PileFits lik reads.piles (group_start reads.ends v) (get_or reads.ends v 0)
     pile_fits {lik = lik} L = rows_wider 1024 (length lik / 2) H.variants_top (omega (arith, L.long)) rows_in
 

@@ -2,7 +2,7 @@
 // two: orders have no largest need, and get 65,536 entries, 64 orders at N = 1,024; fragment lines get 10 bytes per fragment and 8 per
 // call, and lines of ten blocks or more can need up to 239 bytes more than that (docs/FORMAT.md, "The program's arrays"). The
 // arrays that an operation writes are filled: bytes 170, integers 77, f64 77.0.
-ghost use Rattle.std.specs.Prelude.{◌≡◌, pos, from_bits, replicate};
+ghost use Rattle.std.specs.Prelude.{pos, from_bits};
 ghost use Rattle.std.specs.Float.{binary64};
 
 use variants_and_fragments::layout::{
@@ -84,10 +84,4 @@ impl Fill for f64 {
     ghost FILL = { from_bits binary64 4635118810238550016 };
 
     const FILL: f64 = 77.0;
-}
-
-pub fn filled<T: Fill, const N: usize>() -> [T; N]
-    ensures { result ≡ replicate N T.FILL }
-{
-    [T::FILL; N]
 }

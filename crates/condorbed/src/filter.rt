@@ -1,13 +1,14 @@
 // `filter`: `<words i32>` `<bases u8>` `<quals f64>` density_qual density_dist density_count
 // max_depth `[filters u8]`.
 use crate::answers::first_line;
-use crate::arrays::{ONES, filled};
+use crate::arrays::{Fill, ONES};
 use crate::requests::Request;
 use protocol::input::{Reader, Unreadable};
 use steps::PHREDProb;
 use var_filter::DensityParameters;
 
 // The answer to the request.
+#[inline(never)]
 pub fn answer(request: Request<'_>) -> Result<(), Unreadable> {
     let Request {
         reader,
@@ -16,7 +17,7 @@ pub fn answer(request: Request<'_>) -> Result<(), Unreadable> {
         bases,
     } = request;
     let mut quals = [0.0; ONES];
-    let mut filters = filled::<u8, ONES>();
+    let mut filters = [u8::FILL; ONES];
     let quals = reader.slice(&mut quals)?;
     let density = read_density(reader)?;
     let max_depth = reader.read()?;

@@ -1,12 +1,13 @@
 // `flist`: `<words i32>` `<bases u8>` single_reads (0 or 1) `[buffer u8]`.
 use crate::answers::{Done, first_line};
-use crate::arrays::{LINES, filled};
+use crate::arrays::{Fill, LINES};
 use crate::requests::Request;
 use haplotype_assembly::Counted;
 use protocol::input::Unreadable;
 use protocol::output::Writer;
 
 // The answer to the request.
+#[inline(never)]
 pub fn answer(request: Request<'_>) -> Result<(), Unreadable> {
     let Request {
         reader,
@@ -14,7 +15,7 @@ pub fn answer(request: Request<'_>) -> Result<(), Unreadable> {
         words,
         bases,
     } = request;
-    let mut buffer = filled::<u8, LINES>();
+    let mut buffer = [u8::FILL; LINES];
     let single_reads = reader.read()?;
     let buffer = reader.front(&mut buffer)?;
     let answer = haplotype_assembly::generate_flist_buffer(words, bases, single_reads, buffer);

@@ -43,6 +43,7 @@ fn read_parts<'a>(
 }
 
 // The answer to an arrival. The arrays are named here and in `depart`, since no function can hand out slices of its own.
+#[inline(never)]
 pub fn arrive(request: Request<'_>) -> Result<(), Unreadable> {
     let Request {
         reader,
@@ -87,6 +88,7 @@ pub fn arrive(request: Request<'_>) -> Result<(), Unreadable> {
 }
 
 // The same for a departure.
+#[inline(never)]
 pub fn depart(request: Request<'_>) -> Result<(), Unreadable> {
     let Request {
         reader,

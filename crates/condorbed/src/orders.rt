@@ -1,10 +1,11 @@
 // `orders`: `<words i32>` `<bases u8>` seed (u64) `[orders u32]`.
 use crate::answers::first_line;
-use crate::arrays::{ORDERS, filled};
+use crate::arrays::{Fill, ORDERS};
 use crate::requests::Request;
 use protocol::input::Unreadable;
 
 // The answer to the request.
+#[inline(never)]
 pub fn answer(request: Request<'_>) -> Result<(), Unreadable> {
     let Request {
         reader,
@@ -12,7 +13,7 @@ pub fn answer(request: Request<'_>) -> Result<(), Unreadable> {
         words,
         bases,
     } = request;
-    let mut orders = filled::<u32, ORDERS>();
+    let mut orders = [u32::FILL; ORDERS];
     let seed = reader.read()?;
     let orders = reader.front(&mut orders)?;
     let answer = shuffle::sweep_orders(words, bases, seed, orders);

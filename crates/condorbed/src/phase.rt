@@ -1,10 +1,11 @@
 // `phase`: `<words i32>` `<bases u8>` `<phase u8>` `<sets i32>` `[haplotypes u8]` `[phased u8]` `[names u32]`.
 use crate::answers::first_line;
-use crate::arrays::{HAPLOTYPES, ONES, filled};
+use crate::arrays::{Fill, HAPLOTYPES, ONES};
 use crate::requests::Request;
 use protocol::input::Unreadable;
 
 // The answer to the request.
+#[inline(never)]
 pub fn answer(request: Request<'_>) -> Result<(), Unreadable> {
     let Request {
         reader,
@@ -14,9 +15,9 @@ pub fn answer(request: Request<'_>) -> Result<(), Unreadable> {
     } = request;
     let mut phase = [0; ONES];
     let mut sets = [0; ONES];
-    let mut haplotypes = filled::<u8, HAPLOTYPES>();
-    let mut phased = filled::<u8, ONES>();
-    let mut names = filled::<u32, ONES>();
+    let mut haplotypes = [u8::FILL; HAPLOTYPES];
+    let mut phased = [u8::FILL; ONES];
+    let mut names = [u32::FILL; ONES];
     let phase = reader.slice(&mut phase)?;
     let sets = reader.slice(&mut sets)?;
     let haplotypes = reader.front(&mut haplotypes)?;

@@ -74,7 +74,8 @@ impl Operation {
     }
 
     // The answer to a request of the operation. Every request starts with a case, `<words i32>` `<bases u8>`. A closure for each
-    // operation would only name its function, as each arm does.
+    // operation would only name its function, as each arm does. Each of these that has arrays is `inline(never)`, for the sake of the
+    // stack: inlined, the arrays of all requests would lie in one frame, that of `answer_all`, entered before the first word is read.
     fn answer(
         self,
         reader: &mut Reader,

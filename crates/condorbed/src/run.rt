@@ -1,7 +1,7 @@
 // `run`: `<words i32>` `<bases u8>` six rates `<phase u8>` `<sets i32>` `<orders u32>` limit `[haplotypes u8]`
 // `[likelihoods i64]` `[posteriors i64]` `[quals f64]` `[gqs f64]`.
 use crate::answers::{Done, first_line};
-use crate::arrays::{HAPLOTYPES, LIKELIHOODS, ONES, ORDERS, PAIRS, filled};
+use crate::arrays::{Fill, HAPLOTYPES, LIKELIHOODS, ONES, ORDERS, PAIRS};
 use crate::rates::read_rates;
 use crate::requests::Request;
 use protocol::input::Unreadable;
@@ -9,6 +9,7 @@ use protocol::output::Writer;
 use with_haplotypes::RoundAnswer;
 
 // The answer to the request. The five slices that are written have no struct: it would be taken apart in the one call that they go to.
+#[inline(never)]
 pub fn answer(request: Request<'_>) -> Result<(), Unreadable> {
     let Request {
         reader,
@@ -19,11 +20,11 @@ pub fn answer(request: Request<'_>) -> Result<(), Unreadable> {
     let mut phase = [0; ONES];
     let mut sets = [0; ONES];
     let mut orders = [0; ORDERS];
-    let mut haplotypes = filled::<u8, HAPLOTYPES>();
-    let mut likelihoods = filled::<i64, LIKELIHOODS>();
-    let mut posteriors = filled::<i64, PAIRS>();
-    let mut quals = filled::<f64, ONES>();
-    let mut gqs = filled::<f64, ONES>();
+    let mut haplotypes = [u8::FILL; HAPLOTYPES];
+    let mut likelihoods = [i64::FILL; LIKELIHOODS];
+    let mut posteriors = [i64::FILL; PAIRS];
+    let mut quals = [f64::FILL; ONES];
+    let mut gqs = [f64::FILL; ONES];
     let rates = read_rates(reader)?;
     let phase = reader.slice(&mut phase)?;
     let sets = reader.slice(&mut sets)?;

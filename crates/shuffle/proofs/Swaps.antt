@@ -1,15 +1,8 @@
 -- A swap keeps the length, and the swaps from position i − 1 down are the one at i − 1 and those below it. Assumes nothing.
-use Rattle.std.proofs.Common.{◌≡◌, ℕ, zero, suc, ◌+◌, ◌-◌, ◌%◌, ◌<◌, List, length, sym, refl, ◌∙◌, arith, length-set}
-use Rattle.std.specs.List.{swap}
-use Rattle.std.proofs.lemmas.List.Edits.{swap_is}
+use Rattle.std.proofs.Common.{◌≡◌, ℕ, zero, suc, ◌+◌, ◌-◌, ◌%◌, ◌<◌, List, length, refl, ◌∙◌, arith, length-set}
 use Rattle.shuffle.specs.SplitMix.{next_state, mixed, output, state_after}
 use Rattle.shuffle.specs.Orders.{swapped, swaps_down, order_from}
 use Rattle.shuffle.proofs.Ascending.{ascending_length}
-
--- what `swap` of a slice does
-pub swap_swapped : (order : List ℕ) (i j : ℕ) → i < length order → j < length order → swap order i j ≡ swapped order i j
-unfolding swapped
-swap_swapped order i j hi hj = sym (swap_is order i j 0 hi hj)
 
 pub swapped_length : (order : List ℕ) (i j : ℕ) → length (swapped order i j) ≡ length order
 unfolding swapped

@@ -1,7 +1,7 @@
 // Fisher-Yates: an order of the variants by the outputs of SplitMix64.
 ghost use Rattle.std.specs.Prelude.{◌≡◌, ◌+◌, ◌-◌, ◌%◌, ◌^◌, ◌<◌, ◌≤◌, length};
 ghost use Rattle.shuffle.specs.SplitMix.{mixed, state_after};
-ghost use Rattle.shuffle.specs.Orders.{ascending, order_from};
+ghost use Rattle.shuffle.specs.Orders.{ascending, swapped, order_from};
 
 use crate::splitmix::{mix, next_state};
 
@@ -14,6 +14,18 @@ fn write_ascending(order: &mut [u32])
     for (i, entry) in order.iter_mut().enumerate() {
         *entry = i as u32;
     }
+}
+
+// The entries at i and j change places. By hand: the kit's `swap` branches on which of them is lower, and where an order is short a processor often guesses
+// that wrong.
+#[tactic(auto, unfolding(crate::specs::Orders::swapped))]
+fn swap(order: &mut [u32], i: usize, j: usize)
+    requires { (i < length order.old) × (j < length order.old) }
+    ensures { order.new ≡ swapped order.old i j }
+{
+    let entry = order[i];
+    order[i] = order[j];
+    order[j] = entry;
 }
 
 // The place that position i swaps with: the output at the state mod (i + 1).
@@ -33,7 +45,7 @@ pub fn shuffle_order(order: &mut [u32], state: u64) -> u64
     let mut s = state;
     for i in (1..order.len()).rev() {
         s = next_state(s);
-        order.swap(i, swap_place(s, i));
+        swap(order, i, swap_place(s, i));
     }
     s
 }

@@ -2,7 +2,7 @@
 use Rattle.std.proofs.Common.{◌≡◌, ◌-◌, arith}
 use Rattle.shuffle.specs.SplitMix.{state_after}
 use Rattle.shuffle.specs.Orders.{swaps_down, order_from}
-use Rattle.shuffle.proofs.Swaps.{swaps_more, state_more, swap_swapped}
+use Rattle.shuffle.proofs.Swaps.{swaps_more, state_more}
 use Rattle.shuffle.proofs.fisher_yates.shuffle_order.Goals as goal
 
 pub loop-i-init : goal.loop-i-init
@@ -12,7 +12,6 @@ loop-i-init c = let n = c.write_ascending.auto.order in record { order = cc; sta
 pub loop-i-preserved : goal.loop-i-preserved
 loop-i-preserved c =
     let l = c.loop-i in
-    let swapped = swap_swapped l.order (l.i - 1) c.swap_place.result (omega arith) (omega arith) in
     record { order = cc (swaps_more l.i l.order l.s (omega arith)); state = cc (state_more l.i l.s (omega arith)) }
 
 pub returns : goal.returns
