@@ -34,7 +34,7 @@ use Rattle.call_genotypes.specs.Inner.Runs.{Plan, order_of, RunStart, Ran}
 use Rattle.call_genotypes.proofs.Linked.{lik_within}
 use Rattle.with_haplotypes.specs.declared.RoundAnswer.{RoundAnswer}
 use Rattle.with_haplotypes.specs.Round.{RunInput, run_input, sweep_case, order_of_sweep, result}
-use Rattle.with_haplotypes.specs.Inner.Steps.{CaseGiven, OrdersGiven, Scratch, Prepared, RunGiven, PhasedGiven, SomePhased, RunMade, RunPromise, PreparedGiven, PreparedPromise}
+use Rattle.with_haplotypes.specs.Inner.Steps.{CaseGiven, OrdersGiven, Scratch, Prepared, ReadsGiven, RunGiven, StateGiven, PhasedGiven, SomePhased, RunMade, RunPromise, PreparedGiven, PreparedPromise}
 use Rattle.with_haplotypes.proofs.OrdersHeld.{order_good}
 
 pub known : {w : List ℤ} {b : List ℕ} {rates : Rates} {s : Sizes} → CaseGiven w b rates s → CaseIn w s
@@ -51,9 +51,20 @@ rows_of m = rw (← m.rows_held.count_is) (record {
   grouped = m.grouped;
 })
 
+-- ---- a run of flags that say these phased variants
+module _ {w : List ℤ} {b : List ℕ} {rates : Rates} {s : Sizes} {plan : Plan} {ks ph orders : List ℕ} {phased : ℕ → Bool}
+    (G : RunGiven w b rates s plan ks ph orders phased) where
+  -- it reads what a run of any flags does
+  pub reads_given : ReadsGiven w b rates s plan ks ph orders
+  reads_given = record { given = G.given; good_orders = G.good_orders; counts = G.counts; ph_long = G.ph_long }
+
+  -- and starts from them
+  pub phased_given : {state : SweepState} → StateGiven (sweep_case (run_input w b rates phased state.hap orders plan.limit)) s state → PhasedGiven w b rates s plan ph orders state phased
+  phased_given S = record { ph_are = G.ph_are; state_given = S }
+
 -- ---- a run with scratch of its own, of whatever size
 module _ {w : List ℤ} {b : List ℕ} {rates : Rates} {s : Sizes} {plan : Plan} {ks ph orders : List ℕ} {state : SweepState} {x : Scratch}
-    (G : RunGiven w b rates s plan ks ph orders) (P : Prepared w b rates s x) where
+    (G : ReadsGiven w b rates s plan ks ph orders) (P : Prepared w b rates s x) where
   -- what the run over prepared scratch asks
   pub run_asks : SomePhased (PhasedGiven w b rates s plan ph orders state) → PreparedGiven plan ks ph x orders state
   run_asks F = record { words = w; bases = b; rates = rates; sizes = s; phased = F.phased; given = G; phased_given = F.holds; prepared = P }
@@ -84,7 +95,7 @@ module _ {w : List ℤ} {b : List ℕ} {rates : Rates} (s : Sizes) (g : CaseGive
 
 -- ---- what is prepared and the run is given
 module _ {w : List ℤ} {b : List ℕ} {rates : Rates} {s : Sizes} {plan : Plan} {ks ph orders : List ℕ} {state : SweepState} {phased : ℕ → Bool} {x : Scratch}
-    (G : RunGiven w b rates s plan ks ph orders) (P : Prepared w b rates s x) (F : PhasedGiven w b rates s plan ph orders state phased) where
+    (G : ReadsGiven w b rates s plan ks ph orders) (P : Prepared w b rates s x) (F : PhasedGiven w b rates s plan ph orders state phased) where
   abbrev run : RunInput
   run = run_input w b rates phased state.hap orders plan.limit
 

@@ -34,10 +34,7 @@ impl AcceptedRound<'_> {
         let mut ph = [0u8; MAX_VARIANTS];
         write_phase(&self.case.accepted_words(), self.phase, haplotypes, &mut ph);
         let reads = RunReads {
-            case: self.case,
-            rates: self.rates,
-            orders: self.orders,
-            limit: self.limit,
+            round: *self,
             ks,
             ph: &ph,
         };

@@ -70,12 +70,20 @@ pub record AlleleCounts (w : List ℤ) (n : ℕ) (ks : List ℕ) : Type 0 where
   pub long : length ks ≡ n
   pub are : ks ≡ written (allele_count_at w) n ks
 
--- what a run reads: an accepted case's words and bases, its numbers of alleles, as many flags, and orders
-pub record RunGiven (w : List ℤ) (b : List ℕ) (rates : Rates) (s : Sizes) (plan : Plan) (ks ph orders : List ℕ) : Type 0 where
+-- what a run of any flags reads: an accepted case's words and bases, its numbers of alleles, as many flags, and orders
+pub record ReadsGiven (w : List ℤ) (b : List ℕ) (rates : Rates) (s : Sizes) (plan : Plan) (ks ph orders : List ℕ) : Type 0 where
   pub given : CaseGiven w b rates s
   pub good_orders : OrdersGiven orders s.n plan
   pub counts : AlleleCounts w s.n ks
   pub ph_long : s.n ≤ length ph
+
+-- what a run reads: an accepted case's words and bases, its numbers of alleles, flags of the phased variants, and orders
+pub record RunGiven (w : List ℤ) (b : List ℕ) (rates : Rates) (s : Sizes) (plan : Plan) (ks ph orders : List ℕ) (phased : ℕ → Bool) : Type 0 where
+  pub given : CaseGiven w b rates s
+  pub good_orders : OrdersGiven orders s.n plan
+  pub counts : AlleleCounts w s.n ks
+  pub ph_long : s.n ≤ length ph
+  pub ph_are : (v : ℕ) → v < s.n → get_or ph v 0 ≡ cond (phased v) 1 0
 
 -- what a run of C changes: haplotypes whose alleles the variants have, likelihoods of exactly the need, and room for the scores
 pub record StateGiven (C : SweepCase) (s : Sizes) (state : SweepState) : Type 0 where
@@ -115,7 +123,7 @@ pub record PreparedGiven (plan : Plan) (ks ph : List ℕ) (x : Scratch) (orders 
   pub rates : Rates
   pub sizes : Sizes
   pub phased : ℕ → Bool
-  pub given : RunGiven words bases rates sizes plan ks ph orders
+  pub given : ReadsGiven words bases rates sizes plan ks ph orders
   pub phased_given : PhasedGiven words bases rates sizes plan ph orders state phased
   pub prepared : Prepared words bases rates sizes x
 

@@ -6,7 +6,7 @@ use Rattle.with_haplotypes.specs.Round.{run_of}
 use Rattle.with_haplotypes.specs.Inner.Steps.{AlleleCounts, RunMade}
 use Rattle.with_haplotypes.specs.Inner.Reads.{input_of}
 use Rattle.with_haplotypes.proofs.RunLaws.{known}
-use Rattle.with_haplotypes.proofs.StartLaws.{still_long, over, stands, start_here, flags_here, phased_here, run_here}
+use Rattle.with_haplotypes.proofs.StartLaws.{still_long, over, stands, start_here, flags_here, state_here, run_here}
 use Rattle.with_haplotypes.proofs.FinishLaws as finish
 use Rattle.with_haplotypes.proofs.reads.AcceptedRound.call.Goals as goal
 use Rattle.with_haplotypes.proofs.reads.AcceptedRound.call.Goals.{After-write_phase, After-run-answer}
@@ -29,23 +29,20 @@ invariant_of-reads c =
         good_orders = A.good_orders;
         counts = counts (goal.at.invariant_of-reads c).After-write_phase;
         ph_long = omega (arith, n_top, c.write_phase.auto.phased);
+        ph_are = flags_here A _ _ (omega (arith, n_top)) (rw c.accepted_words.ensures at c.write_phase.ensures.phased_after);
       };
     }
 
 pub run-answer-requires : goal.run-answer-requires
 run-answer-requires c =
     let A = c.args.self.now.admitted in
-    let start = start_here A _ _ _ refl c.requires.haplotypes_long (rw c.accepted_words.ensures at c.write_phase.ensures.haplotypes_after) in
-    let flags = flags_here A _ _ (omega (arith, (known A.given).sized.n_top)) (rw c.accepted_words.ensures at c.write_phase.ensures.phased_after) in
-    record { phased = _; holds = phased_here A flags start (finish.part_long _ _ _ refl c.requires.likelihoods_long) c.requires.posteriors_long }
+    state_here A (start_here A _ _ _ refl c.requires.haplotypes_long (rw c.accepted_words.ensures at c.write_phase.ensures.haplotypes_after)) (finish.part_long _ _ _ refl c.requires.likelihoods_long) c.requires.posteriors_long
 
 -- the run from the start's haplotypes
 made : (c : After-run-answer) → RunMade (run_of (input_of c.args.self.now)) (sweep_state (take (2 * c.args.self.now.case.laid.sizes.n) c.write_phase.new.haplotypes) (take (2 * c.args.self.now.case.laid.sizes.f) c.args.likelihoods.now) c.args.posteriors.now) (sweep_state c.run-answer.new.hap c.run-answer.new.lik c.run-answer.new.post) c.run-answer.result
 made c =
     let A = c.args.self.now.admitted in
-    let start = start_here A _ _ _ refl c.requires.haplotypes_long (rw c.accepted_words.ensures at c.write_phase.ensures.haplotypes_after) in
-    let flags = flags_here A _ _ (omega (arith, (known A.given).sized.n_top)) (rw c.accepted_words.ensures at c.write_phase.ensures.phased_after) in
-    run_here A start (c.run-answer.ensures _ (phased_here A flags start (finish.part_long _ _ _ refl c.requires.likelihoods_long) c.requires.posteriors_long))
+    run_here A (start_here A _ _ _ refl c.requires.haplotypes_long (rw c.accepted_words.ensures at c.write_phase.ensures.haplotypes_after)) c.run-answer.ensures
 
 pub normalize_all-requires : goal.normalize_all-requires
 normalize_all-requires c =

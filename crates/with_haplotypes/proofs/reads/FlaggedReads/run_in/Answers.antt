@@ -4,8 +4,8 @@ use Rattle.std.proofs.lemmas.List.{length-replicate}
 use Rattle.with_haplotypes.proofs.RunLaws.{rows_of, run_asks, run_promised}
 use Rattle.with_haplotypes.proofs.StartLaws.{stands}
 use Rattle.with_haplotypes.specs.Inner.Steps.{Prepared, scratch}
-use Rattle.with_haplotypes.proofs.reads.RunReads.run_in.Goals as goal
-use Rattle.with_haplotypes.proofs.reads.RunReads.run_in.Goals.{After-make_priors}
+use Rattle.with_haplotypes.proofs.reads.FlaggedReads.run_in.Goals as goal
+use Rattle.with_haplotypes.proofs.reads.FlaggedReads.run_in.Goals.{After-make_priors}
 
 -- what stands in it
 made : (g : _) (c : After-make_priors g) → Prepared c.args.self.now.case.laid.words.now c.args.self.now.case.bases.now c.args.self.now.rates.rates c.args.self.now.case.laid.sizes (scratch c.pile_calls.new.rows c.pile_calls.new.row_ends c.pile_calls.new.piles c.pile_calls.new.pile_ends c.make_priors.new.priors)
