@@ -1,20 +1,44 @@
-// Decimal text put into a lent buffer.
+// The text of a value: put into a lent buffer, or added to bytes that wait. That of a number is decimal.
 #![tactic(auto, using(crate::proofs::Decimal::std_decimal, crate::proofs::Decimal::std_signed))]
 
-ghost use Rattle.std.specs.Prelude.{◌≡◌, ℕ, ◌≤◌, List, length, to_bits};
+ghost use Rattle.std.specs.Prelude.{◌≡◌, ℕ, ◌+◌, ◌≤◌, List, ◌++◌, length, to_bits};
 ghost use Rattle.std.specs.Float.{binary64};
 ghost use Rattle.protocol.specs.declared.print.TheConstants.{TEXT_BYTES};
+ghost use Rattle.arrayvec.specs.ArrayVec.{array_vec_len};
+ghost use Rattle.protocol.specs.declared.TheConstants.{BUFFER_BYTES};
 ghost use Rattle.protocol.specs.Inner.Print.{Put, decimal_of, signed_of};
 
-use crate::float;
+use crate::{BUFFER_BYTES, float};
+use arrayvec::ArrayVec;
 use itoa::Buffer;
 
 // The room that any number's text needs at most: twenty digits, or a sign and nineteen.
 pub const TEXT_BYTES: usize = 20;
 
-// A type whose values are printed as numbers. An impl for every `I: Integer` would overlap with that of f64, and no macro of
-// a repository may write an impl: so each has its own of one line.
+// A type whose values are printed. One that is no number needs `put` alone.
 pub trait ToText: Copy {
+    // The text of a value.
+    ghost text: { Self → List ℕ };
+
+    // Puts the text into the front of out, and answers where it ends.
+    fn put(self, out: &mut [u8]) -> usize
+        requires { TEXT_BYTES ≤ length out.old }
+        ensures { Put out.old 0 (text self) out.new result };
+
+    // Adds the text to the bytes that wait, where there is room for any.
+    fn append(self, waiting: &mut ArrayVec<u8, BUFFER_BYTES>)
+        requires { array_vec_len waiting.old + TEXT_BYTES ≤ BUFFER_BYTES }
+        ensures { waiting.new.items ≡ waiting.old.items ++ text self }
+    {
+        let mut text = [0; TEXT_BYTES];
+        let end = self.put(&mut text);
+        waiting.try_extend_from_slice(&text[..end]).unwrap();
+    }
+}
+
+// A type of numbers, whose texts are formatted in lent digits. An impl for every `I: Integer` would overlap with that of f64, and no macro of
+// a repository may write an impl: so each has its own of one line.
+pub trait Formatted: Copy {
     // The text of a value.
     ghost text: { Self → List ℕ };
 
@@ -35,7 +59,23 @@ pub trait ToText: Copy {
     }
 }
 
-impl ToText for u8 {
+// A number is printed by its digits: they are copied once, to the bytes that wait.
+impl<T: Formatted> ToText for T {
+    ghost text = { T.text };
+
+    fn put(self, out: &mut [u8]) -> usize {
+        Formatted::put(self, out)
+    }
+
+    #[inline(always)]
+    fn append(self, waiting: &mut ArrayVec<u8, BUFFER_BYTES>) {
+        let mut digits = Buffer::new();
+        let text = self.format(&mut digits).as_bytes();
+        waiting.try_extend_from_slice(text).unwrap();
+    }
+}
+
+impl Formatted for u8 {
     ghost text = { decimal_of };
 
     #[inline(always)]
@@ -44,7 +84,7 @@ impl ToText for u8 {
     }
 }
 
-impl ToText for u32 {
+impl Formatted for u32 {
     ghost text = { decimal_of };
 
     #[inline(always)]
@@ -53,7 +93,7 @@ impl ToText for u32 {
     }
 }
 
-impl ToText for u64 {
+impl Formatted for u64 {
     ghost text = { decimal_of };
 
     #[inline(always)]
@@ -62,7 +102,7 @@ impl ToText for u64 {
     }
 }
 
-impl ToText for usize {
+impl Formatted for usize {
     ghost text = { decimal_of };
 
     #[inline(always)]
@@ -71,7 +111,7 @@ impl ToText for usize {
     }
 }
 
-impl ToText for i32 {
+impl Formatted for i32 {
     ghost text = { signed_of };
 
     #[inline(always)]
@@ -80,7 +120,7 @@ impl ToText for i32 {
     }
 }
 
-impl ToText for i64 {
+impl Formatted for i64 {
     ghost text = { signed_of };
 
     #[inline(always)]
@@ -90,7 +130,7 @@ impl ToText for i64 {
 }
 
 // Its pattern.
-impl ToText for f64 {
+impl Formatted for f64 {
     ghost text = { λ x. decimal_of (to_bits binary64 x) };
 
     #[inline(always)]
