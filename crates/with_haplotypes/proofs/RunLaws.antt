@@ -59,8 +59,8 @@ module _ {w : List ℤ} {b : List ℕ} {rates : Rates} {s : Sizes} {plan : Plan}
   reads_given = record { given = G.given; good_orders = G.good_orders; counts = G.counts; ph_long = G.ph_long }
 
   -- and starts from them
-  pub phased_given : {state : SweepState} → StateGiven (sweep_case (run_input w b rates phased state.hap orders plan.limit)) s state → PhasedGiven w b rates s plan ph orders state phased
-  phased_given S = record { ph_are = G.ph_are; state_given = S }
+  pub phased_of : {state : SweepState} → StateGiven (sweep_case (run_input w b rates phased state.hap orders plan.limit)) s state → PhasedGiven w b rates s plan ph orders state phased
+  phased_of S = record { ph_are = G.ph_are; state_given = S }
 
 -- ---- a run with scratch of its own, of whatever size
 module _ {w : List ℤ} {b : List ℕ} {rates : Rates} {s : Sizes} {plan : Plan} {ks ph orders : List ℕ} {state : SweepState} {x : Scratch}
