@@ -7,7 +7,7 @@ ghost use Rattle.with_haplotypes.specs.Inner.Reads.{input_of};
 use crate::RoundAnswer;
 use crate::finals::write_finals;
 use crate::normalized::normalize_all;
-use crate::reads::{AcceptedRound, RunReads};
+use crate::reads::{AcceptedRound, FlaggedReads, RunReads};
 use haplotype_assembly::phase::write_phase;
 use likelihoods::sweep_case::write_allele_counts;
 use variants_and_fragments::layout::MAX_VARIANTS;
@@ -33,12 +33,19 @@ impl AcceptedRound<'_> {
         write_allele_counts(&self.case.with_variants(), ks);
         let mut ph = [0u8; MAX_VARIANTS];
         write_phase(&self.case.accepted_words(), self.phase, haplotypes, &mut ph);
-        let reads = RunReads {
-            round: *self,
+        let flagged = FlaggedReads {
+            case: self.case,
+            rates: self.rates,
+            orders: self.orders,
+            limit: self.limit,
             ks,
             ph: &ph,
         };
-        let answer = reads.run(
+        let reads = RunReads {
+            flagged: &flagged,
+            phase: self.phase,
+        };
+        let answer = reads.flagged.run(
             &mut haplotypes[..2 * n],
             &mut likelihoods[..2 * f],
             posteriors,

@@ -21,15 +21,6 @@ pub struct AcceptedRound<'a> {
     pub ghost admitted: { Admitted (round_input case.laid.words.now case.bases.now rates.rates phase.now orders.entries.now limit) case.laid.sizes (plan_of orders limit) },
 }
 
-// What a run reads: a round's input, each variant's number of alleles, and its flag, 1 where it is phased.
-#[derive(Clone, Copy)]
-pub struct RunReads<'a> {
-    pub round: AcceptedRound<'a>,
-    pub ks: &'a [u8],
-    pub ph: &'a [u8],
-    pub ghost given: { RunGiven round.case.laid.words.now round.case.bases.now round.rates.rates round.case.laid.sizes (plan_of round.orders round.limit) ks.now ph.now round.orders.entries.now (phased_flags (decode round.case.laid.words.now round.case.bases.now) round.phase.now) },
-}
-
 // What a run of any flags reads: a case, rates, orders, the most sweeps, each variant's number of alleles, and its flag, 1 where it is phased. Which
 // variants the flags say is asked where a run starts.
 #[derive(Clone, Copy)]
@@ -41,6 +32,15 @@ pub struct FlaggedReads<'a> {
     pub ks: &'a [u8],
     pub ph: &'a [u8],
     pub ghost given: { ReadsGiven case.laid.words.now case.bases.now rates.rates case.laid.sizes (plan_of orders limit) ks.now ph.now orders.entries.now },
+}
+
+// What a round's run reads: these, whose flags say the variants that the round's phase says. They are borrowed, so that the compiled round has no copy.
+#[derive(Clone, Copy)]
+pub struct RunReads<'a> {
+    pub flagged: &'a FlaggedReads<'a>,
+    pub phase: &'a [u8],
+    pub ghost admitted: { Admitted (round_input flagged.now.case.laid.words.now flagged.now.case.bases.now flagged.now.rates.rates phase.now flagged.now.orders.entries.now flagged.now.limit) flagged.now.case.laid.sizes (plan_of flagged.now.orders flagged.now.limit) },
+    pub ghost given: { RunGiven flagged.now.case.laid.words.now flagged.now.case.bases.now flagged.now.rates.rates flagged.now.case.laid.sizes (plan_of flagged.now.orders flagged.now.limit) flagged.now.ks.now flagged.now.ph.now flagged.now.orders.entries.now (phased_flags (decode flagged.now.case.laid.words.now flagged.now.case.bases.now) phase.now) },
 }
 
 // A run with its usable calls by fragment and by variant, and the priors, in place of its case and rates. That there is a case that they are of

@@ -1,12 +1,11 @@
 // A run with scratch of its own.
 ghost use Rattle.std.specs.Prelude.{◌*◌, ◌≤◌};
 ghost use Rattle.call_genotypes.specs.Inner.Scores.{sweep_state};
-ghost use Rattle.with_haplotypes.specs.Round.{sweep_case};
-ghost use Rattle.with_haplotypes.specs.Inner.Steps.{StateGiven, SomePhased, RunMade};
-ghost use Rattle.with_haplotypes.specs.Inner.Reads.{run_from, phased_given, run_promise};
+ghost use Rattle.with_haplotypes.specs.Inner.Steps.{SomePhased};
+ghost use Rattle.with_haplotypes.specs.Inner.Reads.{phased_given, run_promise};
 
 use crate::RoundAnswer;
-use crate::reads::{FlaggedReads, PreparedRun, RunReads};
+use crate::reads::{FlaggedReads, PreparedRun};
 use genotype_probs::case_priors::make_priors;
 use pileup::grouped::Groups;
 use pileup::piles::pile_calls;
@@ -84,23 +83,5 @@ impl FlaggedReads<'_> {
             );
         }
         self.run_in::<MAX_CALLS, MAX_FRAGMENTS, MAX_VARIANTS, PRIORS>(hap, lik, post)
-    }
-}
-
-impl RunReads<'_> {
-    // The run of a round's phased variants.
-    pub fn run(&self, hap: &mut [u8], lik: &mut [i64], post: &mut [i64]) -> RoundAnswer
-        requires { StateGiven (sweep_case (run_from self.now hap.old)) self.now.round.case.laid.sizes (sweep_state hap.old lik.old post.old) }
-        ensures { RunMade (run_from self.now hap.old) (sweep_state hap.old lik.old post.old) (sweep_state hap.new lik.new post.new) result }
-    {
-        let reads = FlaggedReads {
-            case: self.round.case,
-            rates: self.round.rates,
-            orders: self.round.orders,
-            limit: self.round.limit,
-            ks: self.ks,
-            ph: self.ph,
-        };
-        reads.run(hap, lik, post)
     }
 }

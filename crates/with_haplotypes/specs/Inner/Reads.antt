@@ -1,26 +1,16 @@
 -- What a round and its run read, from the code's structs. Assumes nothing.
-use Rattle.std.specs.Prelude.{List, Bool, ℕ}
-use Rattle.variants_and_fragments.specs.Decode.{decode}
-use Rattle.haplotype_assembly.specs.Phase.{phased_flags}
+use Rattle.std.specs.Prelude.{Bool, ℕ}
 use Rattle.call_genotypes.specs.Inner.Scores.{SweepState}
 use Rattle.call_genotypes.specs.Inner.Runs.{plan_of}
 use Rattle.with_haplotypes.specs.declared.RoundAnswer.{RoundAnswer}
 use Rattle.with_haplotypes.specs.declared.reads.AcceptedRound.{AcceptedRound}
-use Rattle.with_haplotypes.specs.declared.reads.RunReads.{RunReads}
 use Rattle.with_haplotypes.specs.declared.reads.FlaggedReads.{FlaggedReads}
 use Rattle.with_haplotypes.specs.declared.reads.PreparedRun.{PreparedRun}
-use Rattle.with_haplotypes.specs.Round.{RunInput, run_input, RoundInput, round_input}
+use Rattle.with_haplotypes.specs.Round.{RoundInput, round_input}
 use Rattle.with_haplotypes.specs.Inner.Steps.{Scratch, scratch, PhasedGiven, RunPromise, PreparedGiven, PreparedPromise}
 
 abbrev pub input_of : AcceptedRound → RoundInput
 input_of r = round_input r.case.laid.words.now r.case.bases.now r.rates.rates r.phase.now r.orders.entries.now r.limit
-
--- a run's input, from these haplotypes on
-abbrev pub run_from : RunReads → List ℕ → RunInput
-run_from r start =
-    let words = r.round.case.laid.words.now in
-    let bases = r.round.case.bases.now in
-    run_input words bases r.round.rates.rates (phased_flags (decode words bases) r.round.phase.now) start r.round.orders.entries.now r.round.limit
 
 -- a run of any flags: of these phased variants it starts from this state
 abbrev pub phased_given : FlaggedReads → SweepState → (ℕ → Bool) → Type 0

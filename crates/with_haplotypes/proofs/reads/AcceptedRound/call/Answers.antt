@@ -3,10 +3,10 @@ use Rattle.std.proofs.Common.{ℕ, ◌*◌, ◌≤◌, length, take, refl, ◌�
 use Rattle.call_genotypes.specs.Inner.Scores.{sweep_state}
 use Rattle.call_genotypes.specs.Inner.Runs.{plan_of}
 use Rattle.with_haplotypes.specs.Round.{run_of}
-use Rattle.with_haplotypes.specs.Inner.Steps.{AlleleCounts, RunMade}
+use Rattle.with_haplotypes.specs.Inner.Steps.{AlleleCounts, RunGiven, RunMade}
 use Rattle.with_haplotypes.specs.Inner.Reads.{input_of}
-use Rattle.with_haplotypes.proofs.RunLaws.{known}
-use Rattle.with_haplotypes.proofs.StartLaws.{still_long, over, stands, start_here, flags_here, state_here, run_here}
+use Rattle.with_haplotypes.proofs.RunLaws.{known, phased_of}
+use Rattle.with_haplotypes.proofs.StartLaws.{still_long, over, stands, start_here, flags_here, state_here, phased_here, run_here}
 use Rattle.with_haplotypes.proofs.FinishLaws as finish
 use Rattle.with_haplotypes.proofs.reads.AcceptedRound.call.Goals as goal
 use Rattle.with_haplotypes.proofs.reads.AcceptedRound.call.Goals.{After-write_phase, After-run-answer}
@@ -19,30 +19,49 @@ counts c =
     let room : c.args.self.now.case.laid.sizes.n ≤ length c.write_allele_counts.new.ks = omega (arith, n_top, c.write_allele_counts.auto.ks, length-take {A = ℕ}) in
     record { long = omega (arith, n_top, c.write_allele_counts.auto.ks, length-take {A = ℕ}); are = stands _ _ _ _ 0 e (omega (arith, room, c.write_allele_counts.auto.ks)) }
 
-pub invariant_of-reads : goal.invariant_of-reads
-invariant_of-reads c =
+pub invariant_of-flagged : goal.invariant_of-flagged
+invariant_of-flagged c =
     let A = c.args.self.now.admitted in
     let n_top = (known A.given).sized.n_top in
     record {
       given = record {
         given = A.given;
         good_orders = A.good_orders;
-        counts = counts (goal.at.invariant_of-reads c).After-write_phase;
+        counts = counts (goal.at.invariant_of-flagged c).After-write_phase;
         ph_long = omega (arith, n_top, c.write_phase.auto.phased);
-        ph_are = flags_here A _ _ (omega (arith, n_top)) (rw c.accepted_words.ensures at c.write_phase.ensures.phased_after);
       };
     }
+
+-- what the run reads: the flags say section 5's phased variants
+run_given : (c : After-write_phase) → let r = c.args.self.now in
+    RunGiven r.case.laid.words.now r.case.bases.now r.rates.rates r.case.laid.sizes (plan_of r.orders r.limit) c.write_allele_counts.new.ks c.write_phase.new.phased r.orders.entries.now (run_of (input_of r)).phased
+run_given c =
+    let A = c.args.self.now.admitted in
+    let n_top = (known A.given).sized.n_top in
+    record {
+      given = A.given;
+      good_orders = A.good_orders;
+      counts = counts c;
+      ph_long = omega (arith, n_top, c.write_phase.auto.phased);
+      ph_are = flags_here A _ _ (omega (arith, n_top)) (rw c.accepted_words.ensures at c.write_phase.ensures.phased_after);
+    }
+
+pub invariant_of-reads : goal.invariant_of-reads
+invariant_of-reads c = record { admitted = c.args.self.now.admitted; given = run_given (goal.at.invariant_of-reads c).After-write_phase }
 
 pub run-answer-requires : goal.run-answer-requires
 run-answer-requires c =
     let A = c.args.self.now.admitted in
-    state_here A (start_here A _ _ _ refl c.requires.haplotypes_long (rw c.accepted_words.ensures at c.write_phase.ensures.haplotypes_after)) (finish.part_long _ _ _ refl c.requires.likelihoods_long) c.requires.posteriors_long
+    let start = start_here A _ _ _ refl c.requires.haplotypes_long (rw c.accepted_words.ensures at c.write_phase.ensures.haplotypes_after) in
+    record { phased = _; holds = phased_of (run_given (goal.at.run-answer-requires c).After-write_phase) (state_here A start (finish.part_long _ _ _ refl c.requires.likelihoods_long) c.requires.posteriors_long) }
 
 -- the run from the start's haplotypes
 made : (c : After-run-answer) → RunMade (run_of (input_of c.args.self.now)) (sweep_state (take (2 * c.args.self.now.case.laid.sizes.n) c.write_phase.new.haplotypes) (take (2 * c.args.self.now.case.laid.sizes.f) c.args.likelihoods.now) c.args.posteriors.now) (sweep_state c.run-answer.new.hap c.run-answer.new.lik c.run-answer.new.post) c.run-answer.result
 made c =
     let A = c.args.self.now.admitted in
-    run_here A (start_here A _ _ _ refl c.requires.haplotypes_long (rw c.accepted_words.ensures at c.write_phase.ensures.haplotypes_after)) c.run-answer.ensures
+    let start = start_here A _ _ _ refl c.requires.haplotypes_long (rw c.accepted_words.ensures at c.write_phase.ensures.haplotypes_after) in
+    let flags = flags_here A _ _ (omega (arith, (known A.given).sized.n_top)) (rw c.accepted_words.ensures at c.write_phase.ensures.phased_after) in
+    run_here A start (c.run-answer.ensures _ (phased_here A flags start (finish.part_long _ _ _ refl c.requires.likelihoods_long) c.requires.posteriors_long))
 
 pub normalize_all-requires : goal.normalize_all-requires
 normalize_all-requires c =
