@@ -75,8 +75,8 @@ impl Writer {
         }
     }
 
-    // A number, or another value that is printed. It, `append` and `format` are to be inlined: called, they make a line of short numbers take a seventh
-    // more instructions.
+    // A number, or another value that is printed. It and `format`, with `append` between them, are to be inlined: called, they make a line of short
+    // numbers take a seventh more instructions.
     #[inline(always)]
     pub fn number<T: ToText>(&mut self, x: T)
         ensures { EndsIn self.new.waiting.items (T.text x) }

@@ -15,7 +15,7 @@ use itoa::Buffer;
 // The room that any number's text needs at most: twenty digits, or a sign and nineteen.
 pub const TEXT_BYTES: usize = 20;
 
-// A type whose values are printed. One that is no number needs `put` alone.
+// A type whose values are printed. An impl needs `put` alone; numbers have theirs by `Formatted`.
 pub trait ToText: Copy {
     // The text of a value.
     ghost text: { Self → List ℕ };
@@ -48,7 +48,7 @@ pub trait Formatted: Copy {
         ensures fits { length result.now ≤ TEXT_BYTES };
 
     // Puts the text into the front of out, and answers where it ends.
-    fn put(self, out: &mut [u8]) -> usize
+    fn put_digits(self, out: &mut [u8]) -> usize
         requires { TEXT_BYTES ≤ length out.old }
         ensures { Put out.old 0 (text self) out.new result }
     {
@@ -64,7 +64,7 @@ impl<T: Formatted> ToText for T {
     ghost text = { T.text };
 
     fn put(self, out: &mut [u8]) -> usize {
-        Formatted::put(self, out)
+        self.put_digits(out)
     }
 
     #[inline(always)]
