@@ -15,7 +15,7 @@ use itoa::Buffer;
 // The room that any number's text needs at most: twenty digits, or a sign and nineteen.
 pub const TEXT_BYTES: usize = 20;
 
-// A type whose values are printed. An impl needs `put` alone; numbers have theirs by `Formatted`.
+// A type whose values are printed. An impl writes `text` and `put` alone; numbers have theirs by `Formatted`.
 pub trait ToText: Copy {
     // The text of a value.
     ghost text: { Self → List ℕ };

@@ -34,7 +34,8 @@ pub struct FlaggedReads<'a> {
     pub ghost given: { ReadsGiven case.laid.words.now case.bases.now rates.rates case.laid.sizes (plan_of orders limit) ks.now ph.now orders.entries.now },
 }
 
-// What a round's run reads: these, whose flags say the variants that the round's phase says. They are borrowed, so that the compiled round has no copy.
+// What an accepted round's run reads: these, whose flags say the variants that the round's phase says. They are borrowed, so that the compiled round
+// has no copy.
 #[derive(Clone, Copy)]
 pub struct RunReads<'a> {
     pub flagged: &'a FlaggedReads<'a>,

@@ -12,7 +12,7 @@ use Rattle.with_haplotypes.specs.Inner.Steps.{Scratch, scratch, PhasedGiven, Run
 abbrev pub input_of : AcceptedRound → RoundInput
 input_of r = round_input r.case.laid.words.now r.case.bases.now r.rates.rates r.phase.now r.orders.entries.now r.limit
 
--- a run of any flags: of these phased variants it starts from this state
+-- a run whose flags say these phased variants starts from this state
 abbrev pub phased_given : FlaggedReads → SweepState → (ℕ → Bool) → Type 0
 phased_given r = PhasedGiven r.case.laid.words.now r.case.bases.now r.rates.rates r.case.laid.sizes (plan_of r.orders r.limit) r.ph.now r.orders.entries.now
 
