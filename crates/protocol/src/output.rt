@@ -102,28 +102,7 @@ impl Writer {
 #[cfg(test)]
 mod tests {
     use super::*;
-
-    // A type that writes `put` alone. Its text is no number's.
-    #[derive(Clone, Copy)]
-    struct Ellipsis;
-
-    impl ToText for Ellipsis {
-        ghost text = { λ _. 46 ∷ 46 ∷ 46 ∷ [] };
-
-        fn put(self, out: &mut [u8]) -> usize {
-            out[..3].copy_from_slice(b"...");
-            3
-        }
-    }
-
-    #[test]
-    fn puts_texts_into_the_front(rt: HostRuntime) {
-        let mut out = [b'x'; TEXT_BYTES];
-        assert_eq!(rt; Ellipsis.put(&mut out), 3);
-        assert_eq!(rt; out[..4], b"...x"[..]);
-        assert_eq!(rt; (-12i32).put(&mut out), 3);
-        assert_eq!(rt; out[..4], b"-12x"[..]);
-    }
+    use crate::print::tests::Ellipsis;
 
     #[test]
     fn writes_texts_that_are_put(rt: HostRuntime) {

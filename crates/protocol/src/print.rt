@@ -1,7 +1,7 @@
 // The text of a value: put into a lent buffer, or added to bytes that wait. That of a number is decimal.
 #![tactic(auto, using(crate::proofs::Decimal::std_decimal, crate::proofs::Decimal::std_signed))]
 
-ghost use Rattle.std.specs.Prelude.{◌≡◌, ℕ, ◌+◌, ◌≤◌, List, ◌++◌, length, to_bits};
+ghost use Rattle.std.specs.Prelude.{◌≡◌, ℕ, ◌+◌, ◌≤◌, List, [], ◌∷◌, ◌++◌, length, to_bits};
 ghost use Rattle.std.specs.Float.{binary64};
 ghost use Rattle.protocol.specs.declared.print.TheConstants.{TEXT_BYTES};
 ghost use Rattle.arrayvec.specs.ArrayVec.{array_vec_len};
@@ -136,5 +136,32 @@ impl Formatted for f64 {
     #[inline(always)]
     fn format(self, digits: &mut Buffer) -> &str {
         digits.format(float::pattern(self))
+    }
+}
+
+#[cfg(test)]
+pub(crate) mod tests {
+    use super::*;
+
+    // A type that writes `put` alone. Its text is no number's.
+    #[derive(Clone, Copy)]
+    pub(crate) struct Ellipsis;
+
+    impl ToText for Ellipsis {
+        ghost text = { λ _. 46 ∷ 46 ∷ 46 ∷ [] };
+
+        fn put(self, out: &mut [u8]) -> usize {
+            out[..3].copy_from_slice(b"...");
+            3
+        }
+    }
+
+    #[test]
+    fn puts_texts_into_the_front(rt: HostRuntime) {
+        let mut out = [b'x'; TEXT_BYTES];
+        assert_eq!(rt; Ellipsis.put(&mut out), 3);
+        assert_eq!(rt; out[..4], b"...x"[..]);
+        assert_eq!(rt; (-12i32).put(&mut out), 3);
+        assert_eq!(rt; out[..4], b"-12x"[..]);
     }
 }
